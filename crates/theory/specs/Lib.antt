@@ -1,0 +1,9 @@
+pub mod Path
+pub mod Expression
+pub mod Standing
+pub mod Positions
+pub mod Places
+pub mod Automaton
+pub mod Exploration
+pub mod Explored
+pub mod Closure
