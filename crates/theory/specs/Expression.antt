@@ -4,19 +4,24 @@ use mathlib.Core.Logic.{_⊎_}
 use mathlib.Core.Path.{_≡_}
 use Rattle.theory.specs.Path.{Label, Path, Language}
 
-pub data Expression : Type 0 where
+-- Regular expressions over any kind of leaf: label numbers here, names as they are written where a job is read.
+pub data Regular (A : Type 0) : Type 0 where
   -- `()`, the empty path
-  empty : Expression
+  empty : Regular A
   -- one label occurrence
-  label : Label → Expression
+  label : A → Regular A
   -- `l | r`
-  alternative : Expression → Expression → Expression
+  alternative : Regular A → Regular A → Regular A
   -- `l . r`
-  sequence : Expression → Expression → Expression
+  sequence : Regular A → Regular A → Regular A
   -- `e *`, zero or more
-  star : Expression → Expression
+  star : Regular A → Regular A
   -- `e ?`, zero or one
-  optional : Expression → Expression
+  optional : Regular A → Regular A
+
+-- An expression of document 01: its occurrences are label numbers.
+abbrev pub Expression : Type 0
+Expression = Regular Label
 
 -- A path made by joining, in order, any number of paths of L.
 pub data Star (L : Language) : Path → Type 0 where

@@ -1,6 +1,13 @@
 pub mod Path
 pub mod Expression
 pub mod Standing
+pub mod Word
+pub mod Job
+pub mod Rewriting
+pub mod Graph
+pub mod Images
+pub mod GreatestRewriting
+pub mod Answers
 pub mod Positions
 pub mod Places
 pub mod Automaton
