@@ -71,7 +71,7 @@ glushkov e =
     record {
       follow = first 1 e ∷ follows 1 e;
       enter = labelled 1 e;
-      accepting = union (when (nullable e) (one 0)) (last 1 e)
+      accepting = union (when (nullable e) (one 0)) (last 1 e);
     }
 
 -- The union of the table's entries at the places of s.

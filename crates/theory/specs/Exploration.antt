@@ -38,16 +38,16 @@ known S v (e ∷ l) = S .same v (e .value) || known S v l
 unfoldable pub grow : {A : Type 0} → System A → ℕ → Entry A → List (Entry A) → Exploration A
 grow S limit e found =
     elim (known S (e .value) found) [
-      true ↦ all found |
-      false ↦ elim (ltb (length found) limit) [ true ↦ all (found ++ (e ∷ [])) | false ↦ over ]
+      | true ↦ all found
+      | false ↦ elim (ltb (length found) limit) [ true ↦ all (found ++ (e ∷ [])) | false ↦ over ]
     ]
 
 -- The same for a step from the entry e over the symbol a, where it is defined.
 unfoldable pub extend : {A : Type 0} → System A → ℕ → Entry A → ℕ → List (Entry A) → Exploration A
 extend S limit e a found =
     elim (S .step (e .value) a) [
-      none ↦ all found |
-      some v ↦ grow S limit (record { value = v; trail = a ∷ e .trail }) found
+      | none ↦ all found
+      | some v ↦ grow S limit (record { value = v; trail = a ∷ e .trail }) found
     ]
 
 -- The same for the n symbols from a on.
@@ -60,11 +60,11 @@ unfoldable pub sweep : {A : Type 0} → System A → ℕ → ℕ → ℕ → Lis
 sweep S limit zero i found = all found
 sweep S limit (suc n) i found =
     elim (ltb i (length found)) [
-      true ↦ elim (row S limit (getD found i (record { value = S .start; trail = [] })) (S .symbols) 0 found) [
-        all more ↦ sweep S limit n (suc i) more |
-        over ↦ over
-      ] |
-      false ↦ all found
+      | true ↦ elim (row S limit (getD found i (record { value = S .start; trail = [] })) (S .symbols) 0 found) [
+        | all more ↦ sweep S limit n (suc i) more
+        | over ↦ over
+      ]
+      | false ↦ all found
     ]
 
 -- The exploration from the start.

@@ -43,7 +43,7 @@ module _ {S : Type 0} (step : S → Label → S) (lists : ℕ → Language) wher
   images-from [] X t s p x nothing e = subst X e x
   images-from (v ∷ w) X t s p x (name u r q l k) e =
       images-from w (Image step (lists v) X) t (after step s u) r (s, u, x, l, refl) k
-        (sym (after-append step s u r) ∙ ap (after step s) (sym q) ∙ e)
+      (sym (after-append step s u r) ∙ ap (after step s) (sym q) ∙ e)
 
   pub images-exactly : (w : Word) (X : S → Type 0) (t : S) → Images step lists w X t ↔ States step lists w X t
   images-exactly w X t = (images-to w X t, λ (s, p, x, k, e). images-from w X t s p x k e)
@@ -59,5 +59,6 @@ module _ {S : Type 0} (step : S → Label → S) (lists : ℕ → Language) wher
           where
             reach : States step lists w (λ s. start ≡ s) t → F t
             reach (s, p, b, k, e) = subst F (ap (λ z. after step z p) b ∙ e) (recognizes p .0 (sound p k))
+
         from : ((t : S) → Images step lists w (λ s. start ≡ s) t → F t) → (p : Path) → Spells lists w p → Q p
         from all p k = recognizes p .1 (all (after step start p) (images-from w (λ s. start ≡ s) _ start p refl k refl))

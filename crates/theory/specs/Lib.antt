@@ -1,3 +1,4 @@
+-- Meaning: what a reader must believe.
 pub mod Path
 pub mod Expression
 pub mod Standing
@@ -5,12 +6,28 @@ pub mod Word
 pub mod Job
 pub mod Rewriting
 pub mod Graph
-pub mod Images
-pub mod GreatestRewriting
-pub mod Answers
-pub mod Positions
+pub mod Explored
+-- Mechanism: what computes.
 pub mod Places
 pub mod Automaton
 pub mod Exploration
-pub mod Explored
 pub mod Closure
+-- Glushkov's theorem.
+pub mod Positions
+pub mod Occurrences
+pub mod Marking
+pub mod Runs
+pub mod MarkedRuns
+pub mod Chain
+pub mod Chains
+pub mod Prefixes
+pub mod StandsAt
+pub mod GlushkovRelations
+pub mod AutomatonLaws
+pub mod Glushkov
+-- Laws and theorems.
+pub mod PlacesLaws
+pub mod ClosureLaws
+pub mod Images
+pub mod GreatestRewriting
+pub mod Answers
