@@ -25,6 +25,14 @@ pub mod StandsAt
 pub mod GlushkovRelations
 pub mod AutomatonLaws
 pub mod Glushkov
+-- Exploration.
+pub mod PathOrder
+pub mod Counting
+pub mod Trails
+pub mod ExploredLaws
+pub mod Progress
+pub mod Outcome
+pub mod ExplorationLaws
 -- Laws and theorems.
 pub mod PlacesLaws
 pub mod ClosureLaws
