@@ -101,6 +101,14 @@ member-below w s i h m = go (decLt i w)
         let e : s / 2 ^ i ≡ 0 = div-eq-of-lt (le-trans h (pow-mono (omega arith))) in
         absurd (omega arith)
 
+-- No place from w on is in a set of places below w.
+pub member-beyond : (w s i : ℕ) → s < 2 ^ w → w ≤ i → member i s ≡ false
+member-beyond w s i h l = not-member (member i s) refl
+  where
+    not-member : (b : Bool) → member i s ≡ b → member i s ≡ false
+    not-member true e = let k = member-below w s i h (member-test i s .0 e) in absurd (omega arith)
+    not-member false e = e
+
 pub none-below : (w : ℕ) → none < 2 ^ w
 none-below w = pow-pos w
 

@@ -1,0 +1,9 @@
+pub mod Byte
+pub mod Name
+pub mod Grammar
+pub mod Parser
+pub mod Limits
+pub mod Resolve
+pub mod Number
+pub mod Check
+pub mod Place
