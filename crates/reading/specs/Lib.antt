@@ -1,0 +1,4 @@
+pub mod Text
+pub mod JobText
+pub mod Refusing
+pub mod Read
