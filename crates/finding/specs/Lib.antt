@@ -1,0 +1,5 @@
+pub mod Standings
+pub mod ListImage
+pub mod States
+pub mod Find
+pub mod Finds
