@@ -7,3 +7,10 @@ pub mod Resolve
 pub mod Number
 pub mod Check
 pub mod Place
+pub mod NameLaws
+pub mod ParserShapes
+pub mod ParserSound
+pub mod ParserComplete
+pub mod ParserLaws
+pub mod LimitsLaws
+pub mod CheckLaws

@@ -1,0 +1,4 @@
+pub mod Cover
+pub mod Pairs
+pub mod Verdict
+pub mod Verdicts
