@@ -2,3 +2,9 @@ pub mod Text
 pub mod JobText
 pub mod Refusing
 pub mod Read
+pub mod WithoutLaws
+pub mod CutLaws
+pub mod DistinctLaws
+pub mod LineLaws
+pub mod JobLines
+pub mod ReadLaws
