@@ -3,3 +3,4 @@ pub mod ListImage
 pub mod States
 pub mod Find
 pub mod Finds
+pub mod Plain

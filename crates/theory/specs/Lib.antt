@@ -32,6 +32,7 @@ pub mod Trails
 pub mod ExploredLaws
 pub mod Progress
 pub mod Outcome
+pub mod ExplorationSteps
 pub mod ExplorationLaws
 -- Laws and theorems.
 pub mod PlacesLaws
