@@ -7,6 +7,8 @@ pub mod Resolve
 pub mod Number
 pub mod Check
 pub mod Place
+pub mod Unread
+pub mod Some
 pub mod NameLaws
 pub mod ParserShapes
 pub mod ParserSound
@@ -14,3 +16,6 @@ pub mod ParserComplete
 pub mod ParserLaws
 pub mod LimitsLaws
 pub mod CheckLaws
+pub mod TableLaws
+pub mod Verdict
+pub mod VerdictLaws

@@ -1,7 +1,24 @@
 // Expressions as text: names, the grammar, its limits, and Glushkov's automaton of an expression.
+mod check;
 mod cursor;
+mod grammar;
+pub mod kind;
+mod labels;
+mod limits;
+mod name;
 mod refusal;
+mod table;
 
+pub use check::Check;
+pub use check::check_expression;
 pub use cursor::Cursor;
 pub use cursor::Moved;
+pub use grammar::in_grammar;
+pub use labels::all_known;
+pub use labels::occurrences;
+pub use limits::nesting;
+pub use name::is_name;
+pub use name::same_name;
 pub use refusal::Refusal;
+pub use table::find;
+pub use table::part;

@@ -1,0 +1,82 @@
+-- The verdict on a text by what its bytes show: each check in its order, the labels' names read off as the longest runs of name bytes.
+use Prim.Native.Nat.{_≤_, _<_}
+use mathlib.Core.Bool.{true, false, true≢false, false≢true}
+use mathlib.Core.List.{List}
+use mathlib.Core.Option.{Option, some, none}
+use mathlib.Core.Path.{_≡_, refl, sym, ap, _∙_}
+use native.Mathlib.Omega.{arith}
+use lib.ListN.{length}
+use borrow.Author.Tests.{le-leb}
+use Rattle.syntax.specs.declared.check.Check.the-variants.{Fine, Faulty}
+use Rattle.syntax.specs.declared.refusal.Refusal.the-variants.{NotInGrammar, UnknownLabel, ExpressionTooLong, TooDeep, TooManyOccurrences}
+use Rattle.theory.specs.Expression.{Expression}
+use Rattle.theory.specs.Standing.{size}
+use Rattle.syntax.specs.Some.{isSome}
+use Rattle.syntax.specs.Byte.{Bytes}
+use Rattle.syntax.specs.Grammar.{Tree, alternatives, Derives}
+use Rattle.syntax.specs.Parser.{parse}
+use Rattle.syntax.specs.ParserLaws.{parse-sound, parse-none}
+use Rattle.syntax.specs.Limits.{mostBytes, mostNesting, mostOccurrences, nesting, leaves, runs}
+use Rattle.syntax.specs.LimitsLaws.{runs-leaves, leaves-size, known-resolves, resolves-known}
+use Rattle.syntax.specs.Resolve.{Resolves, known, numbered}
+use Rattle.syntax.specs.Check.{long, ungrammatical, deep, unknown, many, check, checkTree}
+use Rattle.syntax.specs.CheckLaws.{check-faulty}
+use Rattle.syntax.specs.Verdict.{verdict}
+
+no-tree : (o : Option Tree) → isSome o ≡ false → o ≡ none
+no-tree none g = refl
+no-tree (some t) g = absurd (true≢false g)
+
+some-tree : (o : Option Tree) → isSome o ≡ true → (t : Tree) × (o ≡ some t)
+some-tree none g = absurd (false≢true g)
+some-tree (some t) g = (t, refl)
+
+module _ (labels : List Bytes) (s : Bytes) where
+  pub too-long : mostBytes < length s → Faulty ExpressionTooLong ≡ verdict (check labels s)
+  too-long h = sym (ap verdict (check-faulty labels s ExpressionTooLong .1 (long h)))
+
+  pub not-in-grammar : length s ≤ mostBytes → isSome (parse s) ≡ false → Faulty NotInGrammar ≡ verdict (check labels s)
+  not-in-grammar h g =
+      sym (ap verdict (check-faulty labels s NotInGrammar .1 (ungrammatical h (parse-none s .0 (no-tree (parse s) g)))))
+
+-- The checks that follow, of a text in the grammar.
+module _ (labels : List Bytes) (s : Bytes) (h : length s ≤ mostBytes) (g : isSome (parse s) ≡ true) where
+  tree : Tree
+  tree = some-tree (parse s) g .0
+
+  parses : parse s ≡ some tree
+  unfolding tree
+  parses = some-tree (parse s) g .1
+
+  derives : Derives alternatives s tree
+  derives = parse-sound s tree parses
+
+  names : runs false s ≡ leaves tree
+  names = runs-leaves s tree derives
+
+  pub too-deep : mostNesting < nesting 0 s → Faulty TooDeep ≡ verdict (check labels s)
+  too-deep n = sym (ap verdict (check-faulty labels s TooDeep .1 (deep h derives n)))
+
+  module _ (n : nesting 0 s ≤ mostNesting) where
+    none-resolves : known labels (runs false s) ≡ false → (e : Expression) → ¬ Resolves labels tree e
+    none-resolves k e r = true≢false (sym (resolves-known r) ∙ ap (known labels) (sym names) ∙ k)
+
+    pub unknown-label : known labels (runs false s) ≡ false → Faulty UnknownLabel ≡ verdict (check labels s)
+    unknown-label k = sym (ap verdict (check-faulty labels s UnknownLabel .1 (unknown h derives n (none-resolves k))))
+
+    module _ (k : known labels (runs false s) ≡ true) where
+      resolves : Resolves labels tree (numbered labels tree)
+      resolves = known-resolves labels tree (rw names at k)
+
+      pub too-many-occurrences : mostOccurrences < length (runs false s) → Faulty TooManyOccurrences ≡ verdict (check labels s)
+      too-many-occurrences m =
+          let over : mostOccurrences < size (numbered labels tree) = omega (arith, ap length names, leaves-size labels tree) in
+          sym (ap verdict (check-faulty labels s TooManyOccurrences .1 (many h derives n resolves over)))
+
+      pub all-fine : length (runs false s) ≤ mostOccurrences → Fine ≡ verdict (check labels s)
+      unfolding check checkTree
+      all-fine m =
+          let l : known labels (leaves tree) ≡ true = rw names at k in
+          let few : length (leaves tree) ≤ mostOccurrences = omega (arith, ap length names) in
+          rw (le-leb (length s) mostBytes h, check, parses, le-leb (nesting 0 s) mostNesting n, checkTree, l)
+          (rw (le-leb (length (leaves tree)) mostOccurrences few))

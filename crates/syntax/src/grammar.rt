@@ -1,0 +1,62 @@
+// The grammar of expressions (document 01): an alternative holds sequences, a sequence holds factors, a factor may hold an alternative.
+// Three reading functions that call each other; the number of unread bytes falls through the cycle.
+use super::cursor::Cursor;
+use super::cursor::Moved;
+ghost use mathlib.Core.Path.{_≡_};
+ghost use Rattle.syntax.specs.Parser.{alternatives, sequences, factors, parse};
+ghost use Rattle.syntax.specs.Place.{Follows};
+ghost use Rattle.syntax.specs.Some.{isSome};
+
+fn alternative(s: &[u8], c: Cursor) -> Moved
+    ensures { λ r. ⌜ Follows alternatives 3 (now (s .entry)) (c .at) r ⌝ }
+{
+    match sequence(s, c) {
+        Moved::Failed => Moved::Failed,
+        Moved::To(d) => match d.mark(s, b'|') {
+            Moved::Failed => Moved::To(d),
+            Moved::To(e) => alternative(s, e),
+        },
+    }
+}
+
+fn sequence(s: &[u8], c: Cursor) -> Moved
+    ensures { λ r. ⌜ Follows sequences 2 (now (s .entry)) (c .at) r ⌝ }
+{
+    match factor(s, c) {
+        Moved::Failed => Moved::Failed,
+        Moved::To(d) => match d.mark(s, b'.') {
+            Moved::Failed => Moved::To(d),
+            Moved::To(e) => sequence(s, e),
+        },
+    }
+}
+
+fn factor(s: &[u8], c: Cursor) -> Moved
+    ensures { λ r. ⌜ Follows factors 1 (now (s .entry)) (c .at) r ⌝ }
+{
+    match c.mark(s, b'(') {
+        Moved::Failed => match c.name(s) {
+            Moved::Failed => Moved::Failed,
+            Moved::To(d) => Moved::To(d.suffixes(s)),
+        },
+        Moved::To(d) => match d.mark(s, b')') {
+            Moved::To(e) => Moved::To(e.suffixes(s)),
+            Moved::Failed => match alternative(s, d) {
+                Moved::Failed => Moved::Failed,
+                Moved::To(e) => match e.mark(s, b')') {
+                    Moved::Failed => Moved::Failed,
+                    Moved::To(f) => Moved::To(f.suffixes(s)),
+                },
+            },
+        },
+    }
+}
+
+pub fn in_grammar(s: &[u8]) -> bool
+    ensures { λ r. ⌜ r ≡ isSome (parse (now (s .entry))) ⌝ }
+{
+    match alternative(s, Cursor { at: 0 }) {
+        Moved::Failed => false,
+        Moved::To(c) => c.at == s.len(),
+    }
+}
