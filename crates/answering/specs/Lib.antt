@@ -1,3 +1,10 @@
 pub mod Table
 pub mod Product
 pub mod Answer
+pub mod TableLaws
+pub mod ProductLaws
+pub mod MarksLaws
+pub mod Moves
+pub mod LinkAnswers
+pub mod ListAnswers
+pub mod BothAnswers
