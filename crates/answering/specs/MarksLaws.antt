@@ -5,43 +5,18 @@ use mathlib.Core.Bool.{Bool, true, false, not, false≢true}
 use mathlib.Core.List.{List, [], _∷_}
 use mathlib.Core.Logic.{_↔_, _⊎_, inl, inr, Iff·trans}
 use mathlib.Core.Path.{_≡_, refl, sym, _∙_, ap, ap₂, subst}
-use native.Mathlib.Nat.{mod-lt, add-zero, zero-add}
+use native.Mathlib.Nat.{add-zero, zero-add}
 use native.Mathlib.Omega.{arith}
 use lib.Dec.{eqb}
 use lib.ListN.{length, getD}
 use lib.Seq.{ext-getD}
-use lib.Pow.{pow-pos, shr-shr, field, mod-mod-pow}
 use borrow.Author.Tests.{eqb-false, ne-eqb}
 use Rattle.theory.specs.Graph.{Table, Leads, EndsBelow}
 use Rattle.theory.specs.Places.{Member, intersection}
-use Rattle.theory.specs.PlacesLaws.{member-none, member-below, member-intersection, not-none}
+use Rattle.theory.specs.PlacesLaws.{member-none, member-intersection, not-none}
+use Rattle.theory.specs.PlacesShift.{member-down, member-cut}
 use Rattle.answering.specs.Product.{Machine, reachedNodes, marked, marksFrom, marks, ones}
 use Rattle.answering.specs.ProductLaws.{endsAt, StaysWithin, ends-within, reached-exactly}
-
--- A part of a set: the places from k on, and the places below m.
-
-pub member-from : (i k s : ℕ) → Member i (s / 2 ^ k) ↔ Member (k + i) s
-member-from i k s = (λ m. sym same ∙ m, λ m. same ∙ m)
-  where
-    same : s / 2 ^ k / 2 ^ i % 2 ≡ s / 2 ^ (k + i) % 2
-    same = ap (λ n. n % 2) (shr-shr s k i)
-
-low-bit : (i m s : ℕ) → i < m → s % 2 ^ m / 2 ^ i % 2 ≡ s / 2 ^ i % 2
-low-bit i m s h = subst (λ w. s % 2 ^ w / 2 ^ i % 2 ≡ s / 2 ^ i % 2) width (ap (λ n. n % 2) (field s (m - suc i + 1) i) ∙ lowest)
-  where
-    width : m - suc i + 1 + i ≡ m
-    width = omega arith
-
-    lowest : s / 2 ^ i % 2 ^ (m - suc i + 1) % 2 ≡ s / 2 ^ i % 2
-    lowest = mod-mod-pow (s / 2 ^ i) (m - suc i) 1
-
-pub member-low : (i m s : ℕ) → Member i (s % 2 ^ m) ↔ ((i < m) × Member i s)
-member-low i m s = (there, λ h. low-bit i m s (h .0) ∙ h .1)
-  where
-    there : Member i (s % 2 ^ m) → (i < m) × Member i s
-    there h =
-        let l : i < m = member-below m (s % 2 ^ m) i (mod-lt s (pow-pos m)) h in
-        (l, sym (low-bit i m s l) ∙ h)
 
 -- A recording is marked where it is reached in an accepting state ..
 
@@ -59,13 +34,13 @@ marked-state M nodes y = (λ e. there (eqb (intersection part (M .accepting)) 0)
     there false p e =
         let (s, m) = not-none (intersection part (M .accepting)) (eqb-false (intersection part (M .accepting)) 0 p) in
         let (f, g) = member-intersection s part (M .accepting) .0 m in
-        let (h, k) = member-low s (M .states) (nodes / 2 ^ (M .states * y)) .0 f in
-        (s, h, member-from s (M .states * y) nodes .0 k, g)
+        let (h, k) = member-cut (M .states) s (nodes / 2 ^ (M .states * y)) .0 f in
+        (s, h, member-down (M .states * y) s nodes .0 k, g)
 
     back : ((s : ℕ) × (s < M .states) × Member (M .states * y + s) nodes × Member s (M .accepting))
         → not (eqb (intersection part (M .accepting)) 0) ≡ true
     back (s, h, m, k) =
-        let f : Member s part = member-low s (M .states) (nodes / 2 ^ (M .states * y)) .1 (h, member-from s (M .states * y) nodes .1 m) in
+        let f : Member s part = member-cut (M .states) s (nodes / 2 ^ (M .states * y)) .1 (h, member-down (M .states * y) s nodes .1 m) in
         ap not (ne-eqb (intersection part (M .accepting)) 0 (λ z.
         member-none s (subst (Member s) z (member-intersection s part (M .accepting) .1 (f, k)))))
 

@@ -25,6 +25,7 @@ pub mod StandsAt
 pub mod GlushkovRelations
 pub mod AutomatonLaws
 pub mod Glushkov
+pub mod StandingLaws
 -- Exploration.
 pub mod PathOrder
 pub mod Counting
@@ -34,9 +35,12 @@ pub mod Progress
 pub mod Outcome
 pub mod ExplorationSteps
 pub mod ExplorationLaws
+pub mod DistinctWords
 -- Laws and theorems.
 pub mod PlacesLaws
+pub mod PlacesShift
 pub mod ClosureLaws
+pub mod PathsBelow
 pub mod Images
 pub mod GreatestRewriting
 pub mod Answers
