@@ -1,7 +1,7 @@
 -- Passing the bytes at the front of a text that meet a test, one after the other: what the loops of a cursor's methods do.
-use Prim.Native.Nat.{ℕ, suc, _+_, _-_, _<_, _≤_}
+use Prim.Native.Nat.{ℕ, _+_, _<_, _≤_}
 use mathlib.Core.Bool.{Bool, true, false, cond, _||_}
-use mathlib.Core.List.{List, [], _∷_}
+use mathlib.Core.List.{[], _∷_}
 use mathlib.Core.Path.{_≡_, refl, sym, ap, _∙_}
 use native.Mathlib.Numerals.{add-one}
 use native.Mathlib.Omega.{arith}
@@ -9,8 +9,7 @@ use lib.Dec.{eqb}
 use lib.ListN.{length, drop, getD, length-drop, drop-of-length-le}
 use lib.Seq.{drop-cons}
 use Rattle.syntax.specs.declared.cursor.Cursor.{Cursor}
-use Rattle.syntax.specs.declared.cursor.Moved.{Moved}
-use Rattle.syntax.specs.declared.cursor.Moved.the-variants.{To, Failed}
+use Rattle.syntax.specs.declared.cursor.Moved.the-variants.{To}
 use Rattle.theory.specs.Expression.{star, optional}
 use Rattle.syntax.specs.Byte.{Bytes, asterisk, question, nameByte}
 use Rattle.syntax.specs.Grammar.{Tree}
@@ -40,7 +39,8 @@ unfolding suffixes pastWhile
 past-suffixes w t [] = refl
 past-suffixes w t (b ∷ s) = go (eqb b asterisk) refl (eqb b question) refl (past-suffixes w (star t) s) (past-suffixes w (optional t) s)
   where
-    go : (x : Bool) → eqb b asterisk ≡ x → (y : Bool) → eqb b question ≡ y → To (cursorAt w (pastWhile suffix s)) ≡ parsedTo w (suffixes (star t) s)
+    go : (x : Bool) → eqb b asterisk ≡ x → (y : Bool) → eqb b question ≡ y
+        → To (cursorAt w (pastWhile suffix s)) ≡ parsedTo w (suffixes (star t) s)
         → To (cursorAt w (pastWhile suffix s)) ≡ parsedTo w (suffixes (optional t) s)
         → To (cursorAt w (cond (x || y) (pastWhile suffix s) (b ∷ s))) ≡ parsedTo w (suffixes t (b ∷ s))
     go true e y f g h = rw (e, suffixes) g

@@ -3,3 +3,5 @@ pub mod Front
 pub mod Run
 pub mod Reading
 pub mod Runs
+pub mod Ways
+pub mod Occurrence

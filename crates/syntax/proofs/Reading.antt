@@ -1,7 +1,5 @@
 -- The ways through the reading functions: from a moved cursor back to the text that is left there, and what each way reads.
 use Prim.Native.Nat.{ℕ, zero, suc, _+_, _-_, _*_, _<_, _≤_}
-use mathlib.Core.Bool.{Bool, true, false}
-use mathlib.Core.List.{List, [], _∷_}
 use mathlib.Core.Option.{Option, some, none}
 use mathlib.Core.Path.{_≡_, refl, sym, ap, _∙_, subst}
 use native.Mathlib.Omega.{arith}
@@ -12,10 +10,12 @@ use Rattle.syntax.specs.declared.cursor.Moved.the-variants.{To, Failed}
 use Rattle.theory.specs.Expression.{empty, alternative, sequence}
 use Rattle.syntax.specs.Byte.{Bytes, bar, dot, opening, closing}
 use Rattle.syntax.specs.Grammar.{Tree}
-use Rattle.syntax.specs.Parser.{Parsed, failed, parsed, pastMark, suffixes, named, suffixed, closed, joined, alternatives, sequences, factors}
+use Rattle.syntax.specs.Parser.{Parsed, failed, parsed, pastMark, suffixes, named, suffixed, closed, joined}
+use Rattle.syntax.specs.Parser.{alternatives, sequences, factors}
 use Rattle.syntax.specs.Place.{cursorAt, moved, parsedTo, Onward, Follows}
-use Rattle.syntax.specs.Unread.{EndOf, end-drop, end-trans, drop-end, end-length, Shorter, Past, Unread, mark-past, level, after, simple, group}
-use Rattle.syntax.specs.Unread.{named-unread, alternatives-unread, sequences-unread, factors-unread, alternatives-level, sequences-level, factors-simple}
+use Rattle.syntax.specs.Unread.{EndOf, end-drop, end-trans, drop-end, Shorter, Past, Unread, mark-past, level, simple}
+use Rattle.syntax.specs.Unread.{named-unread, alternatives-unread, sequences-unread, factors-unread}
+use Rattle.syntax.specs.Unread.{alternatives-level, sequences-level, factors-simple}
 
 module _ (s : Bytes) (at : ℕ) where
   -- What a cursor says of an end of the text that begins at or after `at`.
@@ -33,7 +33,8 @@ module _ (s : Bytes) (at : ℕ) where
   not-parsed failed e = refl
   not-parsed (parsed t v) e = absurd (let z : _≡_ {A = ℕ} 0 1 = cc in omega arith)
 
-  marked : (o : Option Bytes) (d : Cursor) → Past (drop at s) o → To d ≡ moved s o → (o ≡ some (drop (d .at) s)) × (at < d .at) × (d .at ≤ length s)
+  marked : (o : Option Bytes) (d : Cursor) → Past (drop at s) o → To d ≡ moved s o
+      → (o ≡ some (drop (d .at) s)) × (at < d .at) × (d .at ≤ length s)
   marked none d h e = absurd (let z : _≡_ {A = ℕ} 0 1 = cc in omega arith)
   marked (some v) d h e =
       let f : d ≡ cursorAt s v = cc in
@@ -51,7 +52,11 @@ module _ (s : Bytes) (at : ℕ) where
 -- A parser's promise is met by what it reads with one more call than the bytes left ask for.
 follows : (f : ℕ → Bytes → Parsed) (rank : ℕ) (s : Bytes) (at : ℕ) (r : Moved) → ((k : ℕ) → Unread (drop at s) (f k (drop at s)))
     → ((k : ℕ) → 3 * (length s - at) + rank < suc k → r ≡ parsedTo s (f (suc k) (drop at s))) → Follows f rank s at r
-follows f rank s at r left reads = record { same = same; onward = subst (Onward s at) (sym (reads enough (omega arith))) (on (f (suc enough) (drop at s)) (left (suc enough))) }
+follows f rank s at r left reads =
+    record {
+      same = same;
+      onward = subst (Onward s at) (sym (reads enough (omega arith))) (on (f (suc enough) (drop at s)) (left (suc enough)));
+    }
   where
     same : (k : ℕ) → 3 * (length s - at) + rank < k → r ≡ parsedTo s (f k (drop at s))
     same zero l = absurd (omega arith)
@@ -91,14 +96,16 @@ module _ {f g : ℕ → Bytes → Parsed} {m : ℕ} {join : Tree → Tree → Tr
       follows f (suc rank) s at Failed (λ k. parts .all-unread k (drop at s))
       (λ k l. rw (parts .levels k (drop at s), not-parsed s at (g k (drop at s)) (h .same k (omega arith))))
 
-  pub one-read : {d : Cursor} → Follows g rank s at (To d) → Failed ≡ moved s (pastMark m (drop (d .at) s)) → Follows f (suc rank) s at (To d)
+  pub one-read : {d : Cursor} → Follows g rank s at (To d) → Failed ≡ moved s (pastMark m (drop (d .at) s))
+      → Follows f (suc rank) s at (To d)
   one-read {d} h e =
       follows f (suc rank) s at (To d) (λ k. parts .all-unread k (drop at s))
       (λ k l.
       let p = parsed-to s at (g k (drop at s)) d (parts .one-unread k (drop at s)) (h .same k (omega arith)) in
       h .same k (omega arith) ∙ rw (parts .levels k (drop at s), p .1, not-marked s (d .at) (pastMark m (drop (d .at) s)) e))
 
-  pub part-end : {d e : Cursor} → Follows g rank s at (To d) → To e ≡ moved s (pastMark m (drop (d .at) s)) → (at < e .at) × (e .at ≤ length s)
+  pub part-end : {d e : Cursor} → Follows g rank s at (To d) → To e ≡ moved s (pastMark m (drop (d .at) s))
+      → (at < e .at) × (e .at ≤ length s)
   part-end {d} {e} h n = let b = h .onward in let q = past-mark s (d .at) m e n in (omega arith, omega arith)
 
   pub more-read : {d e : Cursor} {r : Moved} → Follows g rank s at (To d) → To e ≡ moved s (pastMark m (drop (d .at) s))
@@ -128,7 +135,8 @@ alternatives-leave : (s : Bytes) (at : ℕ) (d : Cursor) → Follows alternative
     → (k : ℕ) → 3 * (length s - at) + 3 < k → Leaves (alternatives k (drop at s)) (drop (d .at) s)
 alternatives-leave s at d a k l = parsed-to s at (alternatives k (drop at s)) d (alternatives-unread k (drop at s)) (a .same k l)
 
-suffixed-to : (s : Bytes) (p : Parsed) (u : Bytes) (r : Moved) → Leaves p u → ((t : Tree) → r ≡ parsedTo s (suffixes t u)) → r ≡ parsedTo s (suffixed p)
+suffixed-to : (s : Bytes) (p : Parsed) (u : Bytes) (r : Moved) → Leaves p u
+    → ((t : Tree) → r ≡ parsedTo s (suffixes t u)) → r ≡ parsedTo s (suffixed p)
 unfolding suffixed
 suffixed-to s p u r h x = rw (h .1) (x (h .0))
 
@@ -148,7 +156,8 @@ module _ {s : Bytes} {at : ℕ} where
     pub no-name-read : Failed ≡ parsedTo s (named (drop at s)) → Follows factors 1 s at Failed
     no-name-read n =
         factor Failed
-        (λ k l. rw (not-marked s at (pastMark opening (drop at s)) o) (not-suffixed s (named (drop at s)) (not-parsed s at (named (drop at s)) n)))
+        (λ k l. rw (not-marked s at (pastMark opening (drop at s)) o)
+        (not-suffixed s (named (drop at s)) (not-parsed s at (named (drop at s)) n)))
 
     pub name-read : {d : Cursor} {r : Moved} → To d ≡ parsedTo s (named (drop at s))
         → ((t : Tree) → r ≡ parsedTo s (suffixes t (drop (d .at) s))) → Follows factors 1 s at r
@@ -163,7 +172,8 @@ module _ {s : Bytes} {at : ℕ} where
     unit-read {e} {r} n x = factor r (λ k l. rw (past-mark s at opening d o .0, past-mark s (d .at) closing e n .0) (x empty))
 
     module _ (n : Failed ≡ moved s (pastMark closing (drop (d .at) s))) where
-      group-read : (r : Moved) → ((k : ℕ) → 3 * (length s - d .at) + 3 < k → r ≡ parsedTo s (suffixed (closed (alternatives k (drop (d .at) s)))))
+      group-read : (r : Moved)
+          → ((k : ℕ) → 3 * (length s - d .at) + 3 < k → r ≡ parsedTo s (suffixed (closed (alternatives k (drop (d .at) s)))))
           → Follows factors 1 s at r
       group-read r h =
           let p = past-mark s at opening d o in
@@ -181,11 +191,13 @@ module _ {s : Bytes} {at : ℕ} where
         open-group-read b =
             group-read Failed
             (λ k l. not-suffixed s (closed (alternatives k (drop (d .at) s)))
-            (not-closed (alternatives k (drop (d .at) s)) (drop (e .at) s) (alternatives-leave s (d .at) e a k l) (not-marked s (e .at) (pastMark closing (drop (e .at) s)) b)))
+            (not-closed (alternatives k (drop (d .at) s)) (drop (e .at) s) (alternatives-leave s (d .at) e a k l)
+            (not-marked s (e .at) (pastMark closing (drop (e .at) s)) b)))
 
         pub closed-group-read : {f : Cursor} {r : Moved} → To f ≡ moved s (pastMark closing (drop (e .at) s))
             → ((t : Tree) → r ≡ parsedTo s (suffixes t (drop (f .at) s))) → Follows factors 1 s at r
         closed-group-read {f} {r} b x =
             group-read r
             (λ k l. suffixed-to s (closed (alternatives k (drop (d .at) s))) (drop (f .at) s) r
-            (closed-leaves (alternatives k (drop (d .at) s)) (drop (e .at) s) (drop (f .at) s) (alternatives-leave s (d .at) e a k l) (past-mark s (e .at) closing f b .0)) x)
+            (closed-leaves (alternatives k (drop (d .at) s)) (drop (e .at) s) (drop (f .at) s)
+            (alternatives-leave s (d .at) e a k l) (past-mark s (e .at) closing f b .0)) x)

@@ -1,7 +1,7 @@
 -- The longest run of name bytes at the front of a text: with what comes after it, it is the text.
-use Prim.Native.Nat.{ℕ, suc, _+_, _-_, _<_, _≤_}
+use Prim.Native.Nat.{ℕ, _+_, _-_}
 use mathlib.Core.Bool.{Bool, true, false, _&&_}
-use mathlib.Core.List.{List, [], _∷_, _++_}
+use mathlib.Core.List.{[], _∷_, _++_}
 use mathlib.Core.Path.{_≡_, refl, sym, ap, _∙_}
 use native.Mathlib.Omega.{arith}
 use lib.Dec.{eqb, eqb·suc-zero}
@@ -30,7 +30,8 @@ run-lengths s = sym (length-append (run s) (pastRun s)) ∙ ap length (run-past 
 -- The run, as a part of the text.
 pub run-part : (s : Bytes) → take (length s - length (pastRun s)) s ≡ run s
 run-part s =
-    ap (take (length s - length (pastRun s))) (sym (run-past s)) ∙ take-at (run s) (pastRun s) (length s - length (pastRun s)) (omega (arith, run-lengths s))
+    ap (take (length s - length (pastRun s))) (sym (run-past s))
+    ∙ take-at (run s) (pastRun s) (length s - length (pastRun s)) (omega (arith, run-lengths s))
 
 -- The run is the whole text where every byte is one of a name.
 pub run-whole : (s : Bytes) → nameBytes s ≡ eqb (length (pastRun s)) 0

@@ -19,3 +19,12 @@ pub mod CheckLaws
 pub mod TableLaws
 pub mod Verdict
 pub mod VerdictLaws
+pub mod Part
+pub mod Link
+pub mod Splice
+pub mod Entered
+pub mod Build
+pub mod BuildLaws
+pub mod FineLaws
+pub mod MarkedLaws
+pub mod PlaceLaws

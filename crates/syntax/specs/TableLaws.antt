@@ -14,14 +14,14 @@ use Rattle.syntax.specs.NameLaws.{find-here, find-later}
 use Rattle.syntax.specs.Resolve.{known, namesAt}
 
 -- A table has a name for each whole pair.
-length-namesAt : (text : Bytes) (l : List ℕ) → length (namesAt text l) ≡ length l / 2
+pub length-namesAt : (text : Bytes) (l : List ℕ) → length (namesAt text l) ≡ length l / 2
 unfolding namesAt
 length-namesAt text [] = refl
 length-namesAt text (start ∷ []) = refl
 length-namesAt text (start ∷ (size ∷ l)) = let h : length (namesAt text l) ≡ length l / 2 = length-namesAt text l in omega arith
 
 -- Less than a pair is no name.
-namesAt-short : (text : Bytes) (l : List ℕ) → length l < 2 → namesAt text l ≡ []
+pub namesAt-short : (text : Bytes) (l : List ℕ) → length l < 2 → namesAt text l ≡ []
 unfolding namesAt
 namesAt-short text [] h = refl
 namesAt-short text (start ∷ []) h = refl
@@ -37,13 +37,13 @@ unfolding namesAt
 names-from text l k h =
     ap (namesAt text) (drop-cons l k 0 (omega arith)) ∙ ap (λ (r : List ℕ). namesAt text (getD l k 0 ∷ r)) (drop-cons l (suc k) 0 h)
 
-namesAt-next : (text : Bytes) (l : List ℕ) (i : ℕ) → 2 * i + 1 < length l
+pub namesAt-next : (text : Bytes) (l : List ℕ) (i : ℕ) → 2 * i + 1 < length l
     → namesAt text (drop (2 * i) l) ≡ nameAt text l i ∷ namesAt text (drop (2 * (i + 1)) l)
 namesAt-next text l i h =
     let e : 2 * (i + 1) ≡ suc (suc (2 * i)) = omega arith in
     rw (e, add-one (2 * i)) (names-from text l (2 * i) (omega arith))
 
-namesAt-end : (text : Bytes) (l : List ℕ) (i : ℕ) → length l ≤ 2 * i + 1 → namesAt text (drop (2 * i) l) ≡ []
+pub namesAt-end : (text : Bytes) (l : List ℕ) (i : ℕ) → length l ≤ 2 * i + 1 → namesAt text (drop (2 * i) l) ≡ []
 namesAt-end text l i h = namesAt-short text (drop (2 * i) l) (simp length-drop (omega arith))
 
 -- What a search gives over the names from a place on.

@@ -4,6 +4,7 @@ ghost use Rattle.syntax.specs.Byte.{kind};
 
 // At each byte its kind: 0 a letter, 1 a digit, 2 the hyphen, 3 to 8 the marks `.` `|` `*` `?` `(` `)`, 9 the rest.
 pub const KINDS: [u8; 256] = [
+    // below `(`
     9,
     9,
     9,
@@ -44,6 +45,7 @@ pub const KINDS: [u8; 256] = [
     9,
     9,
     9,
+    // `(` `)` `*` `+` `,` `-` `.` `/`
     7,
     8,
     5,
@@ -52,6 +54,7 @@ pub const KINDS: [u8; 256] = [
     2,
     3,
     9,
+    // `0` to `9`
     1,
     1,
     1,
@@ -62,12 +65,15 @@ pub const KINDS: [u8; 256] = [
     1,
     1,
     1,
+    // `:` `;` `<` `=` `>`
     9,
     9,
     9,
     9,
     9,
+    // `?`
     6,
+    // `@` to the byte before `a`
     9,
     9,
     9,
@@ -101,6 +107,7 @@ pub const KINDS: [u8; 256] = [
     9,
     9,
     9,
+    // `a` to `z`
     0,
     0,
     0,
@@ -127,8 +134,11 @@ pub const KINDS: [u8; 256] = [
     0,
     0,
     0,
+    // `{`
     9,
+    // `|`
     4,
+    // above `|`
     9,
     9,
     9,

@@ -1,12 +1,16 @@
 // Expressions as text: names, the grammar, its limits, and Glushkov's automaton of an expression.
+pub mod build;
 mod check;
 mod cursor;
 mod grammar;
 pub mod kind;
 mod labels;
+mod leaf;
 mod limits;
 mod name;
+mod parts;
 mod refusal;
+mod sets;
 mod table;
 
 pub use check::Check;
@@ -19,6 +23,7 @@ pub use labels::occurrences;
 pub use limits::nesting;
 pub use name::is_name;
 pub use name::same_name;
+pub use parts::Part;
 pub use refusal::Refusal;
 pub use table::find;
 pub use table::part;

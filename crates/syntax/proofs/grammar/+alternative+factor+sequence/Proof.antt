@@ -1,12 +1,12 @@
--- The cycle of calls {alternative, factor, sequence}. Each meets its contract by the ways of Reading; the measure is three times the number of
--- unread bytes, and the rank of the function.
+-- The cycle of calls {alternative, factor, sequence}. Each meets its contract by the ways of Reading. The measure is three times the number
+-- of unread bytes and the function's rank.
 use borrow.Author.Needs.{needs}
 use borrow.Fn.Kinds.{In}
 use borrow.Fn.PlainCycle.{Measures, is, falls, and}
 use Prim.Native.Nat.{ℕ, _+_, _-_, _*_, _<_}
-use mathlib.Core.Path.{_≡_, sym, _∙_, subst}
+use mathlib.Core.Path.{sym, _∙_}
 use native.Mathlib.Omega.{arith}
-use lib.ListN.{length, drop}
+use lib.ListN.{length}
 use Rattle.syntax.specs.Byte.{opening}
 use Rattle.syntax.proofs.Reading.{sequences-of, factors-of, none-read, one-read, more-read, part-end, past-mark}
 use Rattle.syntax.proofs.Reading.{no-name-read, name-read, unit-read, no-group-read, open-group-read, closed-group-read}
@@ -84,18 +84,32 @@ alternative-enum-known-e t c = search needs
 
 alternative-alternative-requires : (t : ℕ) → alternative-lts.Need-alternative-requires (alternative-calls t) (alternative-at t) alternative.Post
 alternative-alternative-requires t c κs =
-    (omega (arith, part-end sequences-of (rw (c .before .before .before .before .before .d .given .1) at (c .before .before .before .before .before .before .before .sequence .ensures)) (sym (c .before .e .given .1) ∙ c .before .before .before .mark .ensures)), tt)
+    let m = c .before .before .before in
+    let d = m .before .before in (
+      omega (
+        arith,
+        part-end sequences-of (rw (d .d .given .1) at (d .before .before .sequence .ensures))
+            (sym (c .before .e .given .1) ∙ m .mark .ensures),
+      ),
+      tt,
+    )
 
 alternative-returns : (t : ℕ) → alternative-lts.Need-returns (alternative-calls t) (alternative-at t) alternative.Post
 alternative-returns t c = none-read sequences-of (rw (c .enum-told .given .1) at (c .before .before .sequence .ensures))
 
 alternative-returns-2 : (t : ℕ) → alternative-lts.Need-returns-2 (alternative-calls t) (alternative-at t) alternative.Post
 alternative-returns-2 t c =
-    one-read sequences-of (rw (c .before .before .before .before .d .given .1) at (c .before .before .before .before .before .before .sequence .ensures)) (sym (c .enum-told2 .given .1) ∙ c .before .before .mark .ensures)
+    let m = c .before .before in
+    let d = m .before .before in
+    one-read sequences-of (rw (d .d .given .1) at (d .before .before .sequence .ensures)) (sym (c .enum-told2 .given .1) ∙ m .mark .ensures)
 
 alternative-returns-3 : (t : ℕ) → alternative-lts.Need-returns-3 (alternative-calls t) (alternative-at t) alternative.Post
 alternative-returns-3 t c =
-    more-read sequences-of (rw (c .before .before .before .before .before .before .d .given .1) at (c .before .before .before .before .before .before .before .before .sequence .ensures)) (sym (c .before .before .e .given .1) ∙ c .before .before .before .before .mark .ensures) (c .alternative .ensures)
+    let m = c .before .before .before .before in
+    let d = m .before .before in
+    more-read sequences-of (rw (d .d .given .1) at (d .before .before .sequence .ensures))
+    (sym (c .before .before .e .given .1) ∙ m .mark .ensures)
+    (c .alternative .ensures)
 
 factor-mark-requires : (t : ℕ) → factor-lts.Need-mark-requires (factor-calls t) (factor-at t) factor.Post
 factor-mark-requires t c κs = search needs
@@ -132,8 +146,9 @@ factor-enum-told-3 t c = search needs
 
 factor-alternative-requires : (t : ℕ) → factor-lts.Need-alternative-requires (factor-calls t) (factor-at t) factor.Post
 factor-alternative-requires t c κs =
-    let a = c .before .before .before .before .before .before .before .before .args in
-    (omega (arith, past-mark (a .s .now) (a .c .at) opening _ (sym (c .before .before .before .before .d2 .given .1) ∙ c .before .before .before .before .before .before .mark .ensures)), tt)
+    let d = c .before .before .before .before in
+    let a = d .before .before .before .before .args in
+    (omega (arith, past-mark (a .s .now) (a .c .at) opening _ (sym (d .d2 .given .1) ∙ d .before .before .mark .ensures)), tt)
 
 factor-enum-told-4 : (t : ℕ) → factor-lts.Need-enum-told-4 (factor-calls t) (factor-at t) factor.Post
 factor-enum-told-4 t c = search needs
@@ -155,33 +170,51 @@ factor-suffixes-requires-3 t c κs = search needs
 
 factor-returns : (t : ℕ) → factor-lts.Need-returns (factor-calls t) (factor-at t) factor.Post
 factor-returns t c =
-    no-name-read (sym (c .before .before .before .enum-told .given .1) ∙ c .before .before .before .before .before .mark .ensures) (sym (c .enum-told2 .given .1) ∙ c .before .before .name .ensures)
+    let n = c .before .before .before in
+    no-name-read (sym (n .enum-told .given .1) ∙ n .before .before .mark .ensures)
+    (sym (c .enum-told2 .given .1) ∙ c .before .before .name .ensures)
 
 factor-returns-2 : (t : ℕ) → factor-lts.Need-returns-2 (factor-calls t) (factor-at t) factor.Post
 factor-returns-2 t c =
-    name-read (sym (c .before .before .before .before .before .enum-told .given .1) ∙ c .before .before .before .before .before .before .before .mark .ensures) (sym (c .before .before .d .given .1) ∙ c .before .before .before .before .name .ensures) (c .suffixes .ensures)
+    let d = c .before .before in
+    let n = d .before .before .before in
+    name-read (sym (n .enum-told .given .1) ∙ n .before .before .mark .ensures)
+    (sym (d .d .given .1) ∙ d .before .before .name .ensures) (c .suffixes .ensures)
 
 factor-returns-3 : (t : ℕ) → factor-lts.Need-returns-3 (factor-calls t) (factor-at t) factor.Post
 factor-returns-3 t c =
-    unit-read (sym (c .before .before .before .before .before .before .d2 .given .1) ∙ c .before .before .before .before .before .before .before .before .mark .ensures) (sym (c .before .before .e .given .1) ∙ c .before .before .before .before .mark2 .ensures) (c .suffixes2 .ensures)
+    let e = c .before .before in
+    let d = e .before .before .before .before in
+    unit-read (sym (d .d2 .given .1) ∙ d .before .before .mark .ensures)
+    (sym (e .e .given .1) ∙ e .before .before .mark2 .ensures) (c .suffixes2 .ensures)
 
 factor-returns-4 : (t : ℕ) → factor-lts.Need-returns-4 (factor-calls t) (factor-at t) factor.Post
 factor-returns-4 t c =
-    no-group-read (sym (c .before .before .before .before .before .before .before .d2 .given .1) ∙ c .before .before .before .before .before .before .before .before .before .mark .ensures)
-    (sym (c .before .before .before .enum-told3 .given .1) ∙ c .before .before .before .before .before .mark2 .ensures)
+    let n = c .before .before .before in
+    let d = n .before .before .before .before in
+    no-group-read (sym (d .d2 .given .1) ∙ d .before .before .mark .ensures)
+    (sym (n .enum-told3 .given .1) ∙ n .before .before .mark2 .ensures)
     (rw (c .enum-told4 .given .1) at (c .before .before .alternative .ensures))
 
 factor-returns-5 : (t : ℕ) → factor-lts.Need-returns-5 (factor-calls t) (factor-at t) factor.Post
 factor-returns-5 t c =
-    open-group-read (sym (c .before .before .before .before .before .before .before .before .before .before .before .d2 .given .1) ∙ c .before .before .before .before .before .before .before .before .before .before .before .before .before .mark .ensures)
-    (sym (c .before .before .before .before .before .before .before .enum-told3 .given .1) ∙ c .before .before .before .before .before .before .before .before .before .mark2 .ensures)
-    (rw (c .before .before .before .before .e2 .given .1) at (c .before .before .before .before .before .before .alternative .ensures)) (sym (c .enum-told5 .given .1) ∙ c .before .before .mark3 .ensures)
+    let e = c .before .before .before .before in
+    let n = e .before .before .before in
+    let d = n .before .before .before .before in
+    open-group-read (sym (d .d2 .given .1) ∙ d .before .before .mark .ensures)
+    (sym (n .enum-told3 .given .1) ∙ n .before .before .mark2 .ensures)
+    (rw (e .e2 .given .1) at (e .before .before .alternative .ensures)) (sym (c .enum-told5 .given .1) ∙ c .before .before .mark3 .ensures)
 
 factor-returns-6 : (t : ℕ) → factor-lts.Need-returns-6 (factor-calls t) (factor-at t) factor.Post
 factor-returns-6 t c =
-    closed-group-read (sym (c .before .before .before .before .before .before .before .before .before .before .before .before .before .d2 .given .1) ∙ c .before .before .before .before .before .before .before .before .before .before .before .before .before .before .before .mark .ensures)
-    (sym (c .before .before .before .before .before .before .before .before .before .enum-told3 .given .1) ∙ c .before .before .before .before .before .before .before .before .before .before .before .mark2 .ensures)
-    (rw (c .before .before .before .before .before .before .e2 .given .1) at (c .before .before .before .before .before .before .before .before .alternative .ensures)) (sym (c .before .before .f .given .1) ∙ c .before .before .before .before .mark3 .ensures) (c .suffixes3 .ensures)
+    let f = c .before .before in
+    let e = f .before .before .before .before in
+    let n = e .before .before .before in
+    let d = n .before .before .before .before in
+    closed-group-read (sym (d .d2 .given .1) ∙ d .before .before .mark .ensures)
+    (sym (n .enum-told3 .given .1) ∙ n .before .before .mark2 .ensures)
+    (rw (e .e2 .given .1) at (e .before .before .alternative .ensures)) (sym (f .f .given .1) ∙ f .before .before .mark3 .ensures)
+    (c .suffixes3 .ensures)
 
 sequence-factor-requires : (t : ℕ) → sequence-lts.Need-factor-requires (sequence-calls t) (sequence-at t) sequence.Post
 sequence-factor-requires t c κs = (omega arith, tt)
@@ -203,18 +236,32 @@ sequence-enum-known-e t c = search needs
 
 sequence-sequence-requires : (t : ℕ) → sequence-lts.Need-sequence-requires (sequence-calls t) (sequence-at t) sequence.Post
 sequence-sequence-requires t c κs =
-    (omega (arith, part-end factors-of (rw (c .before .before .before .before .before .d .given .1) at (c .before .before .before .before .before .before .before .factor .ensures)) (sym (c .before .e .given .1) ∙ c .before .before .before .mark .ensures)), tt)
+    let m = c .before .before .before in
+    let d = m .before .before in (
+      omega (
+        arith,
+        part-end factors-of (rw (d .d .given .1) at (d .before .before .factor .ensures))
+            (sym (c .before .e .given .1) ∙ m .mark .ensures),
+      ),
+      tt,
+    )
 
 sequence-returns : (t : ℕ) → sequence-lts.Need-returns (sequence-calls t) (sequence-at t) sequence.Post
 sequence-returns t c = none-read factors-of (rw (c .enum-told .given .1) at (c .before .before .factor .ensures))
 
 sequence-returns-2 : (t : ℕ) → sequence-lts.Need-returns-2 (sequence-calls t) (sequence-at t) sequence.Post
 sequence-returns-2 t c =
-    one-read factors-of (rw (c .before .before .before .before .d .given .1) at (c .before .before .before .before .before .before .factor .ensures)) (sym (c .enum-told2 .given .1) ∙ c .before .before .mark .ensures)
+    let m = c .before .before in
+    let d = m .before .before in
+    one-read factors-of (rw (d .d .given .1) at (d .before .before .factor .ensures)) (sym (c .enum-told2 .given .1) ∙ m .mark .ensures)
 
 sequence-returns-3 : (t : ℕ) → sequence-lts.Need-returns-3 (sequence-calls t) (sequence-at t) sequence.Post
 sequence-returns-3 t c =
-    more-read factors-of (rw (c .before .before .before .before .before .before .d .given .1) at (c .before .before .before .before .before .before .before .before .factor .ensures)) (sym (c .before .before .e .given .1) ∙ c .before .before .before .before .mark .ensures) (c .sequence .ensures)
+    let m = c .before .before .before .before in
+    let d = m .before .before in
+    more-read factors-of (rw (d .d .given .1) at (d .before .before .factor .ensures))
+    (sym (c .before .before .e .given .1) ∙ m .mark .ensures)
+    (c .sequence .ensures)
 
 pub +alternative+factor+sequence-spec : {M : Type 1} → statement M
 +alternative+factor+sequence-spec =

@@ -1,8 +1,8 @@
 -- `in_grammar` meets its contract: the text has a tree where an alternative is read from its beginning to its end.
 use Prim.Native.Nat.{_-_, _≤_}
-use mathlib.Core.Bool.{Bool, true, false}
-use mathlib.Core.List.{List, [], _∷_}
-use mathlib.Core.Path.{_≡_, refl, sym, ap, _∙_}
+use mathlib.Core.Bool.{false}
+use mathlib.Core.List.{[], _∷_}
+use mathlib.Core.Path.{_≡_}
 use native.Mathlib.Omega.{arith}
 use lib.Dec.{eqb}
 use lib.ListN.{length, drop, length-drop}
@@ -27,7 +27,8 @@ not-read s h = rw (not-parsed s 0 (alternatives (calls (length s)) s) (h .same (
 read : (s : Bytes) (c : Cursor) → Follows alternatives 3 s 0 (To c) → eqb (c .at) (length s) ≡ isSome (parse s)
 unfolding parse
 read s c h =
-    let p = parsed-to s 0 (alternatives (calls (length s)) s) c (alternatives-unread (calls (length s)) s) (h .same (calls (length s)) (omega arith)) in
+    let k = calls (length s) in
+    let p = parsed-to s 0 (alternatives k s) c (alternatives-unread k s) (h .same k (omega arith)) in
     let b = h .onward in
     go (p .0) (drop (c .at) s) (p .1) (omega (arith, length-drop (c .at) s))
   where

@@ -1,16 +1,16 @@
 -- `nesting` meets its contract. The loop's invariant: what has been found, or what is left if it is deeper, is how deep the whole is.
 use Prim.Native.Nat.{ℕ, suc, pred, max, _+_, _-_, _<_, _≤_}
 use mathlib.Core.Bool.{Bool, true, false}
-use mathlib.Core.List.{List, [], _∷_}
-use mathlib.Core.Logic.{_⊎_, inl, inr, ⊎-elim}
-use mathlib.Core.Path.{_≡_, refl, sym, ap, _∙_}
+use mathlib.Core.List.{[], _∷_}
+use mathlib.Core.Logic.{⊎-elim}
+use mathlib.Core.Path.{_≡_, refl, ap}
 use native.Mathlib.Numerals.{add-one}
 use native.Mathlib.Omega.{arith}
 use lib.Dec.{eqb}
 use lib.ListN.{length, drop, getD, drop-of-length-le}
 use lib.Seq.{drop-cons}
 use borrow.Author.Needs.{needs}
-use borrow.Author.Tests.{eq-eqb, ne-eqb}
+use borrow.Author.Tests.{ne-eqb}
 use Rattle.syntax.specs.Byte.{Bytes, opening, closing}
 use Rattle.syntax.specs.Limits.{nesting, balance}
 use Rattle.syntax.proofs.limits.nesting.Statement.{statement}
@@ -55,7 +55,8 @@ next s i n h = rw (add-one, drop-cons s i 0 h)
 
 -- The arms of the match are the balance.
 balanced : (c : tie.At-match-came Inv-loop μ-loop)
-    → c .match .«open» ≡ balance (c .before .before .before .loop .«open») (getD (c .before .before .before .before .args .s .now) (c .before .before .before .loop .i) 0)
+    → c .match .«open» ≡ balance (c .before .before .before .loop .«open»)
+    (getD (c .before .before .before .before .args .s .now) (c .before .before .before .loop .i) 0)
 balanced c =
     let n : ℕ = c .before .before .before .loop .«open» in
     let b : ℕ = getD (c .before .before .before .before .args .s .now) (c .before .before .before .loop .i) 0 in

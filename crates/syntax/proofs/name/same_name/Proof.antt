@@ -1,7 +1,7 @@
 -- `same_name` meets its contract. The loop's invariant: what is left of the two names is the same where the names are.
 use Prim.Native.Nat.{ℕ, suc, _+_, _-_, _<_, _≤_}
-use mathlib.Core.Bool.{Bool, true, false, _&&_, and-false}
-use mathlib.Core.List.{List, [], _∷_}
+use mathlib.Core.Bool.{true, false, and-false}
+use mathlib.Core.List.{[], _∷_}
 use mathlib.Core.Path.{_≡_, refl, sym, ap, _∙_}
 use native.Mathlib.Numerals.{add-one}
 use native.Mathlib.Omega.{arith}
@@ -76,4 +76,5 @@ returns-3 c = sym (ended _ _ (c .before .loop .i) (omega arith) (omega arith)) �
 pub same-name-spec : {M : Type 1} → statement M
 same-name-spec =
     tie.close
-    (tie.spec Inv-loop μ-loop returns loop-holds shared-slice-read-if2 shared-slice-read-if2-2 returns-2 add-i loop-less loop-again returns-3)
+    (tie.spec Inv-loop μ-loop returns loop-holds shared-slice-read-if2 shared-slice-read-if2-2
+    returns-2 add-i loop-less loop-again returns-3)

@@ -1,14 +1,11 @@
 -- `Cursor::mark` meets its contract: what is left of the text begins with the byte at the cursor.
 use Prim.Native.Nat.{ℕ, suc, _+_, _<_, _≤_}
-use mathlib.Core.Path.{_≡_, refl, ap, sym}
-use native.Mathlib.Numerals.{add-one}
+use mathlib.Core.Path.{_≡_, ap}
 use native.Mathlib.Omega.{arith}
-use lib.Dec.{eqb}
 use lib.ListN.{length, drop, getD, length-drop, drop-of-length-le}
 use lib.Seq.{drop-cons}
 use borrow.Author.Needs.{needs}
 use borrow.Author.Tests.{eq-eqb, ne-eqb}
-use Rattle.syntax.specs.declared.cursor.Cursor.{Cursor}
 use Rattle.syntax.specs.declared.cursor.Moved.{Moved}
 use Rattle.syntax.specs.declared.cursor.Moved.the-variants.{To, Failed}
 use Rattle.syntax.specs.Byte.{Bytes}

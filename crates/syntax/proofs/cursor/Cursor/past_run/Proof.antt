@@ -1,10 +1,9 @@
 -- `Cursor::past_run` meets its contract. The loop's invariant: from here on the run ends where it ends from the beginning.
 use Prim.Native.Nat.{_-_}
 use mathlib.Core.Path.{_≡_, refl, ap, sym, _∙_}
-use lib.ListN.{length, drop, getD}
+use lib.ListN.{length, drop}
 use borrow.Author.Needs.{needs}
 use borrow.Author.Tests.{le-leb, lt-leb}
-use lib.Dec.{leb}
 use Rattle.syntax.specs.Byte.{kind, nameByte, hyphen}
 use Rattle.syntax.specs.Place.{cursorAt}
 use Rattle.syntax.proofs.Front.{pastWhile, past-run, passed, stopped, ended}
@@ -30,7 +29,8 @@ returns : tie.Need-returns Inv-loop μ-loop
 returns c =
     let s = c .before .before .before .before .before .before .args .s .now in
     let l = c .before .before .before .before .loop in
-    stopped nameByte s (l .i) (c .before .before .before .loop-test .taken) (lt-leb _ hyphen (rw (c .before .kind .ensures) at (c .if1 .taken)))
+    stopped nameByte s (l .i) (c .before .before .before .loop-test .taken)
+    (lt-leb _ hyphen (rw (c .before .kind .ensures) at (c .if1 .taken)))
     ∙ ap (cursorAt s) (l .inv ∙ sym (past-run _))
 
 add-i : tie.Need-add-i Inv-loop μ-loop
@@ -43,7 +43,8 @@ loop-again : tie.Need-loop-again Inv-loop μ-loop
 loop-again c =
     let s = c .before .before .before .before .before .before .args .s .now in
     let l = c .before .before .before .before .loop in
-    passed nameByte s (l .i) (c .before .before .before .loop-test .taken) (le-leb _ hyphen (rw (c .before .kind .ensures) at (c .if1 .left)))
+    passed nameByte s (l .i) (c .before .before .before .loop-test .taken)
+    (le-leb _ hyphen (rw (c .before .kind .ensures) at (c .if1 .left)))
     ∙ l .inv
 
 returns-2 : tie.Need-returns-2 Inv-loop μ-loop

@@ -1,10 +1,10 @@
 -- `Cursor::suffixes` meets its contract. The loop's invariant: from here on the marks end where they end from the beginning.
 use Prim.Native.Nat.{ℕ, _-_}
-use mathlib.Core.Bool.{Bool, true, false, _||_, or-true}
+use mathlib.Core.Bool.{true, false, _||_, or-true}
 use mathlib.Core.Logic.{_⊎_, inl, inr}
-use mathlib.Core.Path.{_≡_, refl, ap, ap₂, sym, _∙_}
+use mathlib.Core.Path.{_≡_, refl, ap, ap₂, _∙_}
 use lib.Dec.{eqb}
-use lib.ListN.{length, drop, getD}
+use lib.ListN.{length, drop}
 use borrow.Author.Needs.{needs}
 use borrow.Author.Tests.{eq-eqb, ne-eqb}
 use Rattle.syntax.specs.declared.cursor.Moved.{Moved}
@@ -51,7 +51,8 @@ returns : tie.Need-returns Inv-loop μ-loop
 returns c t =
     let s = c .before .before .before .before .args .s .now in
     let l = c .before .before .before .loop in
-    ap {B = Moved} To (stopped suffix s (l .i) (c .before .before .loop-test .taken) (unmarked _ (c .match .rest .1)) ∙ ap (cursorAt s) (l .inv))
+    ap {B = Moved} To (stopped suffix s (l .i) (c .before .before .loop-test .taken) (unmarked _ (c .match .rest .1))
+    ∙ ap (cursorAt s) (l .inv))
     ∙ past-suffixes s t _
 
 returns-2 : tie.Need-returns-2 Inv-loop μ-loop

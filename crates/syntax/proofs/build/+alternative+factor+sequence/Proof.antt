@@ -1,0 +1,429 @@
+-- The three reading functions meet their contracts. Three times the number of unread bytes, with the rank of the level, falls with each
+-- call; each way through the code is one lemma (Ways).
+use native.Mathlib.Omega.{arith}
+use mathlib.Core.Path.{sym, _∙_}
+use Rattle.syntax.specs.Byte.{dot, bar, opening, closing}
+use Rattle.syntax.specs.Resolve.{namesAt}
+use Rattle.syntax.specs.PlaceLaws.{mark-to, mark-failed}
+use Rattle.syntax.proofs.Ways.{alternative-alone, alternative-more, sequence-alone, sequence-more}
+use Rattle.syntax.proofs.Ways.{factor-name, factor-unit, factor-group, factor-open}
+use borrow.Author.Needs.{needs}
+use Prim.Native.Nat.{ℕ, _+_, _*_, _-_, _<_}
+use lib.ListN.{length}
+use borrow.Fn.Kinds.{In}
+use borrow.Fn.PlainCycle.{Measures, is, falls, and}
+use Rattle.syntax.proofs.build.alternative.Reads as alternative
+use Rattle.syntax.proofs.build.alternative.Kinds as alternative-kinds
+use Rattle.syntax.proofs.build.+alternative+factor+sequence.Lts-alternative as alternative-lts
+use Rattle.syntax.proofs.build.factor.Reads as factor
+use Rattle.syntax.proofs.build.factor.Kinds as factor-kinds
+use Rattle.syntax.proofs.build.+alternative+factor+sequence.Lts-factor as factor-lts
+use Rattle.syntax.proofs.build.sequence.Reads as sequence
+use Rattle.syntax.proofs.build.sequence.Kinds as sequence-kinds
+use Rattle.syntax.proofs.build.+alternative+factor+sequence.Lts-sequence as sequence-lts
+use Rattle.syntax.proofs.cursor.Cursor.mark.Reads as mark-reads
+use Rattle.syntax.proofs.leaf.occurrence.Reads as occurrence-reads
+use Rattle.syntax.proofs.leaf.suffixes.Reads as suffixes-reads
+use Rattle.syntax.proofs.parts.Part.both.Reads as both-reads
+use Rattle.syntax.proofs.parts.Part.either.Reads as either-reads
+use Rattle.syntax.proofs.parts.Part.ending.Reads as ending-reads
+use Rattle.syntax.proofs.parts.Part.unit.Reads as unit-reads
+use Rattle.syntax.proofs.sets.link.Reads as link-reads
+use Rattle.syntax.proofs.build.+alternative+factor+sequence.{statement}
+use Rattle.syntax.proofs.build.+alternative+factor+sequence.Tie.{close}
+
+abbrev μ-alternative : Measures 5 alternative-kinds.ps ℕ
+μ-alternative κs a = 3 * (length (a .0 .now) - a .1 .1 .1 .1 .1 .0 .at) + 3
+
+abbrev μ-factor : Measures 5 factor-kinds.ps ℕ
+μ-factor κs a = 3 * (length (a .0 .now) - a .1 .1 .1 .1 .1 .0 .at) + 1
+
+abbrev μ-sequence : Measures 5 sequence-kinds.ps ℕ
+μ-sequence κs a = 3 * (length (a .0 .now) - a .1 .1 .1 .1 .1 .0 .at) + 2
+
+abbrev alternative-at : ℕ → In 5 alternative-kinds.ps
+alternative-at t =
+    and 5 alternative-kinds.ps (is 5 alternative-kinds.ps μ-alternative t) alternative.Pre
+
+abbrev alternative-below : ℕ → In 5 alternative-kinds.ps
+alternative-below t =
+    and 5 alternative-kinds.ps (falls 5 alternative-kinds.ps _<_ μ-alternative t) alternative.Pre
+
+abbrev factor-at : ℕ → In 5 factor-kinds.ps
+factor-at t = and 5 factor-kinds.ps (is 5 factor-kinds.ps μ-factor t) factor.Pre
+
+abbrev factor-below : ℕ → In 5 factor-kinds.ps
+factor-below t = and 5 factor-kinds.ps (falls 5 factor-kinds.ps _<_ μ-factor t) factor.Pre
+
+abbrev sequence-at : ℕ → In 5 sequence-kinds.ps
+sequence-at t = and 5 sequence-kinds.ps (is 5 sequence-kinds.ps μ-sequence t) sequence.Pre
+
+abbrev sequence-below : ℕ → In 5 sequence-kinds.ps
+sequence-below t =
+    and 5 sequence-kinds.ps (falls 5 sequence-kinds.ps _<_ μ-sequence t) sequence.Pre
+
+-- What each function may assume of those it calls.
+abbrev alternative-calls : ℕ → alternative-lts.Claims
+alternative-calls t = (sequence-below t, sequence.Post, mark-reads.Asked, mark-reads.Learnt, alternative-below t, alternative.Post, either-reads.Asked, either-reads.Learnt)
+
+abbrev factor-calls : ℕ → factor-lts.Claims
+factor-calls t = (mark-reads.Asked, mark-reads.Learnt, unit-reads.Asked, unit-reads.Learnt, suffixes-reads.Asked, suffixes-reads.Learnt, alternative-below t, alternative.Post, ending-reads.Asked, ending-reads.Learnt, occurrence-reads.Asked, occurrence-reads.Learnt)
+
+abbrev sequence-calls : ℕ → sequence-lts.Claims
+sequence-calls t = (factor-below t, factor.Post, mark-reads.Asked, mark-reads.Learnt, sequence-below t, sequence.Post, link-reads.Asked, link-reads.Learnt, both-reads.Asked, both-reads.Learnt)
+
+alternative-sequence-requires : (t : ℕ) → alternative-lts.Need-sequence-requires (alternative-calls t) (alternative-at t) alternative.Post
+alternative-sequence-requires t c κs = search needs
+
+alternative-mark-requires : (t : ℕ) → alternative-lts.Need-mark-requires (alternative-calls t) (alternative-at t) alternative.Post
+alternative-mark-requires t c κs = search needs
+
+alternative-enum-known-moved : (t : ℕ) → alternative-lts.Need-enum-known-moved (alternative-calls t) (alternative-at t) alternative.Post
+alternative-enum-known-moved t c = search needs
+
+alternative-alternative-requires : (t : ℕ) → alternative-lts.Need-alternative-requires (alternative-calls t) (alternative-at t) alternative.Post
+alternative-alternative-requires t c κs =
+    let moved = c .before .before .before in
+    let marked = moved .before .before in
+    let left = marked .before .before .before .before .before in
+    let start = left .before .before .before .before .before .before .before .before in
+    let to = moved .moved .given in
+    let past =
+    mark-to bar (start .args .s .now) (left .sequence .result .at) (to .0 .0) (sym (to .1) ∙ marked .mark .ensures) in
+    (omega (arith, past .inside, past .next, left .sequence .ensures .onward, start .pre .0), tt)
+
+alternative-either-requires : (t : ℕ) → alternative-lts.Need-either-requires (alternative-calls t) (alternative-at t) alternative.Post
+alternative-either-requires t c κs = search needs
+
+alternative-enum-told : (t : ℕ) → alternative-lts.Need-enum-told (alternative-calls t) (alternative-at t) alternative.Post
+alternative-enum-told t c = search needs
+
+alternative-same-length : (t : ℕ) → alternative-lts.Need-same-length (alternative-calls t) (alternative-at t) alternative.Post
+alternative-same-length t c = search needs
+
+alternative-same-length-2 : (t : ℕ) → alternative-lts.Need-same-length-2 (alternative-calls t) (alternative-at t) alternative.Post
+alternative-same-length-2 t c = search needs
+
+alternative-returns : (t : ℕ) → alternative-lts.Need-returns (alternative-calls t) (alternative-at t) alternative.Post
+alternative-returns t c =
+    let read = c .before .before .before .before .before in
+    let moved = read .before .before .before .before in
+    let marked = moved .before .before in
+    let before = marked .before .before .before .before .before in
+    let start = before .before .before .before .before .before .before .before .before in
+    let a = start .args in
+    let left = before .sequence in
+    let right = read .alternative in
+    let to = moved .moved .given in
+    let past = mark-to bar (a .s .now) (left .result .at) (to .0 .0) (sym (to .1) ∙ marked .mark .ensures) in
+    rw (c .either .ensures)
+    (alternative-more (namesAt (a .text .now) (a .names .now)) (a .s .now) (a .c .at) (a .k) (a .follow .now) (a .enter .now)
+    (left .result) (left .last .1 .1 .1 .0) (left .last .1 .1 .1 .1 .0) (to .0 .0) (right .result) (right .last .1 .1 .1 .0)
+    (right .last .1 .1 .1 .1 .0) (left .ensures) past (right .ensures))
+
+alternative-same-length-3 : (t : ℕ) → alternative-lts.Need-same-length-3 (alternative-calls t) (alternative-at t) alternative.Post
+alternative-same-length-3 t c = search needs
+
+alternative-same-length-4 : (t : ℕ) → alternative-lts.Need-same-length-4 (alternative-calls t) (alternative-at t) alternative.Post
+alternative-same-length-4 t c = search needs
+
+alternative-returns-2 : (t : ℕ) → alternative-lts.Need-returns-2 (alternative-calls t) (alternative-at t) alternative.Post
+alternative-returns-2 t c =
+    let marked = c .before .before in
+    let before = marked .before .before .before .before .before in
+    let start = before .before .before .before .before .before .before .before .before in
+    let a = start .args in
+    let left = before .sequence in
+    alternative-alone (namesAt (a .text .now) (a .names .now)) (a .s .now) (a .c .at) (a .k) (a .follow .now) (a .enter .now)
+    (left .result) (left .last .1 .1 .1 .0) (left .last .1 .1 .1 .1 .0) (left .ensures)
+    (mark-failed bar (a .s .now) (left .result .at) (sym (c .enum-told .given .1) ∙ marked .mark .ensures))
+
+factor-mark-requires : (t : ℕ) → factor-lts.Need-mark-requires (factor-calls t) (factor-at t) factor.Post
+factor-mark-requires t c κs = search needs
+
+factor-enum-known-opened : (t : ℕ) → factor-lts.Need-enum-known-opened (factor-calls t) (factor-at t) factor.Post
+factor-enum-known-opened t c = search needs
+
+factor-mark-requires-2 : (t : ℕ) → factor-lts.Need-mark-requires-2 (factor-calls t) (factor-at t) factor.Post
+factor-mark-requires-2 t c κs = search needs
+
+factor-enum-known-closed : (t : ℕ) → factor-lts.Need-enum-known-closed (factor-calls t) (factor-at t) factor.Post
+factor-enum-known-closed t c = search needs
+
+factor-unit-requires : (t : ℕ) → factor-lts.Need-unit-requires (factor-calls t) (factor-at t) factor.Post
+factor-unit-requires t c κs = search needs
+
+factor-suffixes-requires : (t : ℕ) → factor-lts.Need-suffixes-requires (factor-calls t) (factor-at t) factor.Post
+factor-suffixes-requires t c κs = search needs
+
+factor-enum-told : (t : ℕ) → factor-lts.Need-enum-told (factor-calls t) (factor-at t) factor.Post
+factor-enum-told t c = search needs
+
+factor-alternative-requires : (t : ℕ) → factor-lts.Need-alternative-requires (factor-calls t) (factor-at t) factor.Post
+factor-alternative-requires t c κs =
+    let opened = c .before .before .before .before .before .before in
+    let marked = opened .before .before in
+    let start = marked .before .before .before .before .before .before in
+    let inner = opened .opened .given in
+    let past =
+    mark-to opening (start .args .s .now) (start .args .c .at) (inner .0 .0) (sym (inner .1) ∙ marked .mark .ensures) in
+    (omega (arith, past .inside, past .next, start .pre .0), tt)
+
+factor-mark-requires-3 : (t : ℕ) → factor-lts.Need-mark-requires-3 (factor-calls t) (factor-at t) factor.Post
+factor-mark-requires-3 t c κs = search needs
+
+factor-enum-known-shut : (t : ℕ) → factor-lts.Need-enum-known-shut (factor-calls t) (factor-at t) factor.Post
+factor-enum-known-shut t c = search needs
+
+factor-ending-requires : (t : ℕ) → factor-lts.Need-ending-requires (factor-calls t) (factor-at t) factor.Post
+factor-ending-requires t c κs = search needs
+
+factor-suffixes-requires-2 : (t : ℕ) → factor-lts.Need-suffixes-requires-2 (factor-calls t) (factor-at t) factor.Post
+factor-suffixes-requires-2 t c κs = search needs
+
+factor-enum-told-2 : (t : ℕ) → factor-lts.Need-enum-told-2 (factor-calls t) (factor-at t) factor.Post
+factor-enum-told-2 t c = search needs
+
+factor-enum-told-3 : (t : ℕ) → factor-lts.Need-enum-told-3 (factor-calls t) (factor-at t) factor.Post
+factor-enum-told-3 t c = search needs
+
+factor-occurrence-requires : (t : ℕ) → factor-lts.Need-occurrence-requires (factor-calls t) (factor-at t) factor.Post
+factor-occurrence-requires t c κs = search needs
+
+factor-suffixes-requires-3 : (t : ℕ) → factor-lts.Need-suffixes-requires-3 (factor-calls t) (factor-at t) factor.Post
+factor-suffixes-requires-3 t c κs = search needs
+
+factor-same-length : (t : ℕ) → factor-lts.Need-same-length (factor-calls t) (factor-at t) factor.Post
+factor-same-length t c = search needs
+
+factor-returns : (t : ℕ) → factor-lts.Need-returns (factor-calls t) (factor-at t) factor.Post
+factor-returns t c =
+    let ended = c .before .before in
+    let made = ended .before in
+    let shut = made .before .before .before in
+    let marked-2 = shut .before .before in
+    let opened = marked-2 .before .before in
+    let marked = opened .before .before in
+    let start = marked .before .before .before .before .before .before in
+    let a = start .args in
+    let inner = opened .opened .given in
+    let after = shut .closed .given in
+    let past = mark-to opening (a .s .now) (a .c .at) (inner .0 .0) (sym (inner .1) ∙ marked .mark .ensures) in
+    let end = mark-to closing (a .s .now) (inner .0 .0 .at) (after .0 .0) (sym (after .1) ∙ marked-2 .mark2 .ensures) in
+    factor-unit (namesAt (a .text .now) (a .names .now)) (a .s .now) (a .c .at) (a .k) (a .follow .now) (a .enter .now)
+    (inner .0 .0) (after .0 .0) (ended .suffixes .result) (ended .suffixes .last .1 .0) past end
+    (rw (made .unit .ensures) at (ended .suffixes .ensures))
+
+factor-same-length-2 : (t : ℕ) → factor-lts.Need-same-length-2 (factor-calls t) (factor-at t) factor.Post
+factor-same-length-2 t c = search needs
+
+factor-same-length-3 : (t : ℕ) → factor-lts.Need-same-length-3 (factor-calls t) (factor-at t) factor.Post
+factor-same-length-3 t c = search needs
+
+factor-returns-2 : (t : ℕ) → factor-lts.Need-returns-2 (factor-calls t) (factor-at t) factor.Post
+factor-returns-2 t c =
+    let ended = c .before .before in
+    let made = ended .before in
+    let shut = made .before .before .before in
+    let marked-3 = shut .before .before in
+    let read = marked-3 .before .before .before .before .before in
+    let told = read .before .before .before in
+    let marked-2 = told .before .before in
+    let opened = marked-2 .before .before in
+    let marked = opened .before .before in
+    let start = marked .before .before .before .before .before .before in
+    let a = start .args in
+    let inner = opened .opened .given in
+    let group = read .alternative in
+    let after = shut .shut .given in
+    let past = mark-to opening (a .s .now) (a .c .at) (inner .0 .0) (sym (inner .1) ∙ marked .mark .ensures) in
+    let none = mark-failed closing (a .s .now) (inner .0 .0 .at) (sym (told .enum-told .given .1) ∙ marked-2 .mark2 .ensures) in
+    let end = mark-to closing (a .s .now) (group .result .at) (after .0 .0) (sym (after .1) ∙ marked-3 .mark3 .ensures) in
+    factor-group (namesAt (a .text .now) (a .names .now)) (a .s .now) (a .c .at) (a .k) (a .follow .now) (a .enter .now)
+    (inner .0 .0) (after .0 .0) (group .result) (ended .suffixes2 .result) (group .last .1 .1 .1 .0) (group .last .1 .1 .1 .1 .0)
+    (ended .suffixes2 .last .1 .0) past none (group .ensures) end (rw (made .ending .ensures) at (ended .suffixes2 .ensures))
+
+factor-same-length-4 : (t : ℕ) → factor-lts.Need-same-length-4 (factor-calls t) (factor-at t) factor.Post
+factor-same-length-4 t c = search needs
+
+factor-same-length-5 : (t : ℕ) → factor-lts.Need-same-length-5 (factor-calls t) (factor-at t) factor.Post
+factor-same-length-5 t c = search needs
+
+factor-returns-3 : (t : ℕ) → factor-lts.Need-returns-3 (factor-calls t) (factor-at t) factor.Post
+factor-returns-3 t c =
+    let marked-3 = c .before .before in
+    let read = marked-3 .before .before .before .before .before in
+    let told = read .before .before .before in
+    let marked-2 = told .before .before in
+    let opened = marked-2 .before .before in
+    let marked = opened .before .before in
+    let start = marked .before .before .before .before .before .before in
+    let a = start .args in
+    let inner = opened .opened .given in
+    let group = read .alternative in
+    let past = mark-to opening (a .s .now) (a .c .at) (inner .0 .0) (sym (inner .1) ∙ marked .mark .ensures) in
+    let none = mark-failed closing (a .s .now) (inner .0 .0 .at) (sym (told .enum-told .given .1) ∙ marked-2 .mark2 .ensures) in
+    let end = mark-failed closing (a .s .now) (group .result .at) (sym (c .enum-told2 .given .1) ∙ marked-3 .mark3 .ensures) in
+    factor-open (namesAt (a .text .now) (a .names .now)) (a .s .now) (a .c .at) (a .k) (a .follow .now) (a .enter .now)
+    (inner .0 .0) (group .result) (group .last .1 .1 .1 .0) (group .last .1 .1 .1 .1 .0) past none (group .ensures) end
+
+factor-same-length-6 : (t : ℕ) → factor-lts.Need-same-length-6 (factor-calls t) (factor-at t) factor.Post
+factor-same-length-6 t c = search needs
+
+factor-same-length-7 : (t : ℕ) → factor-lts.Need-same-length-7 (factor-calls t) (factor-at t) factor.Post
+factor-same-length-7 t c = search needs
+
+factor-returns-4 : (t : ℕ) → factor-lts.Need-returns-4 (factor-calls t) (factor-at t) factor.Post
+factor-returns-4 t c =
+    let ended = c .before .before in
+    let read = ended .before .before .before .before .before .before in
+    let told = read .before .before .before in
+    let marked = told .before .before in
+    let start = marked .before .before .before .before .before .before in
+    let a = start .args in
+    let name = read .occurrence in
+    let none = mark-failed opening (a .s .now) (a .c .at) (sym (told .enum-told3 .given .1) ∙ marked .mark .ensures) in
+    factor-name (namesAt (a .text .now) (a .names .now)) (a .s .now) (a .c .at) (a .k) (a .follow .now) (a .enter .now)
+    (name .result) (ended .suffixes3 .result) (name .last .1 .1 .1 .0) (name .last .1 .1 .1 .1 .0) (ended .suffixes3 .last .1 .0) none
+    (name .ensures) (ended .suffixes3 .ensures)
+
+sequence-factor-requires : (t : ℕ) → sequence-lts.Need-factor-requires (sequence-calls t) (sequence-at t) sequence.Post
+sequence-factor-requires t c κs = search needs
+
+sequence-mark-requires : (t : ℕ) → sequence-lts.Need-mark-requires (sequence-calls t) (sequence-at t) sequence.Post
+sequence-mark-requires t c κs = search needs
+
+sequence-enum-known-moved : (t : ℕ) → sequence-lts.Need-enum-known-moved (sequence-calls t) (sequence-at t) sequence.Post
+sequence-enum-known-moved t c = search needs
+
+sequence-sequence-requires : (t : ℕ) → sequence-lts.Need-sequence-requires (sequence-calls t) (sequence-at t) sequence.Post
+sequence-sequence-requires t c κs =
+    let moved = c .before .before .before in
+    let marked = moved .before .before in
+    let left = marked .before .before .before .before .before in
+    let start = left .before .before .before .before .before .before .before .before in
+    let to = moved .moved .given in
+    let past =
+    mark-to dot (start .args .s .now) (left .factor .result .at) (to .0 .0) (sym (to .1) ∙ marked .mark .ensures) in
+    (omega (arith, past .inside, past .next, left .factor .ensures .onward, start .pre .0), tt)
+
+sequence-link-requires : (t : ℕ) → sequence-lts.Need-link-requires (sequence-calls t) (sequence-at t) sequence.Post
+sequence-link-requires t c κs = search needs
+
+sequence-both-requires : (t : ℕ) → sequence-lts.Need-both-requires (sequence-calls t) (sequence-at t) sequence.Post
+sequence-both-requires t c κs = search needs
+
+sequence-enum-told : (t : ℕ) → sequence-lts.Need-enum-told (sequence-calls t) (sequence-at t) sequence.Post
+sequence-enum-told t c = search needs
+
+sequence-same-length : (t : ℕ) → sequence-lts.Need-same-length (sequence-calls t) (sequence-at t) sequence.Post
+sequence-same-length t c =
+    let linked = c .before .before .before in
+    let read = linked .before .before .before .before .before .before .before .before in
+    let before = read .before .before .before .before .before .before .before .before .before .before .before in
+    linked .link .kept .0 ∙ read .sequence .kept .1 .1 .1 .0 ∙ before .factor .kept .1 .1 .1 .0
+
+sequence-same-length-2 : (t : ℕ) → sequence-lts.Need-same-length-2 (sequence-calls t) (sequence-at t) sequence.Post
+sequence-same-length-2 t c =
+    let read = c .before .before .before .before .before .before .before .before .before .before .before in
+    let before = read .before .before .before .before .before .before .before .before .before .before .before in
+    read .sequence .kept .1 .1 .1 .1 .0 ∙ before .factor .kept .1 .1 .1 .1 .0
+
+sequence-returns : (t : ℕ) → sequence-lts.Need-returns (sequence-calls t) (sequence-at t) sequence.Post
+sequence-returns t c =
+    let linked = c .before .before .before in
+    let read = linked .before .before .before .before .before .before .before .before in
+    let moved = read .before .before .before .before in
+    let marked = moved .before .before in
+    let before = marked .before .before .before .before .before in
+    let start = before .before .before .before .before .before .before .before .before in
+    let a = start .args in
+    let left = before .factor in
+    let right = read .sequence in
+    let to = moved .moved .given in
+    let past = mark-to dot (a .s .now) (left .result .at) (to .0 .0) (sym (to .1) ∙ marked .mark .ensures) in
+    rw (c .both .ensures, linked .link .ensures)
+    (sequence-more (namesAt (a .text .now) (a .names .now)) (a .s .now) (a .c .at) (a .k) (a .follow .now) (a .enter .now)
+    (left .result) (left .last .1 .1 .1 .0) (left .last .1 .1 .1 .1 .0) (to .0 .0) (right .result) (right .last .1 .1 .1 .0)
+    (right .last .1 .1 .1 .1 .0) (left .ensures) past (right .ensures))
+
+sequence-same-length-3 : (t : ℕ) → sequence-lts.Need-same-length-3 (sequence-calls t) (sequence-at t) sequence.Post
+sequence-same-length-3 t c = search needs
+
+sequence-same-length-4 : (t : ℕ) → sequence-lts.Need-same-length-4 (sequence-calls t) (sequence-at t) sequence.Post
+sequence-same-length-4 t c = search needs
+
+sequence-returns-2 : (t : ℕ) → sequence-lts.Need-returns-2 (sequence-calls t) (sequence-at t) sequence.Post
+sequence-returns-2 t c =
+    let marked = c .before .before in
+    let before = marked .before .before .before .before .before in
+    let start = before .before .before .before .before .before .before .before .before in
+    let a = start .args in
+    let left = before .factor in
+    sequence-alone (namesAt (a .text .now) (a .names .now)) (a .s .now) (a .c .at) (a .k) (a .follow .now) (a .enter .now)
+    (left .result) (left .last .1 .1 .1 .0) (left .last .1 .1 .1 .1 .0) (left .ensures)
+    (mark-failed dot (a .s .now) (left .result .at) (sym (c .enum-told .given .1) ∙ marked .mark .ensures))
+
+pub +alternative+factor+sequence-spec : {M : Type 1} → statement M
++alternative+factor+sequence-spec =
+    close μ-alternative μ-factor μ-sequence (λ t. alternative-lts.spec (alternative-calls t)
+    (alternative-at t)
+    alternative.Post
+    (alternative-sequence-requires t)
+    (alternative-mark-requires t)
+    (alternative-enum-known-moved t)
+    (alternative-alternative-requires t)
+    (alternative-either-requires t)
+    (alternative-enum-told t)
+    (alternative-same-length t)
+    (alternative-same-length-2 t)
+    (alternative-returns t)
+    (alternative-same-length-3 t)
+    (alternative-same-length-4 t)
+    (alternative-returns-2 t))
+    (λ t. factor-lts.spec (factor-calls t)
+    (factor-at t)
+    factor.Post
+    (factor-mark-requires t)
+    (factor-enum-known-opened t)
+    (factor-mark-requires-2 t)
+    (factor-enum-known-closed t)
+    (factor-unit-requires t)
+    (factor-suffixes-requires t)
+    (factor-enum-told t)
+    (factor-alternative-requires t)
+    (factor-mark-requires-3 t)
+    (factor-enum-known-shut t)
+    (factor-ending-requires t)
+    (factor-suffixes-requires-2 t)
+    (factor-enum-told-2 t)
+    (factor-enum-told-3 t)
+    (factor-occurrence-requires t)
+    (factor-suffixes-requires-3 t)
+    (factor-same-length t)
+    (factor-returns t)
+    (factor-same-length-2 t)
+    (factor-same-length-3 t)
+    (factor-returns-2 t)
+    (factor-same-length-4 t)
+    (factor-same-length-5 t)
+    (factor-returns-3 t)
+    (factor-same-length-6 t)
+    (factor-same-length-7 t)
+    (factor-returns-4 t))
+    λ t. sequence-lts.spec (sequence-calls t)
+    (sequence-at t)
+    sequence.Post
+    (sequence-factor-requires t)
+    (sequence-mark-requires t)
+    (sequence-enum-known-moved t)
+    (sequence-sequence-requires t)
+    (sequence-link-requires t)
+    (sequence-both-requires t)
+    (sequence-enum-told t)
+    (sequence-same-length t)
+    (sequence-same-length-2 t)
+    (sequence-returns t)
+    (sequence-same-length-3 t)
+    (sequence-same-length-4 t)
+    (sequence-returns-2 t)

@@ -1,0 +1,130 @@
+// Glushkov's automaton of an expression, built from its text in lent tables: three functions read an alternative, a sequence and a factor
+// and call each other. The text is one that the grammar check has passed.
+use super::cursor::Cursor;
+use super::cursor::Moved;
+use super::leaf::occurrence;
+use super::leaf::suffixes;
+use super::parts::Part;
+use super::parts::when;
+use super::sets::link;
+use super::sets::put;
+use places::Places;
+ghost use Rattle.syntax.specs.Parser.{alternatives, sequences, factors};
+ghost use Rattle.syntax.specs.Resolve.{namesAt};
+ghost use Rattle.syntax.specs.Build.{Builds, Makes};
+
+// The automaton of an expression but for its tables: the number of its places after the start, and the accepting places.
+pub struct Automaton {
+    pub size: u64,
+    pub accepting: Places,
+}
+
+// Builds the automaton of the expression s in the lent tables: the follow set of each place, and for each label the places that it may
+// enter. The text and the table `names` say where the labels' names stand.
+pub fn build(
+    s: &[u8],
+    text: &[u8],
+    names: &[u64],
+    follow: &mut [u64],
+    enter: &mut [u64],
+) -> Automaton
+    ensures { λ r. ⌜ Makes (namesAt (now (text .entry)) (now (names .entry))) (now (s .entry)) (now (follow .entry)) (now (enter .entry)) r
+        (now (follow .exit)) (now (enter .exit)) ⌝ }
+{
+    let whole = alternative(s, text, names, follow, enter, Cursor { at: 0 }, 1);
+    let first = whole.first;
+    let last = whole.last;
+    put(follow, 0, first);
+    let accepting = when(whole.nullable, Places::START).union(last);
+    Automaton {
+        size: whole.next - 1,
+        accepting: accepting,
+    }
+}
+
+fn alternative(
+    s: &[u8],
+    text: &[u8],
+    names: &[u64],
+    follow: &mut [u64],
+    enter: &mut [u64],
+    c: Cursor,
+    k: u64,
+) -> Part
+    ensures { λ r. ⌜ Builds alternatives 3 (namesAt (now (text .entry)) (now (names .entry))) (now (s .entry)) (c .at) k
+        (now (follow .entry)) (now (enter .entry)) r (now (follow .exit)) (now (enter .exit)) ⌝ }
+{
+    let left = sequence(s, text, names, follow, enter, c, k);
+    let end = Cursor { at: left.at };
+    let moved = end.mark(s, b'|');
+    match moved {
+        Moved::To(next) => {
+            let right = alternative(s, text, names, follow, enter, next, left.next);
+            left.either(right)
+        }
+        Moved::Failed => left,
+    }
+}
+
+fn sequence(
+    s: &[u8],
+    text: &[u8],
+    names: &[u64],
+    follow: &mut [u64],
+    enter: &mut [u64],
+    c: Cursor,
+    k: u64,
+) -> Part
+    ensures { λ r. ⌜ Builds sequences 2 (namesAt (now (text .entry)) (now (names .entry))) (now (s .entry)) (c .at) k
+        (now (follow .entry)) (now (enter .entry)) r (now (follow .exit)) (now (enter .exit)) ⌝ }
+{
+    let left = factor(s, text, names, follow, enter, c, k);
+    let end = Cursor { at: left.at };
+    let moved = end.mark(s, b'.');
+    match moved {
+        Moved::To(next) => {
+            let right = sequence(s, text, names, follow, enter, next, left.next);
+            let lasts = left.last;
+            let firsts = right.first;
+            link(follow, lasts, firsts);
+            left.both(right)
+        }
+        Moved::Failed => left,
+    }
+}
+
+fn factor(
+    s: &[u8],
+    text: &[u8],
+    names: &[u64],
+    follow: &mut [u64],
+    enter: &mut [u64],
+    c: Cursor,
+    k: u64,
+) -> Part
+    ensures { λ r. ⌜ Builds factors 1 (namesAt (now (text .entry)) (now (names .entry))) (now (s .entry)) (c .at) k
+        (now (follow .entry)) (now (enter .entry)) r (now (follow .exit)) (now (enter .exit)) ⌝ }
+{
+    let opened = c.mark(s, b'(');
+    match opened {
+        Moved::To(inner) => {
+            let closed = inner.mark(s, b')');
+            match closed {
+                Moved::To(after) => suffixes(s, follow, Part::unit(after.at, k)),
+                Moved::Failed => {
+                    let group = alternative(s, text, names, follow, enter, inner, k);
+                    let end = Cursor { at: group.at };
+                    let shut = end.mark(s, b')');
+                    match shut {
+                        Moved::To(after) => suffixes(s, follow, group.ending(after.at)),
+                        Moved::Failed => group,
+                    }
+                }
+            }
+        }
+        Moved::Failed => {
+            let name = occurrence(s, text, names, follow, enter, c, k);
+            suffixes(s, follow, name)
+        }
+    }
+}

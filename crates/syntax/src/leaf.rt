@@ -1,0 +1,65 @@
+// What stands around the leaves of an expression: a label's occurrence, and the marks after a factor.
+use super::cursor::Cursor;
+use super::parts::Part;
+use super::sets::add;
+use super::sets::link;
+use super::sets::put;
+use super::table::find;
+use places::Places;
+ghost use Rattle.syntax.specs.Parser.{named};
+ghost use Rattle.syntax.specs.Resolve.{namesAt};
+ghost use Rattle.syntax.specs.Build.{Builds, Suffixed};
+
+// The occurrence of a label that stands at the cursor, which is place k.
+pub fn occurrence(
+    s: &[u8],
+    text: &[u8],
+    names: &[u64],
+    follow: &mut [u64],
+    enter: &mut [u64],
+    c: Cursor,
+    k: u64,
+) -> Part
+    ensures { λ r. ⌜ Builds (λ n. named) 0 (namesAt (now (text .entry)) (now (names .entry))) (now (s .entry)) (c .at) k
+        (now (follow .entry)) (now (enter .entry)) r (now (follow .exit)) (now (enter .exit)) ⌝ }
+{
+    let at = c.at;
+    let past = c.past_run(s);
+    let end = past.at;
+    if at < end {
+        if k < 64 {
+            let label = find(text, names, &s[at..end]);
+            let place = Places::one(k);
+            put(follow, k, Places::EMPTY);
+            add(enter, label, place);
+            return Part::single(end, k + 1, place);
+        }
+    }
+    Part::unit(at, k)
+}
+
+// A part with the marks `*` and `?` that stand after it.
+pub fn suffixes(s: &[u8], follow: &mut [u64], part: Part) -> Part
+    ensures { λ r. ⌜ Suffixed (now (s .entry)) part (now (follow .entry)) r (now (follow .exit)) ⌝ }
+{
+    let first = part.first;
+    let last = part.last;
+    let mut at = part.at;
+    let mut nullable = part.nullable;
+    while at < s.len() {
+        if s[at] == b'*' {
+            link(follow, last, first);
+        } else if s[at] != b'?' {
+            break;
+        }
+        nullable = true;
+        at += 1;
+    }
+    Part {
+        at: at,
+        next: part.next,
+        nullable: nullable,
+        first: first,
+        last: last,
+    }
+}
