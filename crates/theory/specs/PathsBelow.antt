@@ -9,7 +9,7 @@ use Rattle.theory.specs.Path.{Path, Language, Below, nothing, next}
 use Rattle.theory.specs.Expression.{Expression, empty, label, alternative, sequence, star, optional, Star, none, more, IsPath}
 use Rattle.theory.specs.Word as W
 use Rattle.theory.specs.Word.{Word}
-use Rattle.theory.specs.Job.{Job, LabelsBelow, WellFormed, ListPath, SpelledBy}
+use Rattle.theory.specs.Job.{Job, LabelsBelow, WellFormed, QueryPath, ListPath, SpelledBy}
 
 pub below-append : {k : ℕ} {p q : Path} → Below k p → Below k q → Below k (p ++ q)
 below-append nothing b = b
@@ -32,6 +32,10 @@ path-below k (sequence l r) b p (u, v, e, h, i) = joined e (path-below k l (b .0
 path-below k (star e) b p s = star-below (path-below k e b) s
 path-below k (optional e) b p (inl i) = subst (Below k) (sym i) nothing
 path-below k (optional e) b p (inr h) = path-below k e b p h
+
+-- A query path of a well-formed job.
+pub query-below : (J : Job) → WellFormed J → (p : Path) → QueryPath J p → Below (J .labels) p
+query-below J f = path-below (J .labels) (J .query) (f .query)
 
 -- A path of a list of a well-formed job.
 pub list-path-below : (J : Job) → WellFormed J → (v : ℕ) (p : Path) → ListPath J v p → Below (J .labels) p

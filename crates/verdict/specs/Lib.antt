@@ -1,4 +1,18 @@
+-- Mechanism and meaning.
 pub mod Cover
 pub mod Pairs
 pub mod Verdict
 pub mod Verdicts
+-- What a set of cover places means.
+pub mod CoverPlaces
+pub mod CoverMoves
+pub mod CoverEnds
+pub mod CoverMeaning
+pub mod CoverReached
+-- Pairs, missed paths and the verdict.
+pub mod PairLaws
+pub mod PairCounts
+pub mod MissedPairs
+pub mod LeastWords
+pub mod FirstMisses
+pub mod VerdictLaws
