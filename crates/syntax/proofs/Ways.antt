@@ -16,7 +16,8 @@ use Rattle.syntax.specs.declared.cursor.Cursor.{Cursor}
 use Rattle.syntax.specs.declared.parts.Part.{Part}
 use Rattle.syntax.specs.Byte.{Bytes, dot, bar, asterisk, question, opening, closing}
 use Rattle.syntax.specs.Grammar.{Tree}
-use Rattle.syntax.specs.Parser.{Parsed, failed, parsed, pastMark, suffixes, suffixed, closed, joined, named, alternatives, sequences, factors}
+use Rattle.syntax.specs.Parser.{Parsed, failed, parsed, pastMark, suffixes, suffixed, closed, joined, named}
+use Rattle.syntax.specs.Parser.{alternatives, sequences, factors}
 use Rattle.syntax.specs.Resolve.{numbered}
 use Rattle.syntax.specs.Part.{unit, either, both, ended}
 use Rattle.syntax.specs.PlaceLaws.{Past}
@@ -62,9 +63,12 @@ module _ (f g : ℕ → Bytes → Parsed) (join : Tree → Tree → Tree) (m ran
     (sizes : (l u : Tree) → size (numbered labels (join l u)) ≡ size (numbered labels l) + size (numbered labels u))
     (s : Bytes) (at k : ℕ) (follow enter : List ℕ) (p : Part) (f₁ e₁ : List ℕ)
     (left : Builds g rank labels s at k follow enter p f₁ e₁) where
+  joined-size : (t l u : Tree) → t ≡ join l u → size (numbered labels t) ≡ size (numbered labels l) + size (numbered labels u)
+  joined-size t l u e = ap (λ x. size (numbered labels x)) e ∙ sizes l u
+
   room-left : (t l u : Tree) → t ≡ join l u → Room (numbered labels t) k follow → Room (numbered labels l) k follow
   room-left t l u e room =
-      let n : size (numbered labels t) ≡ size (numbered labels l) + size (numbered labels u) = ap (λ x. size (numbered labels x)) e ∙ sizes l u in
+      let n = joined-size t l u e in
       record { few = omega (arith, room .few); long = omega (arith, room .long) }
 
   -- No mark comes after the first part: it is the whole.
@@ -114,7 +118,7 @@ module _ (f g : ℕ → Bytes → Parsed) (join : Tree → Tree → Tree) (m ran
           let first = room-left t l u same room in
           let done = left .reads n l w enough e first in
           let from : v ≡ drop (c .at) s = some-same v (drop (c .at) s) (sym d ∙ ap (pastMark m) (sym (done .0)) ∙ mark .past) in
-          let all : size (numbered labels t) ≡ size (numbered labels l) + size (numbered labels u) = ap (λ x. size (numbered labels x)) same ∙ sizes l u in
+          let all = joined-size t l u same in
           let rest-room : Room (numbered labels u) (p .next) f₁ =
           record { few = omega (arith, room .few, done .1 .next); long = omega (arith, room .long, done .1 .next, left .same-follow) } in
           let then = right .reads n u rest (omega (arith, mark .inside, mark .next, left .onward)) (ap (f n) (sym from) ∙ h) rest-room in
@@ -205,7 +209,8 @@ with-marks labels s k follow enter u t w rest p r f₁ f₂ e₁ marks e room re
     (ap (suffixes u) (done .0) ∙ e) in (
       sym (ap (λ (x : Marked). x .rest) (marks .marks)) ∙ all .0,
       subst (λ (x : Part). Built k (numbered labels t) follow enter x f₂ e₁) (sym (marks .same))
-          (subst (λ (x : Marked). Built k (numbered labels t) follow enter (ended (r .at) (x .nullable) p) (x .follow) e₁) (marks .marks) (all .1)),
+          (subst (λ (x : Marked). Built k (numbered labels t) follow enter (ended (r .at) (x .nullable) p) (x .follow) e₁) (marks .marks)
+          (all .1)),
     )
 
 suffixed-cases : (q : Parsed) (t : Tree) (rest : Bytes) → suffixed q ≡ parsed t rest

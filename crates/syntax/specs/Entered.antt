@@ -30,7 +30,8 @@ entered-nothing k e a [] h = refl
 entered-nothing k e a (s ∷ t) h = ap₂ _∷_ (ap (λ x. union s x) (h a) ∙ or-zero-r s) (entered-nothing k e (suc a) t h)
 
 -- Two expressions with the same labelled places.
-pub entered-same : (k : ℕ) (d e : Expression) (a : ℕ) (t : List ℕ) → ((b : ℕ) → labelled k d b ≡ labelled k e b) → entered k d a t ≡ entered k e a t
+pub entered-same : (k : ℕ) (d e : Expression) (a : ℕ) (t : List ℕ) → ((b : ℕ) → labelled k d b ≡ labelled k e b)
+    → entered k d a t ≡ entered k e a t
 unfolding entered
 entered-same k d e a [] h = refl
 entered-same k d e a (s ∷ t) h = ap₂ _∷_ (ap (λ x. union s x) (h a)) (entered-same k d e (suc a) t h)

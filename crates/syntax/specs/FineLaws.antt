@@ -1,31 +1,23 @@
 -- What it tells of a text that the check finds no fault in it.
-use Prim.Native.Nat.{ℕ, _+_, _≤_}
+use Prim.Native.Nat.{ℕ, _≤_}
 use mathlib.Core.Bool.{Bool, true, false}
 use mathlib.Core.List.{List, [], _∷_}
 use mathlib.Core.Option.{Option, some, none}
-use mathlib.Core.Path.{_≡_, refl, sym, ap, ap₂, _∙_}
+use mathlib.Core.Path.{_≡_, refl, ap}
 use native.Mathlib.Omega.{arith}
 use lib.Dec.{leb}
-use lib.ListN.{length, length-append}
+use lib.ListN.{length}
 use borrow.Author.Tests.{leb-true}
-use Rattle.theory.specs.Expression.{Expression, empty, label, alternative, sequence, star, optional}
+use Rattle.theory.specs.Expression.{Expression}
 use Rattle.theory.specs.Standing.{size}
 use Rattle.syntax.specs.declared.refusal.Refusal.the-variants.{NotInGrammar, UnknownLabel, ExpressionTooLong, TooDeep, TooManyOccurrences}
 use Rattle.syntax.specs.Byte.{Bytes}
 use Rattle.syntax.specs.Grammar.{Tree}
 use Rattle.syntax.specs.Parser.{Parsed, failed, parsed, alternatives, calls, parse}
 use Rattle.syntax.specs.Limits.{mostBytes, mostNesting, mostOccurrences, nesting, leaves}
+use Rattle.syntax.specs.LimitsLaws.{leaves-size}
 use Rattle.syntax.specs.Resolve.{numbered, known}
 use Rattle.syntax.specs.Check.{Checked, fine, faulty, check, checkTree}
-
-pub numbered-size : (labels : List Bytes) (t : Tree) → size (numbered labels t) ≡ length (leaves t)
-unfolding numbered leaves
-numbered-size labels empty = refl
-numbered-size labels (label n) = refl
-numbered-size labels (alternative l r) = ap₂ _+_ (numbered-size labels l) (numbered-size labels r) ∙ sym (length-append (leaves l) (leaves r))
-numbered-size labels (sequence l r) = ap₂ _+_ (numbered-size labels l) (numbered-size labels r) ∙ sym (length-append (leaves l) (leaves r))
-numbered-size labels (star t) = numbered-size labels t
-numbered-size labels (optional t) = numbered-size labels t
 
 -- The parser reads the whole text, and the expression, which has few occurrences, is that of the parser's tree.
 pub record Fine (labels : List Bytes) (s : Bytes) (e : Expression) : Type 0 where
@@ -82,5 +74,5 @@ fine-cases labels s e h = short (leb (length s) mostBytes) (parse s) refl h
           tree = t;
           whole = parse-whole s t d;
           expression = r .0;
-          few = omega (arith, r .1, numbered-size labels t, ap size (r .0));
+          few = omega (arith, r .1, leaves-size labels t, ap size (r .0));
         }

@@ -40,8 +40,8 @@ both l r =
     }
 
 -- A part is known by its numbers.
-pub same-part : (p q : Part) → p .at ≡ q .at → p .next ≡ q .next → p .nullable ≡ q .nullable → p .first .0 ≡ q .first .0 → p .last .0 ≡ q .last .0
-    → p ≡ q
+pub same-part : (p q : Part) → p .at ≡ q .at → p .next ≡ q .next → p .nullable ≡ q .nullable → p .first .0 ≡ q .first .0
+    → p .last .0 ≡ q .last .0 → p ≡ q
 same-part p q at next nullable first last =
     λ i. record { at = at i; next = next i; nullable = nullable i; first = record { 0 = first i }; last = record { 0 = last i } }
 

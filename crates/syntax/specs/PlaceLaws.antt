@@ -25,7 +25,8 @@ pub mark-to : (m : ℕ) (s : Bytes) (at : ℕ) (c : Cursor) → To c ≡ moved s
 unfolding pastMark
 mark-to m s at c e = let r = go (drop at s) refl e in record { inside = r .0; next = r .1; past = r .2 }
   where
-    go : (x : Bytes) → drop at s ≡ x → To c ≡ moved s (pastMark m x) → (at < length s) × (c .at ≡ suc at) × (pastMark m x ≡ some (drop (c .at) s))
+    go : (x : Bytes) → drop at s ≡ x → To c ≡ moved s (pastMark m x)
+        → (at < length s) × (c .at ≡ suc at) × (pastMark m x ≡ some (drop (c .at) s))
     go [] d e = let z : _≡_ {A = ℕ} 0 1 = cc in absurd (omega arith)
     go (b ∷ v) d e = test (eqb b m) e
       where

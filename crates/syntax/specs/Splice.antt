@@ -29,7 +29,8 @@ pub splice-splice : (k : ℕ) (a b t : List ℕ) → k + length a ≤ length t �
 unfolding splice
 splice-splice k a b t h =
     let front : length (take k t ++ a) ≡ k + length a = length-append (take k t) a ∙ ap (λ n. n + length a) (length-take-le k t (omega arith)) in
-    let whole : take k t ++ (a ++ drop (k + length a) t) ≡ (take k t ++ a) ++ drop (k + length a) t = sym (append-assoc (take k t) a (drop (k + length a) t)) in
+    let whole : take k t ++ (a ++ drop (k + length a) t) ≡ (take k t ++ a) ++ drop (k + length a) t =
+    sym (append-assoc (take k t) a (drop (k + length a) t)) in
     let before : take (k + length a) (take k t ++ (a ++ drop (k + length a) t)) ≡ take k t ++ a =
     ap (λ l. take (k + length a) l) whole ∙ take-at (take k t ++ a) (drop (k + length a) t) (k + length a) front in
     let rest : drop (k + length a) (take k t ++ (a ++ drop (k + length a) t)) ≡ drop (k + length a) t =

@@ -64,13 +64,46 @@ sequence-below t =
 
 -- What each function may assume of those it calls.
 abbrev alternative-calls : ℕ → alternative-lts.Claims
-alternative-calls t = (sequence-below t, sequence.Post, mark-reads.Asked, mark-reads.Learnt, alternative-below t, alternative.Post, either-reads.Asked, either-reads.Learnt)
+alternative-calls t = (
+  sequence-below t,
+  sequence.Post,
+  mark-reads.Asked,
+  mark-reads.Learnt,
+  alternative-below t,
+  alternative.Post,
+  either-reads.Asked,
+  either-reads.Learnt,
+)
 
 abbrev factor-calls : ℕ → factor-lts.Claims
-factor-calls t = (mark-reads.Asked, mark-reads.Learnt, unit-reads.Asked, unit-reads.Learnt, suffixes-reads.Asked, suffixes-reads.Learnt, alternative-below t, alternative.Post, ending-reads.Asked, ending-reads.Learnt, occurrence-reads.Asked, occurrence-reads.Learnt)
+factor-calls t = (
+  mark-reads.Asked,
+  mark-reads.Learnt,
+  unit-reads.Asked,
+  unit-reads.Learnt,
+  suffixes-reads.Asked,
+  suffixes-reads.Learnt,
+  alternative-below t,
+  alternative.Post,
+  ending-reads.Asked,
+  ending-reads.Learnt,
+  occurrence-reads.Asked,
+  occurrence-reads.Learnt,
+)
 
 abbrev sequence-calls : ℕ → sequence-lts.Claims
-sequence-calls t = (factor-below t, factor.Post, mark-reads.Asked, mark-reads.Learnt, sequence-below t, sequence.Post, link-reads.Asked, link-reads.Learnt, both-reads.Asked, both-reads.Learnt)
+sequence-calls t = (
+  factor-below t,
+  factor.Post,
+  mark-reads.Asked,
+  mark-reads.Learnt,
+  sequence-below t,
+  sequence.Post,
+  link-reads.Asked,
+  link-reads.Learnt,
+  both-reads.Asked,
+  both-reads.Learnt,
+)
 
 alternative-sequence-requires : (t : ℕ) → alternative-lts.Need-sequence-requires (alternative-calls t) (alternative-at t) alternative.Post
 alternative-sequence-requires t c κs = search needs
@@ -88,8 +121,8 @@ alternative-alternative-requires t c κs =
     let left = marked .before .before .before .before .before in
     let start = left .before .before .before .before .before .before .before .before in
     let to = moved .moved .given in
-    let past =
-    mark-to bar (start .args .s .now) (left .sequence .result .at) (to .0 .0) (sym (to .1) ∙ marked .mark .ensures) in
+    let at = left .sequence .result .at in
+    let past = mark-to bar (start .args .s .now) at (to .0 .0) (sym (to .1) ∙ marked .mark .ensures) in
     (omega (arith, past .inside, past .next, left .sequence .ensures .onward, start .pre .0), tt)
 
 alternative-either-requires : (t : ℕ) → alternative-lts.Need-either-requires (alternative-calls t) (alternative-at t) alternative.Post
@@ -165,8 +198,8 @@ factor-alternative-requires t c κs =
     let marked = opened .before .before in
     let start = marked .before .before .before .before .before .before in
     let inner = opened .opened .given in
-    let past =
-    mark-to opening (start .args .s .now) (start .args .c .at) (inner .0 .0) (sym (inner .1) ∙ marked .mark .ensures) in
+    let a = start .args in
+    let past = mark-to opening (a .s .now) (a .c .at) (inner .0 .0) (sym (inner .1) ∙ marked .mark .ensures) in
     (omega (arith, past .inside, past .next, start .pre .0), tt)
 
 factor-mark-requires-3 : (t : ℕ) → factor-lts.Need-mark-requires-3 (factor-calls t) (factor-at t) factor.Post
@@ -303,8 +336,8 @@ sequence-sequence-requires t c κs =
     let left = marked .before .before .before .before .before in
     let start = left .before .before .before .before .before .before .before .before in
     let to = moved .moved .given in
-    let past =
-    mark-to dot (start .args .s .now) (left .factor .result .at) (to .0 .0) (sym (to .1) ∙ marked .mark .ensures) in
+    let at = left .factor .result .at in
+    let past = mark-to dot (start .args .s .now) at (to .0 .0) (sym (to .1) ∙ marked .mark .ensures) in
     (omega (arith, past .inside, past .next, left .factor .ensures .onward, start .pre .0), tt)
 
 sequence-link-requires : (t : ℕ) → sequence-lts.Need-link-requires (sequence-calls t) (sequence-at t) sequence.Post

@@ -94,7 +94,10 @@ returns-2 c =
       onward = l .inv .0;
       same-follow = l .inv .1;
       same = refl;
-      marks = sym (l .inv .2) ∙ marked-other _ _ _ (l .at) _ _ (c .before .before .before .before .loop-test .taken) (c .before .before .if1 .left) (c .if2 .taken);
+      marks =
+          sym (l .inv .2)
+          ∙ marked-other _ _ _ (l .at) _ _ (c .before .before .before .before .loop-test .taken) (c .before .before .if1 .left)
+          (c .if2 .taken);
     }
 
 pub suffixes-spec : {M : Type 1} → statement M

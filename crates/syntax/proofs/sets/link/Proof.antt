@@ -14,7 +14,9 @@ use Rattle.syntax.proofs.sets.link.Statement.{statement}
 use Rattle.syntax.proofs.sets.link.Tie as tie
 
 abbrev Inv-loop : tie.InvT-loop
-Inv-loop table₀ ends more i₀ table i = (length table ≡ length table₀) × (i ≤ length table) × (link (ends .0) (more .0) 0 table₀ ≡ take i table ++ link (ends .0) (more .0) i (drop i table))
+Inv-loop table₀ ends more i₀ table i =
+    (length table ≡ length table₀) × (i ≤ length table)
+    × (link (ends .0) (more .0) 0 table₀ ≡ take i table ++ link (ends .0) (more .0) i (drop i table))
 
 abbrev μ-loop : tie.MeasureT-loop
 μ-loop table₀ ends more i₀ table i = length table - i
