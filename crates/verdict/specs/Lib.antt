@@ -16,3 +16,5 @@ pub mod MissedPairs
 pub mod LeastWords
 pub mod FirstMisses
 pub mod VerdictLaws
+pub mod VerdictJob
+pub mod VerdictJobLaws
