@@ -8,3 +8,6 @@ pub mod Moves
 pub mod LinkAnswers
 pub mod ListAnswers
 pub mod BothAnswers
+pub mod AnswerJob
+pub mod AnswerJobLaws
+pub mod Demand3

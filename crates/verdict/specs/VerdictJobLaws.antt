@@ -38,7 +38,7 @@ finds-decides J R F =
     onward q v h k =
         let (b, e) = F .reached q h in
         let one : followed (R .table) 0 (F .word q ++ (v ∷ [])) ≡ getD (R .table) (16 * q + v) 0
-            = followed-append (R .table) 0 (F .word q) (v ∷ []) ∙ ap (λ s. getD (R .table) (16 * s + v) 0) e in
+        = followed-append (R .table) 0 (F .word q) (v ∷ []) ∙ ap (λ s. getD (R .table) (16 * s + v) 0) e in
         subst (λ n. n < R .states) one (F .within (F .word q ++ (v ∷ [])) (below-append b (next k nothing)))
 
 -- What each answer tells of the job, Find's refusals included.
