@@ -11,3 +11,5 @@ pub mod BothAnswers
 pub mod AnswerJob
 pub mod AnswerJobLaws
 pub mod Demand3
+pub mod Cases
+pub mod CasesHold
