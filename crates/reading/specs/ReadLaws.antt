@@ -186,3 +186,13 @@ job-unique {text} {J} {K} j k =
     let e = job-read text J j in
     let f = job-read text K k in
     cc
+
+-- The line of a refusal is at most one more than the most bytes of a text.
+refused-line : {text : Bytes} {r : Refusal} {n : ℕ} → Refused text r n → n ≤ suc mostText
+refused-line (Refused.long h) = omega arith
+refused-line {text} (Refused.faulty {s} l more h e g w f) = omega (arith, lines-few g, ap length e ∙ length-append s (line l ++ more))
+refused-line {text} (Refused.unclosed {s} l h e k g w) = omega (arith, lines-few g, ap length e ∙ length-append s l)
+refused-line (Refused.no-query h g q) = omega (arith, lines-few g)
+
+pub read-line : (text : Bytes) (r : Refusal) (n : ℕ) → read text ≡ refused r n → n ≤ suc mostText
+read-line text r n e = refused-line (read-refused text r n .0 e)
