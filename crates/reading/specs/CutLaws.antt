@@ -24,14 +24,14 @@ CutOf b s (cut l r) = (s ≡ l ++ (b ∷ r)) × Without b l
 CutOf b s uncut = Without b s
 
 -- A cut of the text with one more byte in front, which is not b.
-abbrev onward : ℕ → Cut → Cut
+abbrev pub onward : ℕ → Cut → Cut
 onward c x = elim x [ cut l r ↦ cut (c ∷ l) r | uncut ↦ uncut ]
 
-cut-here : (b c : ℕ) (s : Bytes) → c ≡ b → cutAt b (c ∷ s) ≡ cut [] s
+pub cut-here : (b c : ℕ) (s : Bytes) → c ≡ b → cutAt b (c ∷ s) ≡ cut [] s
 unfolding cutAt
 cut-here b c s e = rw (eq-eqb c b e, cutAt)
 
-cut-later : (b c : ℕ) (s : Bytes) → c ≢ b → cutAt b (c ∷ s) ≡ onward c (cutAt b s)
+pub cut-later : (b c : ℕ) (s : Bytes) → c ≢ b → cutAt b (c ∷ s) ≡ onward c (cutAt b s)
 unfolding cutAt
 cut-later b c s n = rw (ne-eqb c b n, cutAt)
 
@@ -68,11 +68,11 @@ pub uncut-exactly : (b : ℕ) (s : Bytes) → (cutAt b s ≡ uncut) ↔ Without 
 uncut-exactly b s = (λ e. rw e at (cut-of b s), cut-unique b s uncut)
 
 -- What comes after a word, by the first byte of each.
-after-same : (a b : ℕ) (w s : Bytes) → a ≡ b → after (a ∷ w) (b ∷ s) ≡ after w s
+pub after-same : (a b : ℕ) (w s : Bytes) → a ≡ b → after (a ∷ w) (b ∷ s) ≡ after w s
 unfolding after
 after-same a b w s e = rw (eq-eqb a b e, after)
 
-after-other : (a b : ℕ) (w s : Bytes) → a ≢ b → after (a ∷ w) (b ∷ s) ≡ none
+pub after-other : (a b : ℕ) (w s : Bytes) → a ≢ b → after (a ∷ w) (b ∷ s) ≡ none
 unfolding after
 after-other a b w s n = rw (ne-eqb a b n, after)
 

@@ -29,31 +29,31 @@ GivenOf P s (bad r) = LineFault P s r
 
 -- What reading a line comes to, by what the line is.
 
-given-early : (P : Progress) (s : Bytes) → P .query ≡ none → given P s ≡ early P s
+pub given-early : (P : Progress) (s : Bytes) → P .query ≡ none → given P s ≡ early P s
 unfolding given
 given-early P s q = ap (λ (x : Option Expression). elim x [ none ↦ early P s | some e ↦ late P s ]) q
 
-given-late : (P : Progress) (s : Bytes) {e : Expression} → P .query ≡ some e → given P s ≡ late P s
+pub given-late : (P : Progress) (s : Bytes) {e : Expression} → P .query ≡ some e → given P s ≡ late P s
 unfolding given
 given-late P s q = ap (λ (x : Option Expression). elim x [ none ↦ early P s | some e ↦ late P s ]) q
 
-early-label : (P : Progress) (s n : Bytes) → s ≡ labelWord ++ n → early P s ≡ givenLabel P n
+pub early-label : (P : Progress) (s n : Bytes) → s ≡ labelWord ++ n → early P s ≡ givenLabel P n
 unfolding early
 early-label P s n e = rw (after-exactly labelWord s n .1 e, early)
 
-early-query : (P : Progress) (s text : Bytes) → s ≡ queryWord ++ text → early P s ≡ givenQuery P text
+pub early-query : (P : Progress) (s text : Bytes) → s ≡ queryWord ++ text → early P s ≡ givenQuery P text
 unfolding early after
 early-query P s text e = ap (early P) e
 
-early-neither : (P : Progress) (s : Bytes) → after labelWord s ≡ none → after queryWord s ≡ none → early P s ≡ bad BadLine
+pub early-neither : (P : Progress) (s : Bytes) → after labelWord s ≡ none → after queryWord s ≡ none → early P s ≡ bad BadLine
 unfolding early
 early-neither P s e f = rw (e, f, early)
 
-late-list : (P : Progress) (s more : Bytes) → s ≡ listWord ++ more → late P s ≡ givenList P more
+pub late-list : (P : Progress) (s more : Bytes) → s ≡ listWord ++ more → late P s ≡ givenList P more
 unfolding late
 late-list P s more e = rw (after-exactly listWord s more .1 e, late)
 
-late-other : (P : Progress) (s : Bytes) → after listWord s ≡ none → late P s ≡ bad BadLine
+pub late-other : (P : Progress) (s : Bytes) → after listWord s ≡ none → late P s ≡ bad BadLine
 unfolding late
 late-other P s e = rw (e, late)
 
@@ -74,51 +74,51 @@ as-cut : (P : Progress) (s n text : Bytes) → AsList P s n text → cutAt space
 as-cut P s n text a = cut-exactly space (n ++ (space ∷ text)) n text .1 (refl, a .2)
 
 module _ (P : Progress) (n : Bytes) where
-  label-many : mostLabels ≤ length (P .labels) → givenLabel P n ≡ bad TooManyNames
+  pub label-many : mostLabels ≤ length (P .labels) → givenLabel P n ≡ bad TooManyNames
   unfolding givenLabel
   label-many h = rw (le-ltb (length (P .labels)) mostLabels h, givenLabel)
 
-  label-bad : length (P .labels) < mostLabels → ¬ Fresh n (P .labels) → givenLabel P n ≡ bad BadName
+  pub label-bad : length (P .labels) < mostLabels → ¬ Fresh n (P .labels) → givenLabel P n ≡ bad BadName
   unfolding givenLabel
   label-bad h f = rw (lt-ltb (length (P .labels)) mostLabels h, fresh-not n (P .labels) .1 f, givenLabel)
 
-  label-good : length (P .labels) < mostLabels → Fresh n (P .labels) → givenLabel P n ≡ good (withLabel P n)
+  pub label-good : length (P .labels) < mostLabels → Fresh n (P .labels) → givenLabel P n ≡ good (withLabel P n)
   unfolding givenLabel
   label-good h f = rw (lt-ltb (length (P .labels)) mostLabels h, fresh-exactly n (P .labels) .1 f, givenLabel)
 
 module _ (P : Progress) (text : Bytes) where
-  query-early : length (P .labels) < 1 → givenQuery P text ≡ bad BadLine
+  pub query-early : length (P .labels) < 1 → givenQuery P text ≡ bad BadLine
   unfolding givenQuery
   query-early h = rw (lt-leb 1 (length (P .labels)) h, givenQuery)
 
-  query-bad : 1 ≤ length (P .labels) → {r : Refusal} → check (P .labels) text ≡ faulty r → givenQuery P text ≡ bad r
+  pub query-bad : 1 ≤ length (P .labels) → {r : Refusal} → check (P .labels) text ≡ faulty r → givenQuery P text ≡ bad r
   unfolding givenQuery
   query-bad h c = rw (le-leb 1 (length (P .labels)) h, c, givenQuery)
 
-  query-good : 1 ≤ length (P .labels) → {e : Expression} → check (P .labels) text ≡ fine e → givenQuery P text ≡ good (withQuery P e)
+  pub query-good : 1 ≤ length (P .labels) → {e : Expression} → check (P .labels) text ≡ fine e → givenQuery P text ≡ good (withQuery P e)
   unfolding givenQuery
   query-good h c = rw (le-leb 1 (length (P .labels)) h, c, givenQuery)
 
 module _ (P : Progress) (s n text : Bytes) (split : cutAt space s ≡ cut n text) where
-  list-many : mostLists ≤ length (P .listNames) → givenList P s ≡ bad TooManyNames
+  pub list-many : mostLists ≤ length (P .listNames) → givenList P s ≡ bad TooManyNames
   unfolding givenList
   list-many h = rw (split, le-ltb (length (P .listNames)) mostLists h, givenList)
 
-  list-name : length (P .listNames) < mostLists → ¬ Fresh n (P .listNames) → givenList P s ≡ bad BadName
+  pub list-name : length (P .listNames) < mostLists → ¬ Fresh n (P .listNames) → givenList P s ≡ bad BadName
   unfolding givenList
   list-name h f = rw (split, lt-ltb (length (P .listNames)) mostLists h, fresh-not n (P .listNames) .1 f, givenList)
 
-  list-bad : length (P .listNames) < mostLists → Fresh n (P .listNames) → {r : Refusal} → check (P .labels) text ≡ faulty r
+  pub list-bad : length (P .listNames) < mostLists → Fresh n (P .listNames) → {r : Refusal} → check (P .labels) text ≡ faulty r
       → givenList P s ≡ bad r
   unfolding givenList
   list-bad h f c = rw (split, lt-ltb (length (P .listNames)) mostLists h, fresh-exactly n (P .listNames) .1 f, c, givenList)
 
-  list-good : length (P .listNames) < mostLists → Fresh n (P .listNames) → {e : Expression} → check (P .labels) text ≡ fine e
+  pub list-good : length (P .listNames) < mostLists → Fresh n (P .listNames) → {e : Expression} → check (P .labels) text ≡ fine e
       → givenList P s ≡ good (withList P n e)
   unfolding givenList
   list-good h f c = rw (split, lt-ltb (length (P .listNames)) mostLists h, fresh-exactly n (P .listNames) .1 f, c, givenList)
 
-list-uncut : (P : Progress) (s : Bytes) → cutAt space s ≡ uncut → givenList P s ≡ bad BadLine
+pub list-uncut : (P : Progress) (s : Bytes) → cutAt space s ≡ uncut → givenList P s ≡ bad BadLine
 unfolding givenList
 list-uncut P s e = rw (e, givenList)
 

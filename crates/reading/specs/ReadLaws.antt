@@ -25,33 +25,33 @@ use Rattle.reading.specs.JobLines.{progressOf, job-lines}
 
 -- How reading goes on, by what is left of the text.
 
-read-on : (k : ℕ) (P Q : Progress) (n : ℕ) (s l more : Bytes) → cutAt newline s ≡ cut l more → given P l ≡ good Q
+pub read-on : (k : ℕ) (P Q : Progress) (n : ℕ) (s l more : Bytes) → cutAt newline s ≡ cut l more → given P l ≡ good Q
     → readLines (suc k) P n s ≡ readLines k Q (suc n) more
 unfolding readLines cutAt
 read-on k P Q n [] l more c g = absurd (let z : _≡_ {A = ℕ} 0 1 = cc in omega arith)
 read-on k P Q n (b ∷ s) l more c g = rw (c, g, readLines)
 
-read-fault : (k : ℕ) (P : Progress) (n : ℕ) (s l more : Bytes) {r : Refusal} → cutAt newline s ≡ cut l more → given P l ≡ bad r
+pub read-fault : (k : ℕ) (P : Progress) (n : ℕ) (s l more : Bytes) {r : Refusal} → cutAt newline s ≡ cut l more → given P l ≡ bad r
     → readLines (suc k) P n s ≡ refused r n
 unfolding readLines cutAt
 read-fault k P n [] l more c g = absurd (let z : _≡_ {A = ℕ} 0 1 = cc in omega arith)
 read-fault k P n (b ∷ s) l more c g = rw (c, g, readLines)
 
-read-unclosed : (k : ℕ) (P : Progress) (n : ℕ) (s : Bytes) → 1 ≤ length s → cutAt newline s ≡ uncut
+pub read-unclosed : (k : ℕ) (P : Progress) (n : ℕ) (s : Bytes) → 1 ≤ length s → cutAt newline s ≡ uncut
     → readLines (suc k) P n s ≡ refused BadLine n
 unfolding readLines
 read-unclosed k P n [] h c = absurd (omega arith)
 read-unclosed k P n (b ∷ s) h c = rw (c, readLines)
 
-read-end : (k : ℕ) (P : Progress) (n : ℕ) → readLines (suc k) P n [] ≡ ended P n
+pub read-end : (k : ℕ) (P : Progress) (n : ℕ) → readLines (suc k) P n [] ≡ ended P n
 unfolding readLines
 read-end k P n = refl
 
-ended-early : (P : Progress) (n : ℕ) → P .query ≡ none → ended P n ≡ refused BadLine n
+pub ended-early : (P : Progress) (n : ℕ) → P .query ≡ none → ended P n ≡ refused BadLine n
 unfolding ended
 ended-early P n q = rw (q, ended)
 
-ended-late : (J : NamedJob) (n : ℕ) → ended (progressOf J) n ≡ job J
+pub ended-late : (J : NamedJob) (n : ℕ) → ended (progressOf J) n ≡ job J
 unfolding ended
 ended-late J n = refl
 
@@ -78,11 +78,11 @@ lines-read (GoodLines.next {s} {n} {P} {Q} l e r w g) j k t d =
     ∙ lines-read r j (suc k) (line l ++ t) (omega arith)
     ∙ read-on k P Q (suc n) (line l ++ t) l t (line-cut l t w) (given-good-exactly P (labels-distinct r) l Q .1 g)
 
-read-short : (text : Bytes) → length text ≤ mostText → read text ≡ readLines (suc (length text)) beginning 1 text
+pub read-short : (text : Bytes) → length text ≤ mostText → read text ≡ readLines (suc (length text)) beginning 1 text
 unfolding read
 read-short text h = rw (le-leb (length text) mostText h, read)
 
-read-long : (text : Bytes) → mostText < length text → read text ≡ refused TextTooLong 0
+pub read-long : (text : Bytes) → mostText < length text → read text ≡ refused TextTooLong 0
 unfolding read
 read-long text h = rw (lt-leb (length text) mostText h, read)
 
@@ -123,7 +123,7 @@ job-read text J j =
 
 -- What reading the rest of a text gives, good lines having been read before it.
 
-whole : (P : Progress) {q : Expression} → P .query ≡ some q
+pub whole : (P : Progress) {q : Expression} → P .query ≡ some q
     → P ≡ progressOf (record { labels = P .labels; query = q; listNames = P .listNames; lists = P .lists })
 whole P e = λ i. record { labels = P .labels; query = e i; listNames = P .listNames; lists = P .lists }
 
@@ -185,6 +185,7 @@ pub job-unique : {text : Bytes} {J K : NamedJob} → IsJob text J → IsJob text
 job-unique {text} {J} {K} j k =
     let e = job-read text J j in
     let f = job-read text K k in
+    cc
     cc
 
 -- The line of a refusal is at most one more than the most bytes of a text.

@@ -11,7 +11,7 @@ mod name;
 mod parts;
 mod refusal;
 mod sets;
-mod table;
+pub mod table;
 
 pub use check::Check;
 pub use check::check_expression;
@@ -25,5 +25,3 @@ pub use name::is_name;
 pub use name::same_name;
 pub use parts::Part;
 pub use refusal::Refusal;
-pub use table::find;
-pub use table::part;
