@@ -186,7 +186,6 @@ job-unique {text} {J} {K} j k =
     let e = job-read text J j in
     let f = job-read text K k in
     cc
-    cc
 
 -- The line of a refusal is at most one more than the most bytes of a text.
 refused-line : {text : Bytes} {r : Refusal} {n : ℕ} → Refused text r n → n ≤ suc mostText
