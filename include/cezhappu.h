@@ -1,0 +1,47 @@
+/*
+ * Cezhappu: path questions answered from stored lists. The functions that a server calls.
+ *
+ * Each function takes any bytes: there is no job text on which it fails to return, reads outside the bytes it was lent, or writes
+ * anything but what is said here. None keeps a pointer, allocates memory or uses global state, so calls may run in parallel.
+ *
+ * Undefined, as for any C function: a pointer that does not lead to that many bytes (a null pointer with a length above 0 too), and
+ * buffers that overlap.
+ */
+#ifndef CEZHAPPU_H
+#define CEZHAPPU_H
+
+#include <stddef.h>
+#include <stdint.h>
+
+#ifdef __cplusplus
+extern "C" {
+#endif
+
+/* The refusals that reading a job text can give. */
+enum cezhappu_refusal {
+    CEZHAPPU_OK = 0,
+    CEZHAPPU_TEXT_TOO_LONG = 1,    /* over 8,192 bytes */
+    CEZHAPPU_BAD_LINE = 2,         /* no closing byte 10, wrong opening word, missing space, or a line out of its place */
+    CEZHAPPU_BAD_NAME = 3,         /* a bad or repeated name */
+    CEZHAPPU_TOO_MANY_NAMES = 4,   /* a 33rd label or a 17th list */
+    CEZHAPPU_NOT_IN_GRAMMAR = 5,   /* an expression that is not in the grammar */
+    CEZHAPPU_UNKNOWN_LABEL = 6,    /* an expression with an unknown label */
+    CEZHAPPU_EXPRESSION_LIMIT = 7  /* an expression over 512 bytes, over 16 parentheses deep, or with over 63 label occurrences */
+};
+
+/*
+ * Reads the job text of `length` bytes at `job`. It writes nothing. The returned number tells, by the functions below it, the refusal
+ * (CEZHAPPU_OK where there is none) with its line, counted from 1 (0 with CEZHAPPU_TEXT_TOO_LONG), or the numbers of labels and lists.
+ */
+uint64_t cezhappu_read(const uint8_t *job, size_t length);
+
+static inline unsigned cezhappu_refusal(uint64_t answer) { return (unsigned)(answer & 0xff); }
+static inline unsigned cezhappu_line(uint64_t answer) { return (unsigned)(answer >> 8 & 0xffffff); }
+static inline unsigned cezhappu_labels(uint64_t answer) { return (unsigned)(answer >> 32 & 0xff); }
+static inline unsigned cezhappu_lists(uint64_t answer) { return (unsigned)(answer >> 40 & 0xff); }
+
+#ifdef __cplusplus
+}
+#endif
+
+#endif
