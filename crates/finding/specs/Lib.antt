@@ -17,3 +17,23 @@ pub mod Table
 pub mod FirstAccepted
 pub mod FindStates
 pub mod FindLaws
+-- What the code keeps and promises.
+pub mod NextsLaws
+pub mod PlaceOfLaws
+pub mod CollectLaws
+pub mod MoveTable
+pub mod Exploring
+pub mod StandingsTold
+pub mod ImageSearch
+pub mod ImageNodes
+pub mod ListWidth
+pub mod ImagesTold
+pub mod UnionSteps
+pub mod ImageRows
+pub mod Trailed
+pub mod TrailedExploring
+pub mod StatesExploring
+pub mod StatesTold
+pub mod FirstWords
+pub mod Filling
+pub mod Padded

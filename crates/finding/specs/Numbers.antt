@@ -1,7 +1,7 @@
 -- The numbers of what an exploration has found: the values of entries, and the place of a value in a list without duplicates.
 use Prim.Native.Nat.{ℕ, zero, suc, _+_, _<_}
 use mathlib.Core.Bool.{Bool, true, false}
-use mathlib.Core.List.{List, [], _∷_}
+use mathlib.Core.List.{List, [], _∷_, _++_}
 use mathlib.Core.Option.{some}
 use mathlib.Core.Path.{_≡_, refl, sym, _∙_, ap}
 use native.Mathlib.Omega.{arith}
@@ -17,6 +17,11 @@ pub length-values : {A : Type 0} (l : List (Entry A)) → length (values l) ≡ 
 unfolding values
 length-values [] = refl
 length-values (e ∷ l) = ap suc (length-values l)
+
+pub values-append : {A : Type 0} (l m : List (Entry A)) → values (l ++ m) ≡ values l ++ values m
+unfolding values
+values-append [] m = refl
+values-append (e ∷ l) m = ap (λ t. e .value ∷ t) (values-append l m)
 
 pub getD-values : {A : Type 0} (l : List (Entry A)) (i : ℕ) (d : A) (e : Entry A) → i < length l → getD (values l) i d ≡ getD l i e .value
 unfolding values

@@ -39,6 +39,7 @@ pub mod DistinctWords
 -- Laws and theorems.
 pub mod PlacesLaws
 pub mod PlacesShift
+pub mod PlacesWithin
 pub mod ClosureLaws
 pub mod PathsBelow
 pub mod Images

@@ -1,0 +1,168 @@
+-- Each of the three ways is a step of the exploration (StatesExploring).
+use mathlib.Core.Path.{sym}
+use lib.Seq.{length-take-le}
+use native.Mathlib.Omega.{arith}
+use Rattle.finding.specs.StatesExploring.{memory, extended-known, extended-over, extended-new}
+use borrow.Author.Needs.{needs}
+use Rattle.finding.proofs.states.extend.Statement.{statement}
+use Rattle.finding.proofs.states.extend.Tie as tie
+
+mul-next-state : tie.Need-mul-next-state
+mul-next-state c = search needs
+
+slice-read-next-state : tie.Need-slice-read-next-state
+slice-read-next-state c = search needs
+
+next-state-requires : tie.Need-next-state-requires
+next-state-requires c κs = search needs
+
+slice-reshare-prefix-place-of : tie.Need-slice-reshare-prefix-place-of
+slice-reshare-prefix-place-of c = search needs
+
+slice-aggregate-place-of : tie.Need-slice-aggregate-place-of
+slice-aggregate-place-of c =
+    let start = c .before .before .before .before .before .before .before in
+    sym (length-take-le _ (start .args .found .now) (omega (arith, start .pre .3 .states)))
+
+place-of-requires : tie.Need-place-of-requires
+place-of-requires c κs = search needs
+
+cast-table : tie.Need-cast-table
+cast-table c = search needs
+
+mul-table : tie.Need-mul-table
+mul-table c = search needs
+
+add-table : tie.Need-add-table
+add-table c = search needs
+
+mul-table-2 : tie.Need-mul-table-2
+mul-table-2 c = search needs
+
+slice-write-table : tie.Need-slice-write-table
+slice-write-table c = search needs
+
+same-length : tie.Need-same-length
+same-length c = search needs
+
+same-length-2 : tie.Need-same-length-2
+same-length-2 c = search needs
+
+returns : tie.Need-returns
+returns c =
+    let search = c .before in
+    let next = search .before .before in
+    let start = next .before .before .before .before .before .before in
+    let a = start .args in
+    extended-known (a .images .now) (a .count) (a .limit) (a .s) (a .list) (a .n) (next .next-state .result) (search .place-of .result)
+    (memory (a .found .now) (a .parents .now) (a .symbols .now) (a .table .now)) (start .pre .3) (start .pre .0) (start .pre .1)
+    (start .pre .2) (next .next-state .ensures) (search .place-of .ensures) (c .if1 .taken)
+
+same-length-3 : tie.Need-same-length-3
+same-length-3 c = search needs
+
+returns-2 : tie.Need-returns-2
+returns-2 c =
+    let search = c .before .before in
+    let next = search .before .before in
+    let start = next .before .before .before .before .before .before in
+    let a = start .args in
+    extended-over (a .images .now) (a .count) (a .limit) (a .s) (a .list) (a .n) (next .next-state .result) (search .place-of .result)
+    (memory (a .found .now) (a .parents .now) (a .symbols .now) (a .table .now)) (start .pre .3) (start .pre .0) (start .pre .1)
+    (start .pre .2) (next .next-state .ensures) (search .place-of .ensures) (c .before .if1 .left) (c .if2 .taken)
+
+mul-found : tie.Need-mul-found
+mul-found c = search needs
+
+slice-write-found : tie.Need-slice-write-found
+slice-write-found c = search needs
+
+mul-parents : tie.Need-mul-parents
+mul-parents c = search needs
+
+slice-write-parents : tie.Need-slice-write-parents
+slice-write-parents c = search needs
+
+mul-symbols : tie.Need-mul-symbols
+mul-symbols c = search needs
+
+slice-write-symbols : tie.Need-slice-write-symbols
+slice-write-symbols c = search needs
+
+cast-table-2 : tie.Need-cast-table-2
+cast-table-2 c = search needs
+
+mul-table-3 : tie.Need-mul-table-3
+mul-table-3 c = search needs
+
+add-table-2 : tie.Need-add-table-2
+add-table-2 c = search needs
+
+mul-table-4 : tie.Need-mul-table-4
+mul-table-4 c = search needs
+
+slice-write-table-2 : tie.Need-slice-write-table-2
+slice-write-table-2 c = search needs
+
+add-t32 : tie.Need-add-t32
+add-t32 c = search needs
+
+same-length-4 : tie.Need-same-length-4
+same-length-4 c = search needs
+
+same-length-5 : tie.Need-same-length-5
+same-length-5 c = search needs
+
+same-length-6 : tie.Need-same-length-6
+same-length-6 c = search needs
+
+same-length-7 : tie.Need-same-length-7
+same-length-7 c = search needs
+
+returns-3 : tie.Need-returns-3
+returns-3 c =
+    let search = c .before .before in
+    let next = search .before .before in
+    let start = next .before .before .before .before .before .before in
+    let a = start .args in
+    extended-new (a .images .now) (a .count) (a .limit) (a .s) (a .list) (a .n) (next .next-state .result) (search .place-of .result)
+    (memory (a .found .now) (a .parents .now) (a .symbols .now) (a .table .now)) (start .pre .3) (start .pre .0) (start .pre .1)
+    (start .pre .2) (next .next-state .ensures) (search .place-of .ensures) (c .before .if1 .left) (c .if2 .left)
+
+pub extend-spec : {M : Type 1} → statement M
+extend-spec =
+    tie.close
+    (tie.spec
+    mul-next-state
+    slice-read-next-state
+    next-state-requires
+    slice-reshare-prefix-place-of
+    slice-aggregate-place-of
+    place-of-requires
+    cast-table
+    mul-table
+    add-table
+    mul-table-2
+    slice-write-table
+    same-length
+    same-length-2
+    returns
+    same-length-3
+    returns-2
+    mul-found
+    slice-write-found
+    mul-parents
+    slice-write-parents
+    mul-symbols
+    slice-write-symbols
+    cast-table-2
+    mul-table-3
+    add-table-2
+    mul-table-4
+    slice-write-table-2
+    add-t32
+    same-length-4
+    same-length-5
+    same-length-6
+    same-length-7
+    returns-3)
