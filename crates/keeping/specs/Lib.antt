@@ -1,1 +1,5 @@
 pub mod Kept
+pub mod Put
+pub mod Write
+pub mod KeptLaws
+pub mod WriteLaws
