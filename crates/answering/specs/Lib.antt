@@ -1,6 +1,9 @@
+-- Mechanism.
 pub mod Table
 pub mod Product
 pub mod Answer
+pub mod AnswerJob
+-- What the tables, the reached nodes and the marks say.
 pub mod TableLaws
 pub mod ProductLaws
 pub mod MarksLaws
@@ -8,8 +11,21 @@ pub mod Moves
 pub mod LinkAnswers
 pub mod ListAnswers
 pub mod BothAnswers
-pub mod AnswerJob
 pub mod AnswerJobLaws
+-- Demand 3 as a whole, and the cases P1 to P8.
 pub mod Demand3
 pub mod Cases
 pub mod CasesHold
+-- What the code keeps and promises.
+pub mod TableSteps
+pub mod Cleared
+pub mod Links
+pub mod Pairs
+pub mod Search
+pub mod SearchLaws
+pub mod SearchSteps
+pub mod SearchRun
+pub mod Searched
+pub mod SearchedLaws
+pub mod Marks
+pub mod MarksSteps

@@ -1,0 +1,73 @@
+// Pairs of a recording and a state as bits of words: the state s of the recording y is bit s % 64 of the word words × y + s / 64.
+ghost use mathlib.Core.Path.{_≡_};
+ghost use Prim.Native.Nat.{_+_, _*_, _≤_, _<_};
+ghost use lib.ListN.{length};
+ghost use Rattle.answering.specs.Pairs.{place, has, put};
+ghost use Rattle.answering.specs.Search.{AnyFrom, Zeroed, Listed};
+
+// Whether the recording y has the state s.
+pub(super) fn has(pairs: &[u64], words: usize, y: usize, s: usize) -> bool
+    requires { ⌜ place words y s < length (now pairs) ⌝ }
+    ensures { λ r. ⌜ r ≡ has words (now (pairs .entry)) y s ⌝ }
+{
+    (pairs[words * y + s / 64] >> (s % 64)) & 1 == 1
+}
+
+// The recording y gets the state s.
+pub(super) fn put(pairs: &mut [u64], words: usize, y: usize, s: usize)
+    requires { ⌜ place words y s < length (now pairs) ⌝ }
+    ensures { λ _. ⌜ now (pairs .exit) ≡ put words (now (pairs .entry)) y s ⌝ }
+{
+    let at = words * y + s / 64;
+    pairs[at] = pairs[at] | (1 << (s % 64));
+}
+
+// Whether some of the words from base on is not zero.
+pub(super) fn any_from(pairs: &[u64], base: usize, words: usize) -> bool
+    requires { ⌜ base + words ≤ length (now pairs) ⌝ }
+    ensures { λ r. ⌜ AnyFrom (now (pairs .entry)) base words r ⌝ }
+{
+    let mut k = 0;
+    while k < words {
+        if pairs[base + k] != 0 {
+            return true;
+        }
+        k += 1;
+    }
+    false
+}
+
+// The words from base on become zero.
+pub(super) fn zero_from(pairs: &mut [u64], base: usize, words: usize)
+    requires { ⌜ base + words ≤ length (now pairs) ⌝ }
+    ensures { λ _. ⌜ Zeroed base words (now (pairs .entry)) (now (pairs .exit)) ⌝ }
+{
+    let mut k = 0;
+    while k < words {
+        pairs[base + k] = 0;
+        k += 1;
+    }
+}
+
+// The states of the recording x, of all states below `most`, are listed; how many there are is returned.
+pub(super) fn list_states(
+    pairs: &[u64],
+    words: usize,
+    x: usize,
+    most: usize,
+    states: &mut [u16],
+) -> usize
+    requires { ⌜ (words * x + words ≤ length (now pairs)) × (most ≤ 64 * words) × (most ≤ 256) × (most ≤ length (now states)) ⌝ }
+    ensures { λ r. ⌜ Listed words most (now (pairs .entry)) x (now (states .exit)) r ⌝ }
+{
+    let mut n = 0;
+    let mut s = 0;
+    while s < most {
+        if has(pairs, words, x, s) {
+            states[n] = s as u16;
+            n += 1;
+        }
+        s += 1;
+    }
+    n
+}
