@@ -18,3 +18,17 @@ pub mod FirstMisses
 pub mod VerdictLaws
 pub mod VerdictJob
 pub mod VerdictJobLaws
+-- What the code keeps and promises.
+pub mod Tables
+pub mod TablesLaws
+pub mod CoverSteps
+pub mod CoverTold
+pub mod CoverLoops
+pub mod CoverBounds
+pub mod CoverRounds
+pub mod CoverStepped
+pub mod PairTable
+pub mod PairTableLaws
+pub mod Workspace
+pub mod PairsTold
+pub mod PairRows

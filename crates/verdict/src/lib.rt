@@ -1,0 +1,4 @@
+// The verdict: cover places, pairs, and whether every query path is yielded.
+pub mod cover;
+pub mod pairs;
+pub mod workspace;

@@ -1,0 +1,4 @@
+pub mod UnionLaws
+pub mod Words
+pub mod WordsLaws
+pub mod WordsShift

@@ -1,0 +1,198 @@
+// Pairs (document 01, "Pair") by exploration over the labels, in a lent workspace.
+ghost use Prim.Native.Nat.{_+_, _*_, _≤_, _<_};
+ghost use lib.ListN.{length};
+ghost use Rattle.verdict.specs.PairTable.{Stored, Compared, Seen};
+ghost use Rattle.verdict.specs.Workspace.{Put, pair};
+ghost use Rattle.verdict.specs.PairsTold.{lent, QueryStep, RowTold, PairsTold};
+use crate::cover::cover_start;
+use crate::cover::cover_step;
+use crate::workspace::load;
+use finding::step::step;
+use places::Places;
+use places::wide::Wide;
+
+pub enum Explored {
+    // All pairs are found: how many.
+    All(u64),
+    // There are more than the allowance.
+    Over,
+}
+
+// Puts the words of a set into the workspace.
+fn put(workspace: &mut [u64], at: usize, set: Wide)
+    requires { ⌜ at + 16 ≤ length (now workspace) ⌝ }
+    ensures { λ _. ⌜ Put (now (workspace .entry)) at 16 (set .words) (now (workspace .exit)) ⌝ }
+{
+    let words = set.words;
+    let mut j = 0;
+    while j < 16 {
+        workspace[at + j] = words[j];
+        j += 1;
+    }
+}
+
+// Stores the pair number m, and how it was reached.
+fn store(workspace: &mut [u64], m: usize, standing: u64, cover: Wide, link: u64)
+    requires { ⌜ 18 * m + 18 ≤ length (now workspace) ⌝ }
+    ensures { λ _. ⌜ Stored (now (workspace .entry)) m standing (cover .words) link (now (workspace .exit)) ⌝ }
+{
+    let at = 18 * m;
+    workspace[at] = standing;
+    put(workspace, at + 1, cover);
+    workspace[at + 17] = link;
+}
+
+// Whether the pair number i is the given one.
+fn is_pair(workspace: &[u64], i: usize, standing: u64, cover: Wide) -> bool
+    requires { ⌜ 18 * i + 18 ≤ length (now workspace) ⌝ }
+    ensures { λ r. ⌜ Compared (now (workspace .entry)) i (pair standing (cover .words)) r ⌝ }
+{
+    if workspace[18 * i] == standing {
+        let other = load(workspace, i);
+        other.same(cover)
+    } else {
+        false
+    }
+}
+
+// Whether the pair is among the first n.
+fn seen(workspace: &[u64], n: usize, standing: u64, cover: Wide) -> bool
+    requires { ⌜ 18 * n ≤ length (now workspace) ⌝ }
+    ensures { λ r. ⌜ Seen n (now (workspace .entry)) (pair standing (cover .words)) r ⌝ }
+{
+    let mut i = 0;
+    while i < n {
+        if is_pair(workspace, i, standing, cover) {
+            return true;
+        }
+        i += 1;
+    }
+    false
+}
+
+// The step of the query's standing over the label a.
+fn query_step(follow: &[u64], enter: &[u64], sizes: &[u64], a: usize, standing: u64) -> u64
+    ensures { λ r. ⌜ QueryStep (now (follow .entry)) (now (enter .entry)) (now (sizes .entry)) a standing r ⌝ }
+{
+    if sizes.len() == 0 {
+        return 0;
+    }
+    let size = sizes[0];
+    if size > 63 {
+        return 0;
+    }
+    if follow.len() < 64 {
+        return 0;
+    }
+    if enter.len() <= a {
+        return 0;
+    }
+    let n = (size + 1) as usize;
+    let next = step(&follow[..n], Places(enter[a]), Places(standing));
+    next.0
+}
+
+// The pairs that the labels lead to from the pair number i: those that are new go behind the n that are found.
+fn row(
+    states: u64,
+    table: &[u16],
+    follow: &[u64],
+    enter: &[u64],
+    sizes: &[u64],
+    accepting: &[u64],
+    lists: usize,
+    labels: usize,
+    limit: usize,
+    i: usize,
+    n: usize,
+    workspace: &mut [u64],
+) -> Explored
+    requires { ⌜ (i < n) × (n ≤ limit) × (limit ≤ 4096) × (labels ≤ 32) × (18 * limit ≤ length (now workspace)) ⌝ }
+    ensures { λ r. ⌜ RowTold (lent states labels lists (now (follow .entry)) (now (enter .entry)) (now (sizes .entry)) (now (accepting .entry)) (now (table .entry)))
+        limit i n (now (workspace .entry)) r (now (workspace .exit)) ⌝ }
+{
+    let from = workspace[18 * i];
+    let set = load(workspace, i);
+    let mut m = n;
+    let mut a = 0;
+    while a < labels {
+        let standing = query_step(follow, enter, sizes, a, from);
+        let cover = cover_step(
+            states,
+            table,
+            follow,
+            enter,
+            sizes,
+            accepting,
+            lists,
+            a,
+            set,
+        );
+        if !seen(workspace, m, standing, cover) {
+            if m == limit {
+                return Explored::Over;
+            }
+            store(workspace, m, standing, cover, (a * 8192 + i) as u64);
+            m += 1;
+        }
+        a += 1;
+    }
+    Explored::All(m as u64)
+}
+
+// All pairs, as long as there are no more than the allowance, which is at most 4,096.
+pub fn pairs(
+    states: u64,
+    table: &[u16],
+    follow: &[u64],
+    enter: &[u64],
+    sizes: &[u64],
+    accepting: &[u64],
+    lists: usize,
+    labels: usize,
+    allowance: u64,
+    workspace: &mut [u64],
+) -> Explored
+    ensures { λ r. ⌜ PairsTold (lent states labels lists (now (follow .entry)) (now (enter .entry)) (now (sizes .entry)) (now (accepting .entry)) (now (table .entry)))
+        allowance (now (workspace .entry)) r (now (workspace .exit)) ⌝ }
+{
+    let limit = allowance as usize;
+    if limit == 0 {
+        return Explored::Over;
+    }
+    if limit > 4096 {
+        return Explored::Over;
+    }
+    if labels > 32 {
+        return Explored::Over;
+    }
+    if workspace.len() < 18 * limit {
+        return Explored::Over;
+    }
+    let first = cover_start(states, table, follow, enter, sizes, accepting, lists);
+    store(workspace, 0, 1, first, 0);
+    let mut n: usize = 1;
+    let mut i = 0;
+    while i < n {
+        let found = row(
+            states,
+            table,
+            follow,
+            enter,
+            sizes,
+            accepting,
+            lists,
+            labels,
+            limit,
+            i,
+            n,
+            workspace,
+        );
+        let Explored::All(m) = found else {
+            return Explored::Over;
+        };
+        n = m as usize;
+        i += 1;
+    }
+    Explored::All(n as u64)
+}
