@@ -8,7 +8,7 @@ use Rattle.theory.specs.Expression.{Expression}
 use Rattle.theory.specs.Standing.{size}
 use Rattle.theory.specs.Automaton.{glushkov}
 use Rattle.syntax.specs.declared.build.Automaton.{Automaton}
-use Rattle.syntax.specs.declared.check.Check.{Check as Verdict}
+use Rattle.syntax.specs.declared.checks.Check.{Check as Verdict}
 use Rattle.syntax.specs.Byte.{Bytes}
 use Rattle.syntax.specs.Limits.{mostOccurrences}
 use Rattle.syntax.specs.Check.{fine, check}

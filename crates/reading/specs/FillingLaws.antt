@@ -14,8 +14,8 @@ use Rattle.theory.specs.Places.{union}
 use Rattle.theory.specs.Automaton.{glushkov, labelled}
 use Rattle.theory.specs.AutomatonLaws.{length-follows}
 use Rattle.syntax.specs.declared.build.Automaton.{Automaton}
-use Rattle.syntax.specs.declared.check.Check.{Check as Verdict}
-use Rattle.syntax.specs.declared.check.Check.the-variants.{Fine, Faulty}
+use Rattle.syntax.specs.declared.checks.Check.{Check as Verdict}
+use Rattle.syntax.specs.declared.checks.Check.the-variants.{Fine, Faulty}
 use Rattle.syntax.specs.declared.refusal.Refusal.{Refusal}
 use Rattle.syntax.specs.Byte.{Bytes}
 use Rattle.syntax.specs.Limits.{mostOccurrences}

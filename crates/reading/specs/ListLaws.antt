@@ -12,8 +12,8 @@ use lib.ListN.{length, getD, take, drop, length-append, length-drop, List·getD-
 use lib.Seq.{getD-append-seam}
 use Rattle.theory.specs.Expression.{Expression, empty}
 use Rattle.theory.specs.Standing.{size}
-use Rattle.syntax.specs.declared.check.Check.{Check as Verdict}
-use Rattle.syntax.specs.declared.check.Check.the-variants.{Fine, Faulty}
+use Rattle.syntax.specs.declared.checks.Check.{Check as Verdict}
+use Rattle.syntax.specs.declared.checks.Check.the-variants.{Fine, Faulty}
 use Rattle.syntax.specs.declared.refusal.Refusal.{Refusal}
 use Rattle.syntax.specs.declared.refusal.Refusal.the-variants.{BadLine, BadName, TooManyNames}
 use Rattle.syntax.specs.Byte.{Bytes}

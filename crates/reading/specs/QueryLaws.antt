@@ -8,8 +8,8 @@ use mathlib.Core.Path.{_≡_, refl, sym, ap, _∙_}
 use native.Mathlib.Omega.{arith}
 use lib.ListN.{length, take, drop}
 use Rattle.theory.specs.Expression.{Expression}
-use Rattle.syntax.specs.declared.check.Check.{Check as Verdict}
-use Rattle.syntax.specs.declared.check.Check.the-variants.{Fine, Faulty}
+use Rattle.syntax.specs.declared.checks.Check.{Check as Verdict}
+use Rattle.syntax.specs.declared.checks.Check.the-variants.{Fine, Faulty}
 use Rattle.syntax.specs.declared.refusal.Refusal.{Refusal}
 use Rattle.syntax.specs.declared.refusal.Refusal.the-variants.{BadLine}
 use Rattle.syntax.specs.Byte.{Bytes}

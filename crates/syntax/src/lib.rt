@@ -1,6 +1,6 @@
 // Expressions as text: names, the grammar, its limits, and Glushkov's automaton of an expression.
 pub mod build;
-mod check;
+mod checks;
 mod cursor;
 mod grammar;
 pub mod kind;
@@ -13,8 +13,8 @@ mod refusal;
 mod sets;
 pub mod table;
 
-pub use check::Check;
-pub use check::check_expression;
+pub use checks::Check;
+pub use checks::check_expression;
 pub use cursor::Cursor;
 pub use cursor::Moved;
 pub use grammar::in_grammar;

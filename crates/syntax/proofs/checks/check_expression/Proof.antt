@@ -10,8 +10,8 @@ use Rattle.syntax.specs.Resolve.{known, namesAt}
 use Rattle.syntax.specs.VerdictLaws.{too-long, not-in-grammar, too-deep, unknown-label, too-many-occurrences, all-fine}
 use borrow.Author.Needs.{needs}
 use borrow.Author.Tests.{not-true, not-false}
-use Rattle.syntax.proofs.check.check_expression.Statement.{statement}
-use Rattle.syntax.proofs.check.check_expression.Tie as tie
+use Rattle.syntax.proofs.checks.check_expression.Statement.{statement}
+use Rattle.syntax.proofs.checks.check_expression.Tie as tie
 
 -- The text is in the grammar; its parentheses nest no deeper than they may; its labels are known.
 grammatical : (c : tie.Else2) → isSome (parse (c .before .before .before .before .before .before .args .s .now)) ≡ true
