@@ -6,11 +6,11 @@ pub mod Word
 pub mod Job
 pub mod Rewriting
 pub mod Graph
-pub mod Explored
 -- Mechanism: what computes.
 pub mod Places
 pub mod Automaton
 pub mod Exploration
+pub mod Explored
 pub mod Closure
 -- Glushkov's theorem.
 pub mod Positions
