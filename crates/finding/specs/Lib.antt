@@ -37,3 +37,10 @@ pub mod StatesTold
 pub mod FirstWords
 pub mod Filling
 pub mod Padded
+-- Find on the tables of a job.
+pub mod StoredAutomata
+pub mod StoredImages
+pub mod ListRows
+pub mod Outcome
+pub mod FindTold
+pub mod Operation

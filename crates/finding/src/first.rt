@@ -66,7 +66,7 @@ fn spell(parents: &[u64], symbols: &[u64], state: u64, size: usize, word: &mut [
 }
 
 // No word is accepted.
-fn no_word() -> FirstWord
+pub fn no_word() -> FirstWord
     ensures { λ r. ⌜ r ≡ firstWord none ⌝ }
 {
     FirstWord {

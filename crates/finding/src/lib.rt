@@ -1,9 +1,13 @@
 // Find: the query's standings, the images of lists, states, and Find itself.
+pub mod answer;
 pub mod clear;
+pub mod core;
 pub mod first;
 pub mod flags;
 pub mod image;
+pub mod list_images;
 pub mod number;
+pub mod operation;
 pub mod search;
 pub mod standings;
 pub mod state;

@@ -1,0 +1,104 @@
+-- The states are explored into cleared memory. Where there are too many, the table is cleared again.
+use Rattle.finding.specs.ListRows.{jobTables}
+use Rattle.finding.specs.FindTold.{part-over, part-all}
+use native.Mathlib.Omega.{arith}
+use borrow.Author.Needs.{needs}
+use Rattle.finding.proofs.core.find_states.Statement.{statement}
+use Rattle.finding.proofs.core.find_states.Tie as tie
+
+list-images-requires : tie.Need-list-images-requires
+list-images-requires c κs = search needs
+
+clear-numbers-requires : tie.Need-clear-numbers-requires
+clear-numbers-requires c κs = search needs
+
+clear-bytes-requires : tie.Need-clear-bytes-requires
+clear-bytes-requires c κs = search needs
+
+states-requires : tie.Need-states-requires
+states-requires c κs = search needs
+
+enum-known-told : tie.Need-enum-known-told
+enum-known-told c = search needs
+
+element-copy-out-found-answer : tie.Need-element-copy-out-found-answer
+element-copy-out-found-answer c = search needs
+
+found-answer-requires : tie.Need-found-answer-requires
+found-answer-requires c κs = search needs
+
+enum-told : tie.Need-enum-told
+enum-told c = search needs
+
+clear-numbers-requires-2 : tie.Need-clear-numbers-requires-2
+clear-numbers-requires-2 c κs = search needs
+
+refused-requires : tie.Need-refused-requires
+refused-requires c κs = search needs
+
+same-length : tie.Need-same-length
+same-length c = omega (arith, c .before .before .before .before .before .before .before .before .before .before .before .before .before .states .kept .1 .1 .1 .1 .1 .1 .1 .0, c .before .before .before .before .before .before .before .before .before .before .before .before .before .before .before .before .before .before .before .before .before .before .before .before .before .clear-numbers .kept .0)
+
+same-length-2 : tie.Need-same-length-2
+same-length-2 c = search needs
+
+returns : tie.Need-returns
+returns c =
+    let start = c .before .before .before .before .before .before .before .before .before .before .before .before .before .before .before .before .before .before .before .before .before .before .before .before .before .before .before .before .before .before .before .before in
+    let a = start .args in
+    let T =
+    jobTables (a .moves .now) (a .count) (a .labels) (a .follow .now) (a .enter .now) (a .sizes .now) (a .accepting .now) in
+    let imaged = c .before .before .before .before .before .before .before .before .before .before .before .before .before .before .before .before .before .before .before .before .before .before .before .before .before .before .before .list-images in
+    let zeroed = c .before .before .before .before .before .before .before .before .before .before .before .before .before .before .before .before .before .before .before .before .before .before .before .before .before .clear-numbers in
+    let unmarked = c .before .before .before .before .before .before .before .before .before .before .before .before .before .before .before .before .before .before .before .before .before .clear-bytes in
+    let called = c .before .before .before .before .before .before .before .before .before .before .before .before .before .states in
+    let f = c .before .before .found-answer in
+    part-all T (a .lists) (a .limit) (a .found .now) (a .table .now) (a .marks .now)
+    (imaged .last .1 .1 .1 .1 .1 .1 .1 .1 .0) (zeroed .last .0) (unmarked .last .0) (called .result) (called .last .1 .1 .1 .1 .0)
+    (called .last .1 .1 .1 .1 .1 .0) (called .last .1 .1 .1 .1 .1 .1 .0) (called .last .1 .1 .1 .1 .1 .1 .1 .0) (imaged .ensures) (zeroed .ensures) (unmarked .ensures)
+    (called .ensures) (called .kept .1 .1 .1 .1 .1 .1 .1 .0) (zeroed .kept .0) (omega (arith, c .before .before .before .before .before .before .before .before .before .before .before .before .before .before .before .before .before .before .before .before .before .before .before .before .before .before .before .before .before .stood .given .0)) (c .before .before .before .before .before .before .before .before .before .told .given .0 .0) (f .result)
+    (f .last .1 .1 .1 .1 .1 .1 .1 .0) (c .before .before .before .before .before .before .before .before .before .told .given .1) (f .ensures)
+
+same-length-3 : tie.Need-same-length-3
+same-length-3 c = search needs
+
+same-length-4 : tie.Need-same-length-4
+same-length-4 c = search needs
+
+returns-2 : tie.Need-returns-2
+returns-2 c =
+    let start = c .before .before .before .before .before .before .before .before .before .before .before .before .before .before .before .before .before .before .before .before .before .before .before .before .before .before .before .before in
+    let a = start .args in
+    let T =
+    jobTables (a .moves .now) (a .count) (a .labels) (a .follow .now) (a .enter .now) (a .sizes .now) (a .accepting .now) in
+    let imaged = c .before .before .before .before .before .before .before .before .before .before .before .before .before .before .before .before .before .before .before .before .before .before .before .list-images in
+    let zeroed = c .before .before .before .before .before .before .before .before .before .before .before .before .before .before .before .before .before .before .before .before .before .clear-numbers in
+    let unmarked = c .before .before .before .before .before .before .before .before .before .before .before .before .before .before .before .before .before .clear-bytes in
+    let called = c .before .before .before .before .before .before .before .before .before .states in
+    part-over T (a .lists) (a .limit) (a .found .now) (a .table .now) (a .marks .now)
+    (imaged .last .1 .1 .1 .1 .1 .1 .1 .1 .0) (zeroed .last .0) (unmarked .last .0) (called .result) (called .last .1 .1 .1 .1 .0)
+    (called .last .1 .1 .1 .1 .1 .0) (called .last .1 .1 .1 .1 .1 .1 .0) (called .last .1 .1 .1 .1 .1 .1 .1 .0) (imaged .ensures) (zeroed .ensures) (unmarked .ensures)
+    (called .ensures) (called .kept .1 .1 .1 .1 .1 .1 .1 .0) (zeroed .kept .0) (omega (arith, c .before .before .before .before .before .before .before .before .before .before .before .before .before .before .before .before .before .before .before .before .before .before .before .before .before .stood .given .0))
+    (c .before .before .before .clear-numbers2 .last .0) (c .refused .result) (c .before .before .before .before .before .enum-told .given .1)
+    (c .before .before .before .clear-numbers2 .ensures) (c .refused .ensures)
+
+pub find-states-spec : {M : Type 1} → statement M
+find-states-spec =
+    tie.close
+    (tie.spec
+    list-images-requires
+    clear-numbers-requires
+    clear-bytes-requires
+    states-requires
+    enum-known-told
+    element-copy-out-found-answer
+    found-answer-requires
+    enum-told
+    clear-numbers-requires-2
+    refused-requires
+    same-length
+    same-length-2
+    returns
+    same-length-3
+    same-length-4
+    returns-2)

@@ -1,0 +1,180 @@
+// Find on the tables of a job.
+use crate::answer::FindAnswer;
+use crate::answer::Finding;
+use crate::answer::refused;
+use crate::clear::clear_bytes;
+use crate::clear::clear_numbers;
+use crate::first::first;
+use crate::flags::accepting_standings;
+use crate::flags::flags;
+use crate::list_images::list_images;
+use crate::standings::Explored;
+use crate::standings::standings;
+use crate::states::states;
+use places::Places;
+use syntax::Refusal;
+ghost use Rattle.finding.specs.ListRows.{jobTables};
+ghost use Rattle.finding.specs.FindTold.{QueryTold, FoundTold, StatesPart, CoreTold};
+
+// The standings of the query, whose automaton is number 0.
+fn query_standings(
+    labels: u64,
+    limit: u64,
+    follow: &[u64; 1088],
+    enter: &[u64; 544],
+    sizes: &[u64; 17],
+    found: &mut [u64; 64],
+    moves: &mut [u64; 2048],
+) -> Explored
+    ensures { λ r. ⌜ QueryTold (now (follow .entry)) (now (enter .entry)) (now (sizes .entry)) labels limit r
+        (now (found .exit)) (now (moves .exit)) ⌝ }
+{
+    let size = sizes[0] as usize;
+    if size > 63 {
+        return Explored::Over;
+    }
+    let follows = &follow[..];
+    let enters = &enter[..];
+    let end = size + 1;
+    standings(&follows[..end], &enters[..32], labels, limit, found, moves)
+}
+
+// The flags and the first accepted word of n states.
+fn found_answer(
+    found: &[u64],
+    count: u64,
+    accepting: u64,
+    explored: &[u64; 256],
+    n: u64,
+    parents: &[u64; 256],
+    symbols: &[u64; 256],
+    marks: &mut [u8],
+) -> FindAnswer
+    ensures { λ r. ⌜ FoundTold (now (found .entry)) count accepting (now (explored .entry)) n (now (parents .entry)) (now (symbols .entry))
+        (now (marks .entry)) r (now (marks .exit)) ⌝ }
+{
+    let good = accepting_standings(found, count, Places(accepting));
+    flags(explored, n, good, marks);
+    let word = first(marks, n, parents, symbols);
+    let finding = Finding::Found(count, n);
+    FindAnswer {
+        finding,
+        first: word,
+    }
+}
+
+// The states over the lists, from the standings and their moves.
+fn find_states(
+    labels: u64,
+    lists: u64,
+    limit: u64,
+    follow: &[u64; 1088],
+    enter: &[u64; 544],
+    sizes: &[u64; 17],
+    accepting: &[u64; 17],
+    count: u64,
+    found: &[u64; 64],
+    moves: &[u64; 2048],
+    table: &mut [u16],
+    marks: &mut [u8],
+) -> FindAnswer
+    ensures { λ r. ⌜ StatesPart (jobTables (now (moves .entry)) count labels (now (follow .entry)) (now (enter .entry)) (now (sizes .entry))
+        (now (accepting .entry))) lists limit (now (found .entry)) (now (table .entry)) (now (marks .entry)) r
+        (now (table .exit)) (now (marks .exit)) ⌝ }
+{
+    let stood = &found[..];
+    let mut images = [0; 1024];
+    list_images(
+        moves,
+        count,
+        labels,
+        lists,
+        follow,
+        enter,
+        sizes,
+        accepting,
+        &mut images,
+    );
+    clear_numbers(table, 4096);
+    clear_bytes(marks, 256);
+    let mut explored = [0; 256];
+    let mut parents = [0; 256];
+    let mut symbols = [0; 256];
+    let told = states(
+        &images,
+        count,
+        lists,
+        limit,
+        &mut explored,
+        &mut parents,
+        &mut symbols,
+        table,
+    );
+    match told {
+        Explored::All(n) => found_answer(
+            stood,
+            count,
+            accepting[0],
+            &explored,
+            n,
+            &parents,
+            &symbols,
+            marks,
+        ),
+        Explored::Over => {
+            clear_numbers(table, 4096);
+            refused(Refusal::TooManyStates, 0)
+        }
+    }
+}
+
+// Find, with at most so many standings and states; there is room for 64 and 256. Where there are more, the named parts of the table and of
+// the flags are zeros.
+pub fn find_core(
+    labels: u64,
+    lists: u64,
+    follow: &[u64; 1088],
+    enter: &[u64; 544],
+    sizes: &[u64; 17],
+    accepting: &[u64; 17],
+    most_standings: u64,
+    most_states: u64,
+    table: &mut [u16],
+    marks: &mut [u8],
+) -> FindAnswer
+    ensures { λ r. ⌜ CoreTold (now (follow .entry)) (now (enter .entry)) (now (sizes .entry)) (now (accepting .entry)) labels lists
+        «most_standings» «most_states» (now (table .entry)) (now (marks .entry)) r (now (table .exit)) (now (marks .exit)) ⌝ }
+{
+    let mut found = [0; 64];
+    let mut moves = [0; 2048];
+    let told = query_standings(
+        labels,
+        most_standings,
+        follow,
+        enter,
+        sizes,
+        &mut found,
+        &mut moves,
+    );
+    match told {
+        Explored::All(count) => find_states(
+            labels,
+            lists,
+            most_states,
+            follow,
+            enter,
+            sizes,
+            accepting,
+            count,
+            &found,
+            &moves,
+            table,
+            marks,
+        ),
+        Explored::Over => {
+            clear_numbers(table, 4096);
+            clear_bytes(marks, 256);
+            refused(Refusal::TooManyStandings, 0)
+        }
+    }
+}
