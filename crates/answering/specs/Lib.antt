@@ -29,3 +29,5 @@ pub mod Searched
 pub mod SearchedLaws
 pub mod Marks
 pub mod MarksSteps
+pub mod LinksCore
+pub mod LinksCoreLaws

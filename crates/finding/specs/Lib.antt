@@ -42,5 +42,8 @@ pub mod StoredAutomata
 pub mod StoredImages
 pub mod ListRows
 pub mod Outcome
-pub mod FindTold
+pub mod QueryTold
+pub mod FoundTold
+pub mod StatesPart
+pub mod CoreTold
 pub mod Operation

@@ -1,5 +1,5 @@
 -- What the code for the images of all lists promises: a row of 64 for each list, and how its loop over the lists keeps it.
-use Prim.Native.Nat.{ℕ, suc, _+_, _-_, _*_, _^_, _≤_, _<_}
+use Prim.Native.Nat.{ℕ, suc, _+_, _*_, _^_, _≤_, _<_}
 use mathlib.Core.List.{List, _++_}
 use mathlib.Core.Logic.{_⊎_, inl, inr, _≢_}
 use mathlib.Core.Path.{_≡_, refl, sym, ap, _∙_, subst}
@@ -16,7 +16,7 @@ use Rattle.finding.specs.ImageRows.{imageRows}
 use Rattle.finding.specs.ImageSearch.{Tables, tables, Fitting}
 use Rattle.finding.specs.ImageNodes.{Holds}
 use Rattle.finding.specs.ImagesTold.{ImagesTold}
-use Rattle.finding.specs.StoredAutomata.{storedAt, Stored}
+use Rattle.finding.specs.StoredAutomata.{Stored}
 use Rattle.finding.specs.StoredImages.{image-rows}
 
 -- One row.

@@ -19,13 +19,14 @@ use Rattle.reading.specs.Read.{Reading, job, refused, read}
 use Rattle.reading.specs.Answering.{answerOf}
 use Rattle.reading.specs.Tables.{Tables}
 use Rattle.reading.specs.Loading.{Loaded}
-use Rattle.reading.specs.ReadFacts.{ReadFacts, read-facts}
+use Rattle.reading.specs.ReadFacts.{read-facts}
 use Rattle.finding.specs.declared.answer.FindAnswer.{FindAnswer}
-use Rattle.finding.specs.Find.{find, mostStandings, mostStates}
+use Rattle.finding.specs.Find.{find}
 use Rattle.finding.specs.Outcome.{Outcome, left, refusedWith, leftBy, tablePart, flagsPart}
 use Rattle.finding.specs.StoredAutomata.{Stored, row-stored}
 use Rattle.finding.specs.ListRows.{jobTables}
-use Rattle.finding.specs.FindTold.{Room, Holding, CoreTold}
+use Rattle.finding.specs.StatesPart.{Holding}
+use Rattle.finding.specs.CoreTold.{CoreTold}
 
 -- What is left of buffers that are long enough, by what reading the text gives.
 unfoldable pub leftByReading : Reading → List ℕ → List ℕ → Outcome

@@ -14,7 +14,10 @@ use crate::states::states;
 use places::Places;
 use syntax::Refusal;
 ghost use Rattle.finding.specs.ListRows.{jobTables};
-ghost use Rattle.finding.specs.FindTold.{QueryTold, FoundTold, StatesPart, CoreTold};
+ghost use Rattle.finding.specs.QueryTold.{QueryTold};
+ghost use Rattle.finding.specs.FoundTold.{FoundTold};
+ghost use Rattle.finding.specs.StatesPart.{StatesPart};
+ghost use Rattle.finding.specs.CoreTold.{CoreTold};
 
 // The standings of the query, whose automaton is number 0.
 fn query_standings(

@@ -32,3 +32,8 @@ pub mod PairTableLaws
 pub mod Workspace
 pub mod PairsTold
 pub mod PairRows
+pub mod PathTold
+pub mod Missing
+pub mod VerdictTold
+pub mod Placing
+pub mod Judging

@@ -300,11 +300,11 @@ module _ (D : Lent) (limit : ℕ) (space₀ : List ℕ) (i n : ℕ) (space : Lis
 
 -- All entries are done.
 pub pairs-told : (D : Lent) (limit : ℕ) (space₀ : List ℕ) (i n : ℕ) (space : List ℕ) → SweepLoop D limit space₀ i n space → n ≤ i
-    → PairsTold D limit space₀ (All n) space
+    → limit ≤ 4096 → 18 * limit ≤ length space₀ → PairsTold D limit space₀ (All n) space
 unfolding PairsCase pairs
-pairs-told D limit space₀ i n space loop h =
+pairs-told D limit space₀ i n space loop h most room =
     record {
-      few = λ k q. let z : n ≡ k = cc in omega (arith, loop .within);
+      few = λ k q. let z : n ≡ k = cc in (omega (arith, loop .within), most, room);
       beyond = loop .beyond;
       told = λ p few room flags.
           let s = loop .told p flags in
@@ -316,7 +316,7 @@ pub told-before : (D : Lent) (limit : ℕ) (space₀ space : List ℕ) (cover : 
     → Stored space₀ 0 1 cover 0 space → PairsTold D limit space r space′ → PairsTold D limit space₀ r space′
 told-before D limit space₀ space cover r space′ room stored t =
     record {
-      few = t .few;
+      few = λ m e. let (few, most, fits) = t .few m e in (few, most, omega (arith, stored .size));
       beyond = λ j k. t .beyond j k ∙ stored .others j (λ x y. omega arith);
       told = λ p few fits flags. t .told p few (omega (arith, stored .size)) flags;
     }

@@ -81,6 +81,6 @@ PairsCase D flags limit space′ Over =
     (automataOf (D .follow) (D .enter) (D .sizes) (D .accepting) (D .lists)) limit ≡ over
 
 pub record PairsTold (D : Lent) (limit : ℕ) (space : List ℕ) (r : Explored) (space′ : List ℕ) : Type 0 where
-  pub few : (m : ℕ) → r ≡ All m → m ≤ limit
+  pub few : (m : ℕ) → r ≡ All m → (m ≤ limit) × (limit ≤ 4096) × (18 * limit ≤ length space)
   pub beyond : (j : ℕ) → 18 * limit ≤ j → getD space′ j 0 ≡ getD space j 0
   pub told : Lending D → limit ≤ 4096 → 18 * limit ≤ length space → (flags : List ℕ) → PairsCase D flags limit space′ r

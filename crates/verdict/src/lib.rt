@@ -1,4 +1,6 @@
 // The verdict: cover places, pairs, and whether every query path is yielded.
 pub mod cover;
 pub mod pairs;
+pub mod path;
+pub mod verdict;
 pub mod workspace;

@@ -3,7 +3,6 @@ use mathlib.Core.Path.{ap}
 use Rattle.finding.specs.declared.answer.FindAnswer.{FindAnswer}
 use Rattle.finding.specs.declared.answer.Finding.the-variants.{Refused}
 use Rattle.finding.specs.declared.first.FirstWord.{FirstWord}
-use native.Mathlib.Omega.{arith}
 use borrow.Author.Needs.{needs}
 use Rattle.finding.proofs.answer.refused.Statement.{statement}
 use Rattle.finding.proofs.answer.refused.Tie as tie

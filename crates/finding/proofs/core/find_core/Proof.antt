@@ -1,6 +1,5 @@
 -- The query has too many standings, or the states tell it.
-use Rattle.finding.specs.FindTold.{core-over, core-all}
-use native.Mathlib.Omega.{arith}
+use Rattle.finding.specs.CoreTold.{core-over, core-all}
 use borrow.Author.Needs.{needs}
 use Rattle.finding.proofs.core.find_core.Statement.{statement}
 use Rattle.finding.proofs.core.find_core.Tie as tie
@@ -34,12 +33,14 @@ same-length-2 c = search needs
 
 returns : tie.Need-returns
 returns c =
-    let a = c .before .before .before .before .before .before .before .before .before .before .before .before .before .before .before .before .before .args in
-    let q = c .before .before .before .before .before .before .before .before .before .before .before .before .query-standings in
+    let matched = c .before .before .before .before .before .before .before .before .before .before in
+    let explored = matched .before .before in
+    let a = explored .before .before .before .before .before .args in
+    let q = explored .query-standings in
     let s = c .before .before .before .before .find-states in
     core-all (a .follow .now) (a .enter .now) (a .sizes .now) (a .accepting .now) (a .labels) (a .lists) (a .most-standings) (a .most-states)
-    (a .table .now) (a .marks .now) (q .result) (q .last .1 .1 .1 .1 .1 .0) (q .last .1 .1 .1 .1 .1 .1 .0) (q .ensures) _ (s .result) (s .last .1 .1 .1 .1 .1 .1 .1 .1 .1 .1 .0) (s .last .1 .1 .1 .1 .1 .1 .1 .1 .1 .1 .1 .0)
-    (c .before .before .before .before .before .before .before .before .before .before .told .given .1) (s .ensures)
+    (a .table .now) (a .marks .now) (q .result) (q .last .1 .1 .1 .1 .1 .0) (q .last .1 .1 .1 .1 .1 .1 .0) (q .ensures) _ (s .result)
+    (s .last .1 .1 .1 .1 .1 .1 .1 .1 .1 .1 .0) (s .last .1 .1 .1 .1 .1 .1 .1 .1 .1 .1 .1 .0) (matched .told .given .1) (s .ensures)
 
 same-length-3 : tie.Need-same-length-3
 same-length-3 c = search needs
@@ -49,12 +50,15 @@ same-length-4 c = search needs
 
 returns-2 : tie.Need-returns-2
 returns-2 c =
-    let a = c .before .before .before .before .before .before .before .before .before .before .before .before .before .before .before .before .args in
-    let q = c .before .before .before .before .before .before .before .before .before .before .before .query-standings in
+    let matched = c .before .before .before .before .before .before .before .before .before in
+    let explored = matched .before .before in
+    let a = explored .before .before .before .before .before .args in
+    let q = explored .query-standings in
+    let numbers = c .before .before .before .before .before .before .before .clear-numbers in
+    let bytes = c .before .before .before .clear-bytes in
     core-over (a .follow .now) (a .enter .now) (a .sizes .now) (a .accepting .now) (a .labels) (a .lists) (a .most-standings) (a .most-states)
-    (a .table .now) (a .marks .now) (q .result) (q .last .1 .1 .1 .1 .1 .0) (q .last .1 .1 .1 .1 .1 .1 .0) (q .ensures) (c .refused .result) (c .before .before .before .before .before .before .before .clear-numbers .last .0)
-    (c .before .before .before .clear-bytes .last .0) (c .before .before .before .before .before .before .before .before .before .enum-told .given .1) (c .before .before .before .before .before .before .before .clear-numbers .ensures) (c .before .before .before .clear-bytes .ensures)
-    (c .refused .ensures)
+    (a .table .now) (a .marks .now) (q .result) (q .last .1 .1 .1 .1 .1 .0) (q .last .1 .1 .1 .1 .1 .1 .0) (q .ensures) (c .refused .result)
+    (numbers .last .0) (bytes .last .0) (matched .enum-told .given .1) (numbers .ensures) (bytes .ensures) (c .refused .ensures)
 
 pub find-core-spec : {M : Type 1} → statement M
 find-core-spec =

@@ -1,6 +1,6 @@
 -- The states are explored into cleared memory. Where there are too many, the table is cleared again.
 use Rattle.finding.specs.ListRows.{jobTables}
-use Rattle.finding.specs.FindTold.{part-over, part-all}
+use Rattle.finding.specs.StatesPart.{part-over, part-all}
 use native.Mathlib.Omega.{arith}
 use borrow.Author.Needs.{needs}
 use Rattle.finding.proofs.core.find_states.Statement.{statement}
@@ -37,27 +37,35 @@ refused-requires : tie.Need-refused-requires
 refused-requires c κs = search needs
 
 same-length : tie.Need-same-length
-same-length c = omega (arith, c .before .before .before .before .before .before .before .before .before .before .before .before .before .states .kept .1 .1 .1 .1 .1 .1 .1 .0, c .before .before .before .before .before .before .before .before .before .before .before .before .before .before .before .before .before .before .before .before .before .before .before .before .before .clear-numbers .kept .0)
+same-length c =
+    let called = c .before .before .before .before .before .before .before .before .before .before .before .before .before in
+    let numbers = called .before .before .before .before .before .before .before .before .before .before .before .before in
+    omega (arith, called .states .kept .1 .1 .1 .1 .1 .1 .1 .0, numbers .clear-numbers .kept .0)
 
 same-length-2 : tie.Need-same-length-2
 same-length-2 c = search needs
 
 returns : tie.Need-returns
 returns c =
-    let start = c .before .before .before .before .before .before .before .before .before .before .before .before .before .before .before .before .before .before .before .before .before .before .before .before .before .before .before .before .before .before .before .before in
-    let a = start .args in
+    let called = c .before .before .before .before .before .before .before .before .before .before .before .before .before in
+    let bytes = called .before .before .before .before .before .before .before .before in
+    let numbers = bytes .before .before .before .before in
+    let listed = numbers .before .before in
+    let lent = listed .before .before in
+    let a = lent .before .before .before .args in
+    let imaged = listed .list-images in
+    let zeroed = numbers .clear-numbers in
+    let unmarked = bytes .clear-bytes in
+    let told = called .states in
     let T =
     jobTables (a .moves .now) (a .count) (a .labels) (a .follow .now) (a .enter .now) (a .sizes .now) (a .accepting .now) in
-    let imaged = c .before .before .before .before .before .before .before .before .before .before .before .before .before .before .before .before .before .before .before .before .before .before .before .before .before .before .before .list-images in
-    let zeroed = c .before .before .before .before .before .before .before .before .before .before .before .before .before .before .before .before .before .before .before .before .before .before .before .before .before .clear-numbers in
-    let unmarked = c .before .before .before .before .before .before .before .before .before .before .before .before .before .before .before .before .before .before .before .before .before .clear-bytes in
-    let called = c .before .before .before .before .before .before .before .before .before .before .before .before .before .states in
     let f = c .before .before .found-answer in
-    part-all T (a .lists) (a .limit) (a .found .now) (a .table .now) (a .marks .now)
-    (imaged .last .1 .1 .1 .1 .1 .1 .1 .1 .0) (zeroed .last .0) (unmarked .last .0) (called .result) (called .last .1 .1 .1 .1 .0)
-    (called .last .1 .1 .1 .1 .1 .0) (called .last .1 .1 .1 .1 .1 .1 .0) (called .last .1 .1 .1 .1 .1 .1 .1 .0) (imaged .ensures) (zeroed .ensures) (unmarked .ensures)
-    (called .ensures) (called .kept .1 .1 .1 .1 .1 .1 .1 .0) (zeroed .kept .0) (omega (arith, c .before .before .before .before .before .before .before .before .before .before .before .before .before .before .before .before .before .before .before .before .before .before .before .before .before .before .before .before .before .stood .given .0)) (c .before .before .before .before .before .before .before .before .before .told .given .0 .0) (f .result)
-    (f .last .1 .1 .1 .1 .1 .1 .1 .0) (c .before .before .before .before .before .before .before .before .before .told .given .1) (f .ensures)
+    let all = c .before .before .before .before .before .before .before .before .before .told .given in
+    part-all T (a .lists) (a .limit) (a .found .now) (a .table .now) (a .marks .now) (imaged .last .1 .1 .1 .1 .1 .1 .1 .1 .0) (zeroed .last .0)
+    (unmarked .last .0) (told .result) (told .last .1 .1 .1 .1 .0) (told .last .1 .1 .1 .1 .1 .0) (told .last .1 .1 .1 .1 .1 .1 .0)
+    (told .last .1 .1 .1 .1 .1 .1 .1 .0) (imaged .ensures) (zeroed .ensures) (unmarked .ensures) (told .ensures) (told .kept .1 .1 .1 .1 .1 .1 .1 .0)
+    (zeroed .kept .0) (omega (arith, lent .stood .given .0)) (all .0 .0) (f .result)
+    (f .last .1 .1 .1 .1 .1 .1 .1 .0) (all .1) (f .ensures)
 
 same-length-3 : tie.Need-same-length-3
 same-length-3 c = search needs
@@ -67,20 +75,24 @@ same-length-4 c = search needs
 
 returns-2 : tie.Need-returns-2
 returns-2 c =
-    let start = c .before .before .before .before .before .before .before .before .before .before .before .before .before .before .before .before .before .before .before .before .before .before .before .before .before .before .before .before in
-    let a = start .args in
+    let called = c .before .before .before .before .before .before .before .before .before in
+    let bytes = called .before .before .before .before .before .before .before .before in
+    let numbers = bytes .before .before .before .before in
+    let listed = numbers .before .before in
+    let lent = listed .before .before in
+    let a = lent .before .before .before .args in
+    let imaged = listed .list-images in
+    let zeroed = numbers .clear-numbers in
+    let unmarked = bytes .clear-bytes in
+    let told = called .states in
     let T =
     jobTables (a .moves .now) (a .count) (a .labels) (a .follow .now) (a .enter .now) (a .sizes .now) (a .accepting .now) in
-    let imaged = c .before .before .before .before .before .before .before .before .before .before .before .before .before .before .before .before .before .before .before .before .before .before .before .list-images in
-    let zeroed = c .before .before .before .before .before .before .before .before .before .before .before .before .before .before .before .before .before .before .before .before .before .clear-numbers in
-    let unmarked = c .before .before .before .before .before .before .before .before .before .before .before .before .before .before .before .before .before .clear-bytes in
-    let called = c .before .before .before .before .before .before .before .before .before .states in
-    part-over T (a .lists) (a .limit) (a .found .now) (a .table .now) (a .marks .now)
-    (imaged .last .1 .1 .1 .1 .1 .1 .1 .1 .0) (zeroed .last .0) (unmarked .last .0) (called .result) (called .last .1 .1 .1 .1 .0)
-    (called .last .1 .1 .1 .1 .1 .0) (called .last .1 .1 .1 .1 .1 .1 .0) (called .last .1 .1 .1 .1 .1 .1 .1 .0) (imaged .ensures) (zeroed .ensures) (unmarked .ensures)
-    (called .ensures) (called .kept .1 .1 .1 .1 .1 .1 .1 .0) (zeroed .kept .0) (omega (arith, c .before .before .before .before .before .before .before .before .before .before .before .before .before .before .before .before .before .before .before .before .before .before .before .before .before .stood .given .0))
-    (c .before .before .before .clear-numbers2 .last .0) (c .refused .result) (c .before .before .before .before .before .enum-told .given .1)
-    (c .before .before .before .clear-numbers2 .ensures) (c .refused .ensures)
+    let again = c .before .before .before .clear-numbers2 in
+    part-over T (a .lists) (a .limit) (a .found .now) (a .table .now) (a .marks .now) (imaged .last .1 .1 .1 .1 .1 .1 .1 .1 .0) (zeroed .last .0)
+    (unmarked .last .0) (told .result) (told .last .1 .1 .1 .1 .0) (told .last .1 .1 .1 .1 .1 .0) (told .last .1 .1 .1 .1 .1 .1 .0)
+    (told .last .1 .1 .1 .1 .1 .1 .1 .0) (imaged .ensures) (zeroed .ensures) (unmarked .ensures) (told .ensures) (told .kept .1 .1 .1 .1 .1 .1 .1 .0)
+    (zeroed .kept .0) (omega (arith, lent .stood .given .0))
+    (again .last .0) (c .refused .result) (c .before .before .before .before .before .enum-told .given .1) (again .ensures) (c .refused .ensures)
 
 pub find-states-spec : {M : Type 1} → statement M
 find-states-spec =

@@ -1,5 +1,5 @@
 -- The flags are written into cleared memory, and the first accepted word is read off them.
-use Rattle.finding.specs.FindTold.{found-told}
+use Rattle.finding.specs.FoundTold.{found-told}
 use native.Mathlib.Omega.{arith}
 use borrow.Author.Needs.{needs}
 use Rattle.finding.proofs.core.found_answer.Statement.{statement}

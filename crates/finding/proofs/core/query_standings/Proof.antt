@@ -4,7 +4,7 @@ use mathlib.Core.Path.{sym, refl}
 use native.Mathlib.Numerals.{add-one}
 use lib.ListN.{getD, length-take}
 use lib.Seq.{length-take-le}
-use Rattle.finding.specs.FindTold.{query-refused, query-told}
+use Rattle.finding.specs.QueryTold.{query-refused, query-told}
 use native.Mathlib.Omega.{arith}
 use borrow.Author.Needs.{needs}
 use Rattle.finding.proofs.core.query_standings.Statement.{statement}

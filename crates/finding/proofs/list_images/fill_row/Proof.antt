@@ -2,7 +2,7 @@
 use Prim.Native.Nat.{_+_, _*_, _-_}
 use mathlib.Core.Path.{_≡_, _∙_}
 use native.Mathlib.Nat.{add-sub-cancel-left}
-use lib.ListN.{length, take, drop, length-take, length-drop}
+use lib.ListN.{length, length-take, length-drop}
 use Rattle.finding.specs.ImageSearch.{tables}
 use Rattle.finding.specs.ListRows.{row-filled}
 use native.Mathlib.Omega.{arith}

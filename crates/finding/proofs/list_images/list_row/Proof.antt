@@ -1,7 +1,6 @@
 -- The row is filled from the parts of the tables that hold the automaton number v + 1.
-use Prim.Native.Nat.{suc, _+_, _*_, _-_}
-use mathlib.Core.Path.{_≡_, ap, subst, sym}
-use lib.ListN.{length, getD, take, drop}
+use Prim.Native.Nat.{_+_, _*_, _-_}
+use lib.ListN.{getD}
 use native.Mathlib.Numerals.{add-one}
 use Rattle.finding.specs.ListRows.{jobTables, list-refused, list-told}
 use native.Mathlib.Omega.{arith}

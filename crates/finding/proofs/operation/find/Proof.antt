@@ -1,7 +1,6 @@
 -- The buffers are measured first; then the text is read into tables, and Find runs on them.
 use Rattle.reading.specs.Loading.{tables}
 use Rattle.finding.specs.Operation.{short-table, short-flags, reading-refused, reading-found}
-use native.Mathlib.Omega.{arith}
 use borrow.Author.Needs.{needs}
 use Rattle.finding.proofs.operation.find.Statement.{statement}
 use Rattle.finding.proofs.operation.find.Tie as tie
@@ -39,11 +38,13 @@ find-core-requires c κs = search needs
 
 returns-3 : tie.Need-returns-3
 returns-3 c =
-    let a = c .before .before .before .before .before .before .before .before .before .before .before .before .before .before .before .args in
-    let l = c .before .before .before .before .load in
-    reading-refused (a .text .now) (a .table .now) (a .marks .now) (c .before .before .before .before .before .before .before .before .before .before .before .if1 .left) (c .before .before .before .before .before .before .before .before .before .before .if2 .left) (l .result)
-    (tables (l .last .1 .0) (l .last .1 .1 .0) (l .last .1 .1 .1 .0) (l .last .1 .1 .1 .1 .0) (l .last .1 .1 .1 .1 .1 .0)) (l .ensures) _ _ (c .refused3 .result) (c .before .before .told .given .1)
-    (c .refused3 .ensures)
+    let loaded = c .before .before .before .before in
+    let marked = loaded .before .before .before .before .before .before in
+    let a = marked .before .before .before .before .before .args in
+    let l = loaded .load in
+    reading-refused (a .text .now) (a .table .now) (a .marks .now) (marked .before .if1 .left) (marked .if2 .left) (l .result)
+    (tables (l .last .1 .0) (l .last .1 .1 .0) (l .last .1 .1 .1 .0) (l .last .1 .1 .1 .1 .0) (l .last .1 .1 .1 .1 .1 .0))
+    (l .ensures) _ _ (c .refused3 .result) (c .before .before .told .given .1) (c .refused3 .ensures)
 
 same-length : tie.Need-same-length
 same-length c = search needs
@@ -53,12 +54,15 @@ same-length-2 c = search needs
 
 returns-4 : tie.Need-returns-4
 returns-4 c =
-    let a = c .before .before .before .before .before .before .before .before .before .before .before .before .before .before .before .before .before .before .before .before .before .before .before .before .before .args in
-    let l = c .before .before .before .before .before .before .before .before .before .before .before .before .before .before .load in
+    let matched = c .before .before .before .before .before .before .before .before .before .before .before .before in
+    let loaded = matched .before .before in
+    let marked = loaded .before .before .before .before .before .before in
+    let a = marked .before .before .before .before .before .args in
+    let l = loaded .load in
     let f = c .before .before .before .before .find-core in
-    reading-found (a .text .now) (a .table .now) (a .marks .now) (c .before .before .before .before .before .before .before .before .before .before .before .before .before .before .before .before .before .before .before .before .before .if1 .left) (c .before .before .before .before .before .before .before .before .before .before .before .before .before .before .before .before .before .before .before .before .if2 .left) (l .result)
-    (tables (l .last .1 .0) (l .last .1 .1 .0) (l .last .1 .1 .1 .0) (l .last .1 .1 .1 .1 .0) (l .last .1 .1 .1 .1 .1 .0)) (l .ensures) _ _ (f .result) (f .last .1 .1 .1 .1 .1 .1 .1 .1 .0) (f .last .1 .1 .1 .1 .1 .1 .1 .1 .1 .0)
-    (c .before .before .before .before .before .before .before .before .before .before .before .before .told2 .given .1) (f .ensures)
+    reading-found (a .text .now) (a .table .now) (a .marks .now) (marked .before .if1 .left) (marked .if2 .left) (l .result)
+    (tables (l .last .1 .0) (l .last .1 .1 .0) (l .last .1 .1 .1 .0) (l .last .1 .1 .1 .1 .0) (l .last .1 .1 .1 .1 .1 .0))
+    (l .ensures) _ _ (f .result) (f .last .1 .1 .1 .1 .1 .1 .1 .1 .0) (f .last .1 .1 .1 .1 .1 .1 .1 .1 .1 .0) (matched .told2 .given .1) (f .ensures)
 
 pub find-spec : {M : Type 1} → statement M
 find-spec =

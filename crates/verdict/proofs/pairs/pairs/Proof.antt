@@ -91,7 +91,8 @@ returns-6 c =
     let l = c .before .loop in
     told-before (lent (s .args .states) (s .args .labels) (s .args .lists) (s .args .follow .now) (s .args .enter .now) (s .args .sizes .now) (s .args .accepting .now) (s .args .table .now)) (s .args .allowance) (s .args .workspace .now) (c .before .before .before .before .store .last .0) (c .before .before .before .before .before .before .cover-start .result .words) _ (l .workspace)
     (omega (arith, c .before .before .before .before .before .before .before .before .before .before .if1 .left)) (c .before .before .before .before .store .ensures)
-    (pairs-told (lent (s .args .states) (s .args .labels) (s .args .lists) (s .args .follow .now) (s .args .enter .now) (s .args .sizes .now) (s .args .accepting .now) (s .args .table .now)) (s .args .allowance) (c .before .before .before .before .store .last .0) (l .i) (l .n) (l .workspace) (l .inv) (c .loop-test .left))
+    (pairs-told (lent (s .args .states) (s .args .labels) (s .args .lists) (s .args .follow .now) (s .args .enter .now) (s .args .sizes .now) (s .args .accepting .now) (s .args .table .now)) (s .args .allowance) (c .before .before .before .before .store .last .0) (l .i) (l .n) (l .workspace) (l .inv) (c .loop-test .left)
+    (c .before .before .before .before .before .before .before .before .before .if2 .left) (omega (arith, c .before .before .before .before .before .before .before .if4 .left, c .before .before .before .before .store .ensures .size)))
 
 pub pairs-spec : {M : Type 1} → statement M
 pairs-spec =

@@ -1,0 +1,52 @@
+//! The printed form: Find, then Verdict with allowance 128.
+
+use crate::find::find;
+use crate::read::{read, Refusal};
+use crate::verdict::verdict;
+
+pub const PRINTED_ALLOWANCE: usize = 128;
+
+/// All that the program prints for a job text.
+pub fn printed(text: &[u8]) -> String {
+    let mut out = String::new();
+    if let Err(refusal) = print(text, &mut out) {
+        match refusal.line {
+            0 => out += &format!("refused {}\n", refusal.number),
+            line => out += &format!("refused {} line {line}\n", refusal.number),
+        }
+    }
+    out
+}
+
+fn print(text: &[u8], out: &mut String) -> Result<(), Refusal> {
+    let refusal = |number| Refusal { number, line: 0 };
+    let job = read(text)?;
+    let found = find(&job).map_err(refusal)?;
+    *out += &format!("query {}\n", found.standings);
+    *out += &format!("states {}\n", found.states.len());
+    for (state, row) in found.table.iter().enumerate() {
+        let sign = if found.accepting[state] { '+' } else { '-' };
+        *out += &format!("{state} {sign}");
+        for next in row {
+            *out += &format!(" {next}");
+        }
+        *out += "\n";
+    }
+    match &found.first {
+        Some(word) => *out += &named("first", word, |list| &job.lists[list].name),
+        None => *out += "empty\n",
+    }
+    let verdict = verdict(&job, PRINTED_ALLOWANCE).map_err(refusal)?;
+    match &verdict.missed {
+        Some(path) => *out += &named("missed", path, |label| &job.labels[label]),
+        None => *out += "complete\n",
+    }
+    *out += &format!("pairs {}\n", verdict.pairs);
+    Ok(())
+}
+
+/// A line of a word and the names of the numbers after it.
+fn named<'a>(word: &str, numbers: &[usize], name: impl Fn(usize) -> &'a str) -> String {
+    let names = numbers.iter().map(|number| format!(" {}", name(*number)));
+    format!("{word}{}\n", names.collect::<String>())
+}
