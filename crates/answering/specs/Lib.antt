@@ -31,3 +31,5 @@ pub mod Marks
 pub mod MarksSteps
 pub mod LinksCore
 pub mod LinksCoreLaws
+pub mod LinksOperation
+pub mod LinksOperationLaws

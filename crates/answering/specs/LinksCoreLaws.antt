@@ -1,15 +1,13 @@
 -- The steps of marking by standings (LinksCore): copied next states run the same machine, what the search and the marks promise together,
 -- and the standings told as a machine.
-use Prim.Native.Nat.{ℕ, zero, suc, _+_, _*_, _/_, _%_, _≤_, _<_}
+use Prim.Native.Nat.{ℕ, _+_, _*_, _/_, _%_, _≤_, _<_}
 use mathlib.Core.List.{List, [], _∷_, _++_}
-use mathlib.Core.Logic.{_↔_}
 use mathlib.Core.Path.{_≡_, refl, sym, ap, ap₂, _∙_, subst}
 use native.Mathlib.Omega.{arith}
 use native.Mathlib.Decide.{ℕ-discrete}
 use lib.Seq.{getD-set-same, getD-set-other}
 use lib.ListN.{length, getD, set, take, drop, replicate, take-append-drop}
 use Rattle.theory.specs.Graph.{Table}
-use Rattle.theory.specs.Places.{Member}
 use Rattle.theory.specs.Automaton.{Automaton, step, accepts}
 use Rattle.theory.specs.Exploration.{Entry, Exploration, all, over}
 use Rattle.theory.specs.ExplorationLaws.{explored}
@@ -22,10 +20,8 @@ use Rattle.finding.specs.Plain.{plain}
 use Rattle.finding.specs.Numbering.{standings-numbering}
 use Rattle.finding.specs.Numbers.{length-values}
 use Rattle.finding.specs.StandingsTold.{StandingsTold}
-use Rattle.answering.specs.declared.links_core.Links.{Links}
 use Rattle.answering.specs.declared.links_core.Links.the-variants.{Marked, Over}
-use Rattle.answering.specs.Table.{isTable}
-use Rattle.answering.specs.Product.{Machine, marks, ones}
+use Rattle.answering.specs.Product.{Machine}
 use Rattle.answering.specs.Answer.{linkMachine}
 use Rattle.answering.specs.Cleared.{Cleared}
 use Rattle.answering.specs.Searched.{Searchable, Runs, Searched}

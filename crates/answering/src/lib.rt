@@ -1,7 +1,9 @@
-// Answers over lent tables: whether a table is one, where a recording's links begin, what a search reaches, and its marks.
+// Answers over lent tables: whether a table is one, where a recording's links begin, what a search reaches, and its marks; and Answer from
+// links.
 mod clear;
 mod links;
 mod links_core;
+mod links_operation;
 mod marks;
 mod pairs;
 pub mod search;
@@ -12,5 +14,7 @@ pub use clear::clear_words;
 pub use links::first_link;
 pub use links_core::Links;
 pub use links_core::mark_links;
+pub use links_operation::Answered;
+pub use links_operation::answer_from_links;
 pub use marks::mark;
 pub use table::is_table;

@@ -1,5 +1,5 @@
 -- `copy_numbers` meets its contract. The loop's invariant: the first i numbers have been copied.
-use Prim.Native.Nat.{_-_, _≤_, _<_}
+use Prim.Native.Nat.{_-_, _≤_}
 use mathlib.Core.Path.{_≡_}
 use lib.ListN.{length, length-set}
 use Rattle.answering.specs.LinksCoreLaws.{CopiedBelow, copied-next}

@@ -1,6 +1,5 @@
 -- `mark_machine` meets its contract by what the search and the marks promise together.
 use Rattle.answering.specs.LinksCoreLaws.{machine-marked}
-use native.Mathlib.Omega.{arith}
 use borrow.Author.Needs.{needs}
 use Rattle.answering.proofs.links_core.mark_machine.Statement.{statement}
 use Rattle.answering.proofs.links_core.mark_machine.Tie as tie

@@ -1,0 +1,77 @@
+-- Answer from links (document 01): what is told and what the lent marks and words hold at the end, from the job text on. Refusal 9 zeroes
+-- the named parts, every other refusal changes nothing, and what lies beyond the named parts never changes.
+use Prim.Native.Nat.{ℕ, _≤_}
+use mathlib.Core.Bool.{true, false, _&&_}
+use mathlib.Core.List.{List, _++_}
+use mathlib.Core.Option.{some}
+use mathlib.Core.Path.{_≡_}
+use lib.Dec.{eqb, leb}
+use lib.ListN.{length, drop, replicate}
+use Rattle.theory.specs.Expression.{Expression}
+use Rattle.theory.specs.Job.{Job}
+use Rattle.theory.specs.Graph.{Table}
+use Rattle.theory.specs.Automaton.{glushkov}
+use Rattle.syntax.specs.declared.refusal.Refusal.the-variants.{BadRecordings, BufferTooShort}
+use Rattle.syntax.specs.Byte.{Bytes}
+use Rattle.syntax.specs.Number.{number}
+use Rattle.reading.specs.JobText.{jobOf}
+use Rattle.reading.specs.Read.{Reading, job, read}
+use Rattle.finding.specs.Standings.{standings}
+use Rattle.finding.specs.StoredAutomata.{Stored}
+use Rattle.answering.specs.declared.links_operation.Answered.{Answered}
+use Rattle.answering.specs.declared.links_operation.Answered.the-variants.{Marked, Refused}
+use Rattle.answering.specs.Product.{ones}
+use Rattle.answering.specs.AnswerJob.{Marking, marked, refused, chosen, markedLinks, linksJob}
+
+-- What is told, and what the lent marks and words hold.
+pub record Outcome : Type 0 where
+  pub answer : Answered
+  pub marks : List ℕ
+  pub workspace : List ℕ
+
+abbrev pub outcome : Answered → List ℕ → List ℕ → Outcome
+outcome r m w = record { answer = r; marks = m; workspace = w }
+
+-- What a job's marks or refusal leave.
+abbrev pub left : ℕ → List ℕ → List ℕ → Marking → Outcome
+left N before workspace (marked m) = outcome (Marked (ones m)) (m ++ drop N before) (replicate N 0 ++ drop N workspace)
+left N before workspace (refused r) =
+    elim (eqb (number r) 9) [
+      | true ↦ outcome (Refused r 0) (replicate N 0 ++ drop N before) (replicate N 0 ++ drop N workspace)
+      | false ↦ outcome (Refused r 0) before workspace
+    ]
+
+-- What a text that is read leaves.
+abbrev pub readLinks : Reading → ℕ → ℕ → Table → ℕ → List ℕ → List ℕ → Outcome
+readLinks (Reading.refused r n) N c t x before workspace = outcome (Refused r n) before workspace
+readLinks (job J) N c t x before workspace = left N before workspace (linksJob (jobOf J) N c t x)
+
+unfoldable pub linksAnswer : Bytes → ℕ → ℕ → Table → ℕ → List ℕ → List ℕ → Outcome
+linksAnswer text N c t x before workspace =
+    elim (leb 1 N && leb N 4096) [
+      | false ↦ outcome (Refused BadRecordings 0) before workspace
+      | true ↦ elim (leb N (length before) && leb N (length workspace)) [
+        | false ↦ outcome (Refused BufferTooShort 0) before workspace
+        | true ↦ readLinks (read text) N c t x before workspace
+      ]
+    ]
+
+-- What the code keeps.
+
+-- The number of recordings is in range, and the lent marks and words suffice for them.
+pub record Sized (N : ℕ) (before workspace : List ℕ) : Type 0 where
+  pub few : N ≤ 4096
+  pub marks-fit : N ≤ length before
+  pub room : N ≤ length workspace
+
+-- The tables hold the automata of the job's expressions.
+pub record JobGiven (J : Job) (follow enter sizes accepting : List ℕ) (labels lists : ℕ) : Type 0 where
+  pub labels-told : J .labels ≡ labels
+  pub lists-told : length (J .lists) ≡ lists
+  pub stored : (c : ℕ) (e : Expression) → chosen J c ≡ some e → Stored follow enter sizes accepting c (glushkov e)
+
+-- What is left by an expression that the tables hold.
+pub record ExpressionTold (follow enter sizes accepting : List ℕ) (x labels : ℕ) (table : Table) (N start : ℕ) (before workspace : List ℕ)
+    (o : Outcome) : Type 0 where
+  pub told : (e : Expression) → Stored follow enter sizes accepting x (glushkov e)
+      → o ≡ left N before workspace (markedLinks e N table start (standings (glushkov e) labels 64))

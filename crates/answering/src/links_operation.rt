@@ -1,0 +1,189 @@
+// Answer from links: the chosen expression of a job, over a table of links.
+use super::links_core::Links;
+use super::links_core::mark_links;
+use super::table::is_table;
+use reading::Answer;
+use reading::load;
+use syntax::Refusal;
+ghost use mathlib.Core.Path.{_≡_};
+ghost use mathlib.Core.Bool.{true};
+ghost use Prim.Native.Nat.{_≤_, _<_};
+ghost use Rattle.theory.specs.Job.{Job};
+ghost use Rattle.reading.specs.Read.{read};
+ghost use Rattle.answering.specs.Table.{isTable};
+ghost use Rattle.answering.specs.AnswerJob.{linksJob};
+ghost use Rattle.answering.specs.LinksCore.{Lent};
+ghost use Rattle.answering.specs.LinksOperation.{outcome, left, readLinks, linksAnswer, Sized, JobGiven, ExpressionTold};
+
+pub enum Answered {
+    // The number of marks that are 1.
+    Marked(u64),
+    // The refusal and its line.
+    Refused(Refusal, u64),
+}
+
+// The expression number x of the tables.
+fn expression_links(
+    follow: &[u64; 1088],
+    enter: &[u64; 544],
+    sizes: &[u64; 17],
+    accepting: &[u64; 17],
+    x: usize,
+    labels: u64,
+    table: &[u16],
+    recordings: u64,
+    start: u64,
+    marks: &mut [u8],
+    workspace: &mut [u64],
+) -> Answered
+    requires { ⌜ (x < 17) × (labels ≤ 32) × (isTable recordings labels (now table) ≡ true)
+        × Lent recordings start (now marks) (now workspace) ⌝ }
+    ensures { λ r. ⌜ ExpressionTold (now (follow .entry)) (now (enter .entry)) (now (sizes .entry)) (now (accepting .entry)) x labels
+        (now (table .entry)) recordings start (now (marks .entry)) (now (workspace .entry))
+        (outcome r (now (marks .exit)) (now (workspace .exit))) ⌝ }
+{
+    let size = sizes[x] as usize;
+    // No expression that is read has so many.
+    if size > 63 {
+        return Answered::Refused(Refusal::TooManyOccurrences, 0);
+    }
+    let from = 64 * x;
+    let to = from + size + 1;
+    let first = 32 * x;
+    let end = first + 32;
+    let follows = &follow[..];
+    let enters = &enter[..];
+    let told = mark_links(
+        &follows[from..to],
+        &enters[first..end],
+        accepting[x],
+        labels,
+        table,
+        recordings,
+        start,
+        marks,
+        workspace,
+    );
+    match told {
+        Links::Marked(ones) => Answered::Marked(ones),
+        Links::Over => Answered::Refused(Refusal::TooManyStandings, 0),
+    }
+}
+
+// The job of the tables.
+fn job_links(
+    follow: &[u64; 1088],
+    enter: &[u64; 544],
+    sizes: &[u64; 17],
+    accepting: &[u64; 17],
+    labels: u64,
+    lists: u64,
+    recordings: u64,
+    chosen: u64,
+    table: &[u16],
+    start: u64,
+    marks: &mut [u8],
+    workspace: &mut [u64],
+) -> Answered
+    requires { ⌜ (labels ≤ 32) × (lists ≤ 16) × Sized recordings (now marks) (now workspace) ⌝ }
+    ensures { λ r. ⌜ ((J : Job) → JobGiven J (now (follow .entry)) (now (enter .entry)) (now (sizes .entry)) (now (accepting .entry)) labels lists
+        → outcome r (now (marks .exit)) (now (workspace .exit))
+        ≡ left recordings (now (marks .entry)) (now (workspace .entry)) (linksJob J recordings chosen (now (table .entry)) start)) ⌝ }
+{
+    if lists < chosen {
+        return Answered::Refused(Refusal::NoExpression, 0);
+    }
+    if !is_table(table, recordings, labels) {
+        return Answered::Refused(Refusal::BadTable, 0);
+    }
+    if recordings <= start {
+        return Answered::Refused(Refusal::BadStart, 0);
+    }
+    expression_links(
+        follow,
+        enter,
+        sizes,
+        accepting,
+        chosen as usize,
+        labels,
+        table,
+        recordings,
+        start,
+        marks,
+        workspace,
+    )
+}
+
+// The job of a text, read into tables.
+fn read_links(
+    text: &[u8],
+    recordings: u64,
+    chosen: u64,
+    table: &[u16],
+    start: u64,
+    marks: &mut [u8],
+    workspace: &mut [u64],
+) -> Answered
+    requires { ⌜ Sized recordings (now marks) (now workspace) ⌝ }
+    ensures { λ r. ⌜ outcome r (now (marks .exit)) (now (workspace .exit))
+        ≡ readLinks (read (now (text .entry))) recordings chosen (now (table .entry)) start (now (marks .entry)) (now (workspace .entry)) ⌝ }
+{
+    let mut names = [0; 96];
+    let mut follow = [0; 1088];
+    let mut enter = [0; 544];
+    let mut sizes = [0; 17];
+    let mut accepting = [0; 17];
+    let told = load(
+        text,
+        &mut names,
+        &mut follow,
+        &mut enter,
+        &mut sizes,
+        &mut accepting,
+    );
+    match told {
+        Answer::Job(labels, lists) => job_links(
+            &follow,
+            &enter,
+            &sizes,
+            &accepting,
+            labels,
+            lists,
+            recordings,
+            chosen,
+            table,
+            start,
+            marks,
+            workspace,
+        ),
+        Answer::Refused(refusal, line) => Answered::Refused(refusal, line),
+    }
+}
+
+// Answer from links (document 01): the number of recordings that are marked, or the refusal with its line.
+pub fn answer_from_links(
+    text: &[u8],
+    recordings: u64,
+    chosen: u64,
+    table: &[u16],
+    start: u64,
+    marks: &mut [u8],
+    workspace: &mut [u64],
+) -> Answered
+    ensures { λ r. ⌜ outcome r (now (marks .exit)) (now (workspace .exit))
+        ≡ linksAnswer (now (text .entry)) recordings chosen (now (table .entry)) start (now (marks .entry)) (now (workspace .entry)) ⌝ }
+{
+    if recordings == 0 {
+        return Answered::Refused(Refusal::BadRecordings, 0);
+    }
+    if 4096 < recordings {
+        return Answered::Refused(Refusal::BadRecordings, 0);
+    }
+    if (marks.len() as u64) < recordings {
+        return Answered::Refused(Refusal::BufferTooShort, 0);
+    }
+    if (workspace.len() as u64) < recordings {
+        return Answered::Refused(Refusal::BufferTooShort, 0);
+    }
+    read_links(text, recordings, chosen, table, start, marks, workspace)
+}
