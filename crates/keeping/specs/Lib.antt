@@ -3,3 +3,5 @@ pub mod Put
 pub mod Write
 pub mod KeptLaws
 pub mod WriteLaws
+pub mod KeepOperation
+pub mod KeepOperationLaws

@@ -1,0 +1,194 @@
+-- The code's steps leave what Keep leaves (KeepOperation): Find's tables are the rewriting's with zeros behind, so they are written as it is.
+use Prim.Native.Nat.{ℕ, zero, suc, _+_, _*_, _-_, _≤_, _<_, min}
+use mathlib.Core.Bool.{Bool, true, false, _||_}
+use mathlib.Core.List.{List, [], _∷_, _++_, append-nil}
+use mathlib.Core.Path.{_≡_, refl, sym, ap, ap₂, _∙_, subst}
+use native.Mathlib.Omega.{arith}
+use borrow.Author.Tests.{lt-ltb, le-ltb}
+use lib.ListN.{length, getD, take, drop, replicate, length-drop}
+use lib.Seq.{drop-length, take-length}
+use Rattle.theory.specs.Expression.{Expression}
+use Rattle.theory.specs.Automaton.{Automaton}
+use Rattle.theory.specs.ExplorationLaws.{explored}
+use Rattle.syntax.specs.Byte.{Bytes}
+use Rattle.syntax.specs.declared.refusal.Refusal.{Refusal}
+use Rattle.syntax.specs.declared.refusal.Refusal.the-variants.{BufferTooShort}
+use Rattle.reading.specs.declared.answer.Answer.{Answer}
+use Rattle.reading.specs.declared.answer.Answer.the-variants.{Job as Jobs, Refused as Refuses}
+use Rattle.reading.specs.JobText.{NamedJob, jobOf, ListLines}
+use Rattle.reading.specs.Read.{Reading, job, refused, read}
+use Rattle.reading.specs.ReadLaws.{read-job}
+use Rattle.reading.specs.ReadFacts.{read-facts}
+use Rattle.reading.specs.Answering.{answerOf}
+use Rattle.reading.specs.Tables.{Tables}
+use Rattle.reading.specs.Loading.{Loaded}
+use Rattle.finding.specs.declared.answer.FindAnswer.{FindAnswer}
+use Rattle.finding.specs.declared.answer.Finding.the-variants.{Found as Told, Refused as Unfound}
+use Rattle.finding.specs.States.{states}
+use Rattle.finding.specs.StatesLaws.{state-tests}
+use Rattle.finding.specs.Find.{Rewriting, Found, found, find, findAutomata, refused as unfound}
+use Rattle.finding.specs.FindLaws.{Course, course, standings-exceeded, states-exceeded, answered}
+use Rattle.finding.specs.Outcome.{Outcome as Both, left as both, leftBy as bothBy, refusedWith, written as padded}
+use Rattle.finding.specs.Operation.{outcome as bothOf, leftByReading as bothByReading, reading-found}
+use Rattle.finding.specs.CoreTold.{CoreTold}
+use Rattle.keeping.specs.declared.operation.Keeping.{Keeping}
+use Rattle.keeping.specs.declared.operation.Keeping.the-variants.{Kept, Refused}
+use Rattle.keeping.specs.Kept.{keptLength}
+use Rattle.keeping.specs.Write.{ShortNames, Agree, lent, Within, Keeps, listNames, Writes}
+use Rattle.keeping.specs.KeepOperation.{Outcome, left, leftBy, leftByReading, outcome, JobTold}
+
+clash : {A : Type 0} → _≡_ {A = ℕ} 0 1 → A
+clash z = absurd (omega arith)
+
+-- Zeros behind a list do not change what is read from it.
+zeros-read : (n i : ℕ) → _≡_ {A = ℕ} (getD (replicate n 0) i 0) 0
+zeros-read zero i = refl
+zeros-read (suc n) zero = refl
+zeros-read (suc n) (suc i) = zeros-read n i
+
+zeros-behind : (xs : List ℕ) (n i : ℕ) → getD (xs ++ replicate n 0) i 0 ≡ getD xs i 0
+zeros-behind [] n i = zeros-read n i
+zeros-behind (x ∷ xs) n zero = refl
+zeros-behind (x ∷ xs) n (suc i) = zeros-behind xs n i
+
+padded-read : (n : ℕ) (xs lent : List ℕ) (i : ℕ) → length lent ≡ n → getD (padded n xs lent) i 0 ≡ getD xs i 0
+padded-read n xs lent i e =
+    ap (λ d. getD ((xs ++ replicate (n - length xs) 0) ++ d) i 0) (ap (λ k. drop k lent) (sym e) ∙ drop-length lent)
+    ∙ (ap (λ l. getD l i 0) (append-nil (xs ++ replicate (n - length xs) 0)) ∙ zeros-behind xs (n - length xs) i)
+
+-- The names of a job are short.
+lines-short : {labels names : List Bytes} {lists : List Expression} {s : Bytes} → ListLines labels names lists s → ShortNames names
+lines-short ListLines.nothing i h = absurd (omega arith)
+lines-short (ListLines.next text more n i e r) zero h = n .short
+lines-short (ListLines.next text more n i e r) (suc j) h = lines-short r j (omega arith)
+
+-- What is found has no more states than the limit.
+found-few : (A : Automaton) (k : ℕ) (lists : List Automaton) (mostA mostB : ℕ) (R : Rewriting)
+    → findAutomata A k lists mostA mostB ≡ found R → R .states ≤ mostB
+unfolding states
+found-few A k lists mostA mostB R h = side (course A k lists mostA mostB)
+  where
+    side : Course A k lists mostA mostB → R .states ≤ mostB
+    side (standings-exceeded e f) = clash (cc)
+    side (states-exceeded l e g f) = clash (cc)
+    side (answered l r e g f) =
+        let s : length r ≡ R .states = cc in
+        omega (arith, explored (state-tests _ _) r g .1)
+
+module _ (text : Bytes) (T : Tables) (labels lists : ℕ) (before : Bytes) (places : length (T .names) ≡ 96) (table flags : List ℕ)
+    (wide : length table ≡ 4096) (long : length flags ≡ 256) (f : FindAnswer) (table′ flags′ : List ℕ)
+    (core : CoreTold (T .follow) (T .enter) (T .sizes) (T .accepting) labels lists 64 256 table flags f table′ flags′) where
+  chosen : Bool → Both
+  chosen b =
+      elim b [ true ↦ both (refusedWith BufferTooShort 0) table flags | false ↦ bothByReading (read text) table flags ]
+
+  -- What Find leaves for a job.
+  job-left : (J : NamedJob) → read text ≡ job J → Loaded text (Jobs labels lists) T
+      → both f table′ flags′ ≡ bothBy (find (jobOf J)) table flags
+  unfolding bothOf bothByReading chosen
+  job-left J e loaded =
+      reading-found text table flags (omega arith) (omega arith) (Jobs labels lists) T loaded labels lists f table′ flags′ refl core
+      ∙ (ap₂ (λ a b. chosen (a || b)) (le-ltb (length table) 4096 (omega arith)) (le-ltb (length flags) 256 (omega arith))
+      ∙ ap (λ x. bothByReading x table flags) e)
+
+  -- The tables are those of a job.
+  of-job : {r : Keeping} {after : Bytes}
+      → ((J : NamedJob) → read text ≡ job J → lists ≡ length (J .listNames) → Loaded text (Jobs labels lists) T → keptLength ≤ length before
+      → (x : Found) → find (jobOf J) ≡ x → left r after ≡ leftBy (J .listNames) x before)
+      → JobTold text T labels lists before r after
+  unfolding leftByReading
+  of-job {r} {after} h = record { told = λ room loaded. there room loaded (read text) refl }
+    where
+      there : keptLength ≤ length before → Loaded text (Jobs labels lists) T → (x : Reading) → read text ≡ x
+          → left r after ≡ leftByReading x before
+      there room loaded (refused s m) p =
+          let q : Refuses s m ≡ Jobs labels lists = sym (loaded .answer ∙ ap answerOf p) in
+          clash (cc)
+      there room loaded (job J) p =
+          let q : Jobs (length (J .labels)) (length (J .listNames)) ≡ Jobs labels lists = sym (loaded .answer ∙ ap answerOf p) in
+          let n : length (J .listNames) ≡ lists = cc in
+          h J p (sym n) loaded room (find (jobOf J)) refl
+
+  -- The names that are written are those of the lists, up to the end of the table.
+  pub job-kept : (m n told : ℕ) (after : Bytes) → f .finding ≡ Told m n
+      → Writes text (take (length (T .names) - 64) (drop 64 (T .names))) lists n table′ flags′ before told after
+      → JobTold text T labels lists before (Kept told) after
+  unfolding leftBy bothBy find
+  job-kept m n told after e written-names = of-job there
+    where
+      there : (J : NamedJob) → read text ≡ job J → lists ≡ length (J .listNames) → Loaded text (Jobs labels lists) T
+          → keptLength ≤ length before → (x : Found) → find (jobOf J) ≡ x → left (Kept told) after ≡ leftBy (J .listNames) x before
+      there J p k loaded room (unfound r) q =
+          let b : both f table′ flags′ ≡ bothBy (unfound r) table flags = job-left J p loaded ∙ ap (λ x. bothBy x table flags) q in
+          let c : Told m n ≡ Unfound r 0 = sym e ∙ ap (λ o. o .answer .finding) b in
+          clash (cc)
+      there J p k loaded room (found R) q =
+          let b : both f table′ flags′ ≡ bothBy (found R) table flags = job-left J p loaded ∙ ap (λ x. bothBy x table flags) q in
+          let c : Told m n ≡ Told (R .standings) (R .states) = sym e ∙ ap (λ o. o .answer .finding) b in
+          let s : R .states ≡ n = cc in
+          let few : R .states ≤ 256 = found-few _ _ _ _ _ R q in
+          let rest : take (length (T .names) - 64) (drop 64 (T .names)) ≡ drop 64 (T .names) =
+          ap (λ i. take i (drop 64 (T .names))) (sym (length-drop 64 (T .names))) ∙ take-length (drop 64 (T .names)) in
+          let w = subst (λ l. Writes text l lists n table′ flags′ before told after) rest written-names in
+          let names : listNames text (drop 64 (T .names)) lists ≡ J .listNames =
+          ap (listNames text (drop 64 (T .names))) k ∙ loaded .holds J p .lists in
+          let within : Within (drop 64 (T .names)) lists n before =
+          omega (arith, read-facts text p .few-lists, length-drop 64 (T .names)) in
+          let agree : Agree R (lent n table′ flags′) lists n = record {
+            nexts = λ s v i j. sym (ap (λ o. getD (o .table) (16 * s + v) 0) b ∙ padded-read 4096 (R .table) table (16 * s + v) wide);
+            flags = λ s i. sym (ap (λ o. getD (o .flags) s 0) b ∙ padded-read 256 (R .flags) flags s long);
+          } in
+          let keeps : Keeps (J .listNames) R before told after =
+          subst (λ N. Keeps N R before told after) names
+          (w .keeps within (subst ShortNames (sym names) (lines-short (read-job text J .0 p .lists))) R s agree) in
+          ap₂ (λ u v. left (Kept u) v) (keeps .size) (keeps .bytes)
+
+  pub job-unfound : (r : Refusal) (n : ℕ) (after : Bytes) → f .finding ≡ Unfound r n
+      → after ≡ replicate (min keptLength (length before)) 0 ++ drop keptLength before
+      → JobTold text T labels lists before (Refused r n) after
+  unfolding leftBy bothBy
+  job-unfound r n after e w = of-job there
+    where
+      there : (J : NamedJob) → read text ≡ job J → lists ≡ length (J .listNames) → Loaded text (Jobs labels lists) T
+          → keptLength ≤ length before → (x : Found) → find (jobOf J) ≡ x → left (Refused r n) after ≡ leftBy (J .listNames) x before
+      there J p k loaded room (found R) q =
+          let b : both f table′ flags′ ≡ bothBy (found R) table flags = job-left J p loaded ∙ ap (λ x. bothBy x table flags) q in
+          let c : Unfound r n ≡ Told (R .standings) (R .states) = sym e ∙ ap (λ o. o .answer .finding) b in
+          clash (cc)
+      there J p k loaded room (unfound s) q =
+          let b : both f table′ flags′ ≡ bothBy (unfound s) table flags = job-left J p loaded ∙ ap (λ x. bothBy x table flags) q in
+          let c : Unfound r n ≡ Unfound s 0 = sym e ∙ ap (λ o. o .answer .finding) b in
+          let i : r ≡ s = cc in
+          let z : n ≡ 0 = cc in
+          let whole : min keptLength (length before) ≡ keptLength = omega arith in
+          ap₂ (λ u v. left (Refused u v) after) i z
+          ∙ ap (left (Refused s 0)) (w ∙ ap (λ t. replicate t 0 ++ drop keptLength before) whole)
+
+-- Keep on a text.
+module _ (text out : Bytes) where
+  short-or-long : Bool → Outcome
+  short-or-long b = elim b [ true ↦ left (Refused BufferTooShort 0) out | false ↦ leftByReading (read text) out ]
+
+  pub out-short : length out < keptLength → left (Refused BufferTooShort 0) out ≡ outcome text out
+  unfolding outcome short-or-long
+  out-short h = sym (ap short-or-long (lt-ltb (length out) keptLength h))
+
+  out-long : keptLength ≤ length out → outcome text out ≡ leftByReading (read text) out
+  unfolding outcome short-or-long
+  out-long h = ap short-or-long (le-ltb (length out) keptLength h)
+
+  module _ (room : keptLength ≤ length out) (a : Answer) (T : Tables) (loaded : Loaded text a T) where
+    pub text-refused : (r : Refusal) (n : ℕ) → a ≡ Refuses r n → left (Refused r n) out ≡ outcome text out
+    unfolding leftByReading
+    text-refused r n e = there (read text) (sym (loaded .answer) ∙ e) ∙ sym (out-long room)
+      where
+        there : (x : Reading) → answerOf x ≡ Refuses r n → left (Refused r n) out ≡ leftByReading x out
+        there (job J) p = clash (cc)
+        there (refused s m) p =
+            let q : r ≡ s = cc in
+            let k : n ≡ m = cc in
+            ap₂ (λ u v. left (Refused u v) out) q k
+
+    pub text-kept : (labels lists : ℕ) (r : Keeping) (after : Bytes) → a ≡ Jobs labels lists → JobTold text T labels lists out r after
+        → left r after ≡ outcome text out
+    text-kept labels lists r after e k = k .told room (subst (λ b. Loaded text b T) e loaded) ∙ sym (out-long room)
