@@ -5,6 +5,7 @@ use mathlib.Core.List.{List, [], _∷_, _++_, append-nil}
 use mathlib.Core.Path.{_≡_, refl, sym, ap, ap₂, _∙_, subst}
 use native.Mathlib.Omega.{arith}
 use borrow.Author.Tests.{lt-ltb, le-ltb}
+use lib.Dec.{ltb}
 use lib.ListN.{length, getD, take, drop, replicate, length-drop}
 use lib.Seq.{drop-length, take-length}
 use Rattle.theory.specs.Expression.{Expression}
@@ -15,9 +16,10 @@ use Rattle.syntax.specs.declared.refusal.Refusal.{Refusal}
 use Rattle.syntax.specs.declared.refusal.Refusal.the-variants.{BufferTooShort}
 use Rattle.reading.specs.declared.answer.Answer.{Answer}
 use Rattle.reading.specs.declared.answer.Answer.the-variants.{Job as Jobs, Refused as Refuses}
+use Rattle.reading.specs.Text.{mostText}
 use Rattle.reading.specs.JobText.{NamedJob, jobOf, ListLines}
 use Rattle.reading.specs.Read.{Reading, job, refused, read}
-use Rattle.reading.specs.ReadLaws.{read-job}
+use Rattle.reading.specs.ReadLaws.{read-job, read-line}
 use Rattle.reading.specs.ReadFacts.{read-facts}
 use Rattle.reading.specs.Answering.{answerOf}
 use Rattle.reading.specs.Tables.{Tables}
@@ -35,6 +37,7 @@ use Rattle.keeping.specs.declared.operation.Keeping.{Keeping}
 use Rattle.keeping.specs.declared.operation.Keeping.the-variants.{Kept, Refused}
 use Rattle.keeping.specs.Kept.{keptLength}
 use Rattle.keeping.specs.Write.{ShortNames, Agree, lent, Within, Keeps, listNames, Writes}
+use Rattle.keeping.specs.KeptLaws.{kept-fits}
 use Rattle.keeping.specs.KeepOperation.{Outcome, left, leftBy, leftByReading, outcome, JobTold}
 
 clash : {A : Type 0} → _≡_ {A = ℕ} 0 1 → A
@@ -192,3 +195,25 @@ module _ (text out : Bytes) where
     pub text-kept : (labels lists : ℕ) (r : Keeping) (after : Bytes) → a ≡ Jobs labels lists → JobTold text T labels lists out r after
         → left r after ≡ outcome text out
     text-kept labels lists r after e k = k .told room (subst (λ b. Loaded text b T) e loaded) ∙ sym (out-long room)
+
+-- What Keep tells is small: no length is over that of the named part, and no line over one more than the most bytes of a text.
+abbrev pub Small : Keeping → Type 0
+Small (Kept n) = n ≤ keptLength
+Small (Refused r n) = n ≤ suc mostText
+
+pub keep-small : (text out : Bytes) (a : Keeping) → outcome text out .answer ≡ a → Small a
+unfolding outcome leftByReading leftBy find short-or-long
+keep-small text out a e = subst Small e (measured (ltb (length out) keptLength))
+  where
+    given : (J : NamedJob) → read text ≡ job J → (x : Found) → find (jobOf J) ≡ x → Small (leftBy (J .listNames) x out .answer)
+    given J p (unfound r) q = omega arith
+    given J p (found R) q =
+        kept-fits (J .listNames) R (read-facts text p .few-lists) (lines-short (read-job text J .0 p .lists)) (found-few _ _ _ _ _ R q)
+
+    by-reading : (x : Reading) → read text ≡ x → Small (leftByReading x out .answer)
+    by-reading (refused r n) p = read-line text r n p
+    by-reading (job J) p = given J p (find (jobOf J)) refl
+
+    measured : (b : Bool) → Small (short-or-long text out b .answer)
+    measured true = omega arith
+    measured false = by-reading (read text) refl
