@@ -33,3 +33,5 @@ pub mod LinksCore
 pub mod LinksCoreLaws
 pub mod LinksOperation
 pub mod LinksOperationLaws
+pub mod ListsCore
+pub mod ListsCoreLaws
