@@ -1,2 +1,4 @@
 pub mod Packed
 pub mod PackedLaws
+pub mod PackedKeeping
+pub mod PackedKeepingLaws

@@ -54,7 +54,8 @@ returns c =
     let a = found .before .before .before .before .before .before .args in
     let f = found .find-core in
     job-kept (a .text .now) (tables (a .names .now) (a .follow .now) (a .enter .now) (a .sizes .now) (a .accepting .now)) (a .labels) (a .lists)
-    (a .out .now) (omega (arith, found .before .before .before .all .given .0)) _ _ refl refl (f .result) (f .last .1 .1 .1 .1 .1 .1 .1 .1 .0) (f .last .1 .1 .1 .1 .1 .1 .1 .1 .1 .0) (f .ensures) _ _ (written .write .result)
+    (a .out .now) (omega (arith, found .before .before .before .all .given .0)) _ _ refl refl (f .result)
+    (f .last .1 .1 .1 .1 .1 .1 .1 .1 .0) (f .last .1 .1 .1 .1 .1 .1 .1 .1 .1 .0) (f .ensures) _ _ (written .write .result)
     (written .write .last .1 .1 .1 .1 .1 .1 .0) (matched .answer .given .1) (written .write .ensures)
 
 same-length-2 : tie.Need-same-length-2
@@ -68,7 +69,8 @@ returns-2 c =
     let a = found .before .before .before .before .before .before .args in
     let f = found .find-core in
     job-unfound (a .text .now) (tables (a .names .now) (a .follow .now) (a .enter .now) (a .sizes .now) (a .accepting .now)) (a .labels) (a .lists)
-    (a .out .now) (omega (arith, found .before .before .before .all .given .0)) _ _ refl refl (f .result) (f .last .1 .1 .1 .1 .1 .1 .1 .1 .0) (f .last .1 .1 .1 .1 .1 .1 .1 .1 .1 .0) (f .ensures) _ _
+    (a .out .now) (omega (arith, found .before .before .before .all .given .0)) _ _ refl refl (f .result)
+    (f .last .1 .1 .1 .1 .1 .1 .1 .1 .0) (f .last .1 .1 .1 .1 .1 .1 .1 .1 .1 .0) (f .ensures) _ _
     (clears .clear .last .0) (matched .answer2 .given .1) (clears .clear .ensures)
 
 pub keep-job-spec : {M : Type 1} → statement M
