@@ -1,6 +1,6 @@
 /*
- * Calls the library as the hosting server would: the job of document 01, texts that are refused, and, in a thread with 256 KiB of stack,
- * the deepest and longest texts. Prints 'N passed, 0 failed' where all answers are as they should be.
+ * Calls the library as the hosting server would: Read and Keep on the job of document 01, texts that are refused, and, in a thread with
+ * 256 KiB of stack, the deepest and longest texts. Prints 'N passed, 0 failed' where all answers are as they should be.
  */
 #include <pthread.h>
 #include <stdio.h>
@@ -51,9 +51,41 @@ static void query(const char *what, const char *front, const char *middle, const
     expect(what, job, at, refusal, refusal ? 2 : 0, refusal ? 0 : 1, 0);
 }
 
+/* Keep on a text: the refusal or the length, the bytes at the front of the kept file, and what must not change. */
+static void keep(const char *what, const char *job, size_t size, unsigned refusal, unsigned length, const uint8_t *front, size_t count)
+{
+    uint8_t *out = malloc(size);
+    uint64_t answer;
+    size_t i;
+    int right;
+    if (!out)
+        abort();
+    memset(out, 0xa5, size);
+    answer = cezhappu_keep((const uint8_t *)job, strlen(job), out, size);
+    right = cezhappu_refusal(answer) == refusal && (refusal || cezhappu_kept(answer) == length);
+    if (!refusal)
+        right = right && memcmp(out, front, count) == 0;
+    for (i = refusal == 9 || refusal == 10 ? 0 : length; i < size; i++)
+        right = right && out[i] == (i < CEZHAPPU_KEPT_LENGTH && (!refusal || refusal >= 9) ? 0 : 0xa5);
+    if (right)
+        passed++;
+    else {
+        failed++;
+        printf("%s: refusal %u, %u bytes\n", what, cezhappu_refusal(answer), cezhappu_kept(answer));
+    }
+    free(out);
+}
+
 static void *deep(void *unused)
 {
     (void)unused;
+    keep("62 names in sequence",
+         "label a\nquery a.a.a.a.a.a.a.a.a.a.a.a.a.a.a.a.a.a.a.a.a.a.a.a.a.a.a.a.a.a.a.a.a.a.a.a.a.a.a.a.a.a.a.a.a.a.a.a.a.a.a.a.a.a.a.a.a.a.a.a.a.a\n",
+         CEZHAPPU_KEPT_LENGTH, 0, 9, (const uint8_t *)"LRW\0\1\0\0\1\0", 9);
+    keep("63 names in sequence",
+         "label a\nquery a.a.a.a.a.a.a.a.a.a.a.a.a.a.a.a.a.a.a.a.a.a.a.a.a.a.a.a.a.a.a.a.a.a.a.a.a.a.a.a.a.a.a.a.a.a.a.a.a.a.a.a.a.a.a.a.a.a.a.a.a.a.a\n",
+         CEZHAPPU_KEPT_LENGTH, 9, 0, NULL, 0);
+    keep("over 256 states", "label a\nquery a.a.a.a.a.a.a.a.a.a.a.a.a.a.a.a.a.a.a.a.a\nlist l a\nlist m a?\n", CEZHAPPU_KEPT_LENGTH + 3, 10, 0, NULL, 0);
     query("16 parentheses", "(", "a", ")", 16, 0);
     query("17 parentheses", "(", "a", ")", 17, 7);
     query("255 parentheses", "(", "a", ")", 255, 7);
@@ -80,6 +112,10 @@ int main(void)
     if (!longest)
         abort();
     text("document 01's job", job, 0, 0, 3, 2);
+    keep("document 01's job, kept", job, CEZHAPPU_KEPT_LENGTH + 5, 0, 43,
+         (const uint8_t *)"LRW\0\1\2\0\4\10episodes\5mixes\0\0\1\0\2\0\0\2\0\3\0\0\2\0\2\1\0\2\0\2", 43);
+    keep("an output one byte too short", job, CEZHAPPU_KEPT_LENGTH - 1, 8, 0, NULL, 0);
+    keep("a text that is refused", "label a\n", CEZHAPPU_KEPT_LENGTH, 2, 0, NULL, 0);
     text("empty text", "", 2, 1, 0, 0);
     text("no query", "label a\n", 2, 2, 0, 0);
     text("no closing byte", "label a\nquery a", 2, 2, 0, 0);

@@ -1,0 +1,90 @@
+//! Compares `cezhappu_keep` of libserver.a with the second implementation on
+//! generated job texts: the returned number and every byte of the lent output,
+//! which is filled with a pattern first and is one byte too short, exactly
+//! long enough, or longer. Arguments: a seed and a count of texts.
+
+use second::generate::texts;
+use second::keep::KEPT_BYTES;
+use second::operations::keep;
+
+extern "C" {
+    fn cezhappu_keep(job: *const u8, length: usize, output: *mut u8, size: usize) -> u64;
+}
+
+/// Jobs on each side of a limit of states and standings, beside the generated ones.
+fn limits() -> Vec<Vec<u8>> {
+    let job = |query: &str, lists: &[&str]| {
+        let mut text = format!("label a\nlabel b\nquery {query}\n");
+        for (number, list) in lists.iter().enumerate() {
+            text += &format!("list l{number} {list}\n");
+        }
+        text.into_bytes()
+    };
+    let row = |count: usize| vec!["a"; count].join(".");
+    let tail = |count: usize| format!("(a|b)*.a{}", ".(a|b)".repeat(count));
+    let mut jobs = Vec::new();
+    for count in [1, 3, 19, 20, 21, 22] {
+        jobs.push(job(&row(count), &["a", "a?"]));
+    }
+    for count in [61, 62, 63, 64] {
+        jobs.push(job(&row(count), &["a"]));
+    }
+    for count in [3, 4, 5, 6] {
+        jobs.push(job(&tail(count), &["a", "b", "a|b"]));
+    }
+    jobs
+}
+
+fn main() {
+    let mut arguments = std::env::args().skip(1);
+    let mut argument = |otherwise: u64| {
+        arguments.next().map_or(otherwise, |text| {
+            text.parse().expect("the arguments are a seed and a count")
+        })
+    };
+    let (seed, count) = (argument(1), argument(80_000) as usize);
+
+    let mut inputs = 0usize;
+    let mut told = [0usize; 18];
+    let generated = texts(seed, count).map(|text| text.bytes);
+    for text in limits().into_iter().chain(generated) {
+        let size = KEPT_BYTES + [0, 1, 7][inputs % 3] - usize::from(inputs % 50 == 49);
+        let mut ours: Vec<u8> = (0..size).map(|place| (place % 251) as u8 ^ 0xa5).collect();
+        let mut theirs = ours.clone();
+        let answer = match keep(&text, &mut ours) {
+            Ok(length) => (length as u64) << 32,
+            Err(refusal) => u64::from(refusal.number) | u64::from(refusal.line) << 8,
+        };
+        // Both buffers are lent for the call alone, and do not overlap.
+        let number =
+            unsafe { cezhappu_keep(text.as_ptr(), text.len(), theirs.as_mut_ptr(), theirs.len()) };
+        if number != answer || ours != theirs {
+            println!(
+                "difference after {inputs} equal answers: {}",
+                text.escape_ascii()
+            );
+            println!(
+                "cezhappu_keep: {number:#x}; second: {answer:#x}; same bytes: {}",
+                ours == theirs
+            );
+            std::process::exit(1);
+        }
+        told[(answer & 0xff) as usize] += 1;
+        inputs += 1;
+    }
+    for (number, times) in told.iter().enumerate().filter(|(_, times)| **times > 0) {
+        println!(
+            "{} {times}",
+            if number == 0 {
+                "kept".into()
+            } else {
+                format!("refused {number}")
+            }
+        );
+    }
+    assert!(
+        told[0] > 5_000 && told[8] > 500 && told[9] > 0 && told[10] > 0,
+        "too few of a kind"
+    );
+    println!("compare_keep: {inputs} inputs, 0 differences");
+}
