@@ -5,6 +5,7 @@ pub mod Parser
 pub mod Limits
 pub mod Resolve
 pub mod Number
+pub mod NumberLaws
 pub mod Check
 pub mod Place
 pub mod Unread

@@ -1,12 +1,14 @@
--- The verdict on a text by what its bytes show: each check in its order, the labels' names read off as the longest runs of name bytes.
+-- The verdict on a text by what its bytes show: the answers of the checks in their order, the labels' names read off as the longest runs of
+-- name bytes.
 use Prim.Native.Nat.{_≤_, _<_}
-use mathlib.Core.Bool.{true, false, true≢false, false≢true}
+use mathlib.Core.Bool.{Bool, true, false, true≢false, false≢true}
 use mathlib.Core.List.{List}
 use mathlib.Core.Option.{Option, some, none}
 use mathlib.Core.Path.{_≡_, refl, sym, ap, _∙_}
 use native.Mathlib.Omega.{arith}
+use lib.Dec.{leb}
 use lib.ListN.{length}
-use borrow.Author.Tests.{le-leb}
+use borrow.Author.Tests.{le-leb, leb-true, leb-false}
 use Rattle.syntax.specs.declared.checks.Check.the-variants.{Fine, Faulty}
 use Rattle.syntax.specs.declared.refusal.Refusal.the-variants.{NotInGrammar, UnknownLabel, ExpressionTooLong, TooDeep, TooManyOccurrences}
 use Rattle.theory.specs.Expression.{Expression}
@@ -21,7 +23,7 @@ use Rattle.syntax.specs.LimitsLaws.{runs-leaves, leaves-size, known-reso
 use Rattle.syntax.specs.Resolve.{Resolves, known, numbered}
 use Rattle.syntax.specs.Check.{long, ungrammatical, deep, unknown, many, check, checkTree}
 use Rattle.syntax.specs.CheckLaws.{check-faulty}
-use Rattle.syntax.specs.Verdict.{verdict}
+use Rattle.syntax.specs.Verdict.{verdict, unless, first}
 
 no-tree : (o : Option Tree) → isSome o ≡ false → o ≡ none
 no-tree none g = refl
@@ -35,7 +37,7 @@ module _ (labels : List Bytes) (s : Bytes) where
   pub too-long : mostBytes < length s → Faulty ExpressionTooLong ≡ verdict (check labels s)
   too-long h = sym (ap verdict (check-faulty labels s ExpressionTooLong .1 (long h)))
 
-  pub not-in-grammar : length s ≤ mostBytes → isSome (parse s) ≡ false → Faulty NotInGrammar ≡ verdict (check labels s)
+  not-in-grammar : length s ≤ mostBytes → isSome (parse s) ≡ false → Faulty NotInGrammar ≡ verdict (check labels s)
   not-in-grammar h g =
       sym (ap verdict (check-faulty labels s NotInGrammar .1 (ungrammatical h (parse-none s .0 (no-tree (parse s) g)))))
 
@@ -54,29 +56,50 @@ module _ (labels : List Bytes) (s : Bytes) (h : length s ≤ mostBytes) (g : isS
   names : runs false s ≡ leaves tree
   names = runs-leaves s tree derives
 
-  pub too-deep : mostNesting < nesting 0 s → Faulty TooDeep ≡ verdict (check labels s)
+  too-deep : mostNesting < nesting 0 s → Faulty TooDeep ≡ verdict (check labels s)
   too-deep n = sym (ap verdict (check-faulty labels s TooDeep .1 (deep h derives n)))
 
   module _ (n : nesting 0 s ≤ mostNesting) where
     none-resolves : known labels (runs false s) ≡ false → (e : Expression) → ¬ Resolves labels tree e
     none-resolves k e r = true≢false (sym (resolves-known r) ∙ ap (known labels) (sym names) ∙ k)
 
-    pub unknown-label : known labels (runs false s) ≡ false → Faulty UnknownLabel ≡ verdict (check labels s)
+    unknown-label : known labels (runs false s) ≡ false → Faulty UnknownLabel ≡ verdict (check labels s)
     unknown-label k = sym (ap verdict (check-faulty labels s UnknownLabel .1 (unknown h derives n (none-resolves k))))
 
     module _ (k : known labels (runs false s) ≡ true) where
       resolves : Resolves labels tree (numbered labels tree)
       resolves = known-resolves labels tree (rw names at k)
 
-      pub too-many-occurrences : mostOccurrences < length (runs false s) → Faulty TooManyOccurrences ≡ verdict (check labels s)
+      too-many-occurrences : mostOccurrences < length (runs false s) → Faulty TooManyOccurrences ≡ verdict (check labels s)
       too-many-occurrences m =
           let over : mostOccurrences < size (numbered labels tree) = omega (arith, ap length names, leaves-size labels tree) in
           sym (ap verdict (check-faulty labels s TooManyOccurrences .1 (many h derives n resolves over)))
 
-      pub all-fine : length (runs false s) ≤ mostOccurrences → Fine ≡ verdict (check labels s)
+      all-fine : length (runs false s) ≤ mostOccurrences → Fine ≡ verdict (check labels s)
       unfolding check checkTree
       all-fine m =
           let l : known labels (leaves tree) ≡ true = rw names at k in
           let few : length (leaves tree) ≤ mostOccurrences = omega (arith, ap length names) in
           rw (le-leb (length s) mostBytes h, check, parses, le-leb (nesting 0 s) mostNesting n, checkTree, l)
           (rw (le-leb (length (leaves tree)) mostOccurrences few))
+
+-- The outcome is the first fault of the checks' answers.
+module _ (labels : List Bytes) (s : Bytes) (h : length s ≤ mostBytes) where
+  in-order-of : (g d k m : Bool) → isSome (parse s) ≡ g → leb (nesting 0 s) mostNesting ≡ d → known labels (runs false s) ≡ k
+      → leb (length (runs false s)) mostOccurrences ≡ m
+      → first (unless g NotInGrammar) (first (unless d TooDeep) (first (unless k UnknownLabel) (unless m TooManyOccurrences)))
+      ≡ verdict (check labels s)
+  in-order-of false d k m p q r t = not-in-grammar labels s h p
+  in-order-of true false k m p q r t = too-deep labels s h p (leb-false (nesting 0 s) mostNesting q)
+  in-order-of true true false m p q r t = unknown-label labels s h p (leb-true (nesting 0 s) mostNesting q) r
+  in-order-of true true true false p q r t =
+      too-many-occurrences labels s h p (leb-true (nesting 0 s) mostNesting q) r (leb-false (length (runs false s)) mostOccurrences t)
+  in-order-of true true true true p q r t =
+      all-fine labels s h p (leb-true (nesting 0 s) mostNesting q) r (leb-true (length (runs false s)) mostOccurrences t)
+
+  pub in-order : let grammar = unless (isSome (parse s)) NotInGrammar in
+      let depth = unless (leb (nesting 0 s) mostNesting) TooDeep in
+      let names = unless (known labels (runs false s)) UnknownLabel in
+      let number = unless (leb (length (runs false s)) mostOccurrences) TooManyOccurrences in
+      first grammar (first depth (first names number)) ≡ verdict (check labels s)
+  in-order = in-order-of _ _ _ _ refl refl refl refl

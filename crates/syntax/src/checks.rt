@@ -7,7 +7,7 @@ use super::refusal::Refusal;
 ghost use mathlib.Core.Path.{_≡_};
 ghost use Rattle.syntax.specs.Check.{check};
 ghost use Rattle.syntax.specs.Resolve.{namesAt};
-ghost use Rattle.syntax.specs.Verdict.{verdict};
+ghost use Rattle.syntax.specs.Verdict.{first, unless, verdict};
 
 const MOST_BYTES: usize = 512;
 
@@ -21,23 +21,39 @@ pub enum Check {
     Faulty(Refusal),
 }
 
+// What one check says: that the text is fine, or its refusal.
+fn unless(met: bool, refusal: Refusal) -> Check
+    ensures { λ r. ⌜ r ≡ unless met refusal ⌝ }
+{
+    if met {
+        return Check::Fine;
+    }
+    Check::Faulty(refusal)
+}
+
+// The first fault of two answers.
+fn first(one: Check, other: Check) -> Check
+    ensures { λ r. ⌜ r ≡ first one other ⌝ }
+{
+    match one {
+        Check::Fine => other,
+        Check::Faulty(refusal) => Check::Faulty(refusal),
+    }
+}
+
+// The other checks are made only of a text that is not too long. Each is made, and the first fault in document 01's order is told.
 pub fn check_expression(s: &[u8], text: &[u8], names: &[u64]) -> Check
     ensures { λ r. ⌜ r ≡ verdict (check (namesAt (now (text .entry)) (now (names .entry))) (now (s .entry))) ⌝ }
 {
     if MOST_BYTES < s.len() {
         return Check::Faulty(Refusal::ExpressionTooLong);
     }
-    if !in_grammar(s) {
-        return Check::Faulty(Refusal::NotInGrammar);
-    }
-    if MOST_NESTING < nesting(s) {
-        return Check::Faulty(Refusal::TooDeep);
-    }
-    if !all_known(s, text, names) {
-        return Check::Faulty(Refusal::UnknownLabel);
-    }
-    if MOST_OCCURRENCES < occurrences(s) {
-        return Check::Faulty(Refusal::TooManyOccurrences);
-    }
-    Check::Fine
+    let grammar = unless(in_grammar(s), Refusal::NotInGrammar);
+    let depth = unless(nesting(s) <= MOST_NESTING, Refusal::TooDeep);
+    let labels = unless(all_known(s, text, names), Refusal::UnknownLabel);
+    let number = unless(
+        occurrences(s) <= MOST_OCCURRENCES,
+        Refusal::TooManyOccurrences,
+    );
+    first(grammar, first(depth, first(labels, number)))
 }

@@ -31,6 +31,7 @@ pub mod PathOrder
 pub mod Counting
 pub mod Trails
 pub mod ExploredLaws
+pub mod WordLengths
 pub mod Progress
 pub mod Outcome
 pub mod ExplorationSteps

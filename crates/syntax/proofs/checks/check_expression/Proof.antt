@@ -1,80 +1,88 @@
--- `check_expression` meets its contract: each way out has the law of its check.
-use Prim.Native.Nat.{_≤_}
-use mathlib.Core.Bool.{true, false}
-use mathlib.Core.Path.{_≡_, sym, _∙_}
+-- `check_expression` meets its contract: the answers of the checks, in their order, are the check's outcome.
+use mathlib.Core.Bool.{false}
+use mathlib.Core.Path.{_≡_, _∙_, ap}
 use native.Mathlib.Omega.{arith}
+use lib.Dec.{leb}
+use lib.ListN.{length}
+use Rattle.syntax.specs.declared.refusal.Refusal.the-variants.{NotInGrammar, UnknownLabel, TooDeep, TooManyOccurrences}
+use Rattle.syntax.specs.Limits.{mostNesting, mostOccurrences, nesting, runs}
 use Rattle.syntax.specs.Parser.{parse}
-use Rattle.syntax.specs.Some.{isSome}
-use Rattle.syntax.specs.Limits.{mostNesting, nesting, runs}
 use Rattle.syntax.specs.Resolve.{known, namesAt}
-use Rattle.syntax.specs.VerdictLaws.{too-long, not-in-grammar, too-deep, unknown-label, too-many-occurrences, all-fine}
+use Rattle.syntax.specs.Some.{isSome}
+use Rattle.syntax.specs.Verdict.{unless}
+use Rattle.syntax.specs.VerdictLaws.{too-long, in-order}
 use borrow.Author.Needs.{needs}
-use borrow.Author.Tests.{not-true, not-false}
 use Rattle.syntax.proofs.checks.check_expression.Statement.{statement}
 use Rattle.syntax.proofs.checks.check_expression.Tie as tie
 
--- The text is in the grammar; its parentheses nest no deeper than they may; its labels are known.
-grammatical : (c : tie.Else2) → isSome (parse (c .before .before .before .before .before .before .args .s .now)) ≡ true
-grammatical c = sym (c .before .in-grammar .ensures) ∙ not-false _ (c .if2 .left)
+-- What each check says of the text.
+grammar : (c : tie.After-unless)
+    → let s = c .before .before .before .before .before .before .args .s .now in
+    c .unless .result ≡ unless (isSome (parse s)) NotInGrammar
+grammar c = c .unless .ensures ∙ ap (λ x. unless x NotInGrammar) (c .before .in-grammar .ensures)
 
-shallow : (c : tie.Else3) → nesting 0 (c .before .before .before .before .before .before .before .before .args .s .now) ≤ mostNesting
-shallow c = omega (arith, c .before .nesting .ensures)
+depth : (c : tie.After-unless2)
+    → let s = c .before .before .before .before .before .before .before .before .args .s .now in
+    c .unless2 .result ≡ unless (leb (nesting 0 s) mostNesting) TooDeep
+depth c = c .unless2 .ensures ∙ ap (λ x. unless (leb x mostNesting) TooDeep) (c .before .nesting .ensures)
 
-labelled : (c : tie.Else4)
+labels : (c : tie.After-unless3)
     → let a = c .before .before .before .before .before .before .before .before .before .before .args in
-    known (namesAt (a .text .now) (a .names .now)) (runs false (a .s .now)) ≡ true
-labelled c = sym (c .before .all-known .ensures) ∙ not-false _ (c .if4 .left)
+    c .unless3 .result ≡ unless (known (namesAt (a .text .now) (a .names .now)) (runs false (a .s .now))) UnknownLabel
+labels c = c .unless3 .ensures ∙ ap (λ x. unless x UnknownLabel) (c .before .all-known .ensures)
+
+number : (c : tie.After-unless4)
+    → let s = c .before .before .before .before .before .before .before .before .before .before .before .before .args .s .now in
+    c .unless4 .result ≡ unless (leb (length (runs false s)) mostOccurrences) TooManyOccurrences
+number c = c .unless4 .ensures ∙ ap (λ x. unless (leb x mostOccurrences) TooManyOccurrences) (c .before .occurrences .ensures)
 
 returns : tie.Need-returns
 returns c =
     let a = c .before .before .before .before .args in
-    let t = namesAt (a .text .now) (a .names .now) in
-    too-long t (a .s .now) (c .if1 .taken)
+    too-long (namesAt (a .text .now) (a .names .now)) (a .s .now) (c .if1 .taken)
 
 in-grammar-requires : tie.Need-in-grammar-requires
 in-grammar-requires c κs = search needs
 
-returns-2 : tie.Need-returns-2
-returns-2 c =
-    let a = c .before .before .before .before .before .before .args in
-    let t = namesAt (a .text .now) (a .names .now) in
-    not-in-grammar t (a .s .now) (omega arith) (sym (c .before .in-grammar .ensures) ∙ not-true _ (c .if2 .taken))
+unless-requires : tie.Need-unless-requires
+unless-requires c κs = search needs
 
 nesting-requires : tie.Need-nesting-requires
 nesting-requires c κs = search needs
 
-returns-3 : tie.Need-returns-3
-returns-3 c =
-    let a = c .before .before .before .before .before .before .before .before .args in
-    let t = namesAt (a .text .now) (a .names .now) in
-    too-deep t (a .s .now) (omega arith) (grammatical (c .before .before)) (omega (arith, c .before .nesting .ensures))
+unless-requires-2 : tie.Need-unless-requires-2
+unless-requires-2 c κs = search needs
 
 all-known-requires : tie.Need-all-known-requires
 all-known-requires c κs = search needs
 
-returns-4 : tie.Need-returns-4
-returns-4 c =
-    let a = c .before .before .before .before .before .before .before .before .before .before .args in
-    let t = namesAt (a .text .now) (a .names .now) in
-    unknown-label t (a .s .now) (omega arith) (grammatical (c .before .before .before .before)) (shallow (c .before .before))
-    (sym (c .before .all-known .ensures) ∙ not-true _ (c .if4 .taken))
+unless-requires-3 : tie.Need-unless-requires-3
+unless-requires-3 c κs = search needs
 
 occurrences-requires : tie.Need-occurrences-requires
 occurrences-requires c κs = search needs
 
-returns-5 : tie.Need-returns-5
-returns-5 c =
-    let a = c .before .before .before .before .before .before .before .before .before .before .before .before .args in
-    let t = namesAt (a .text .now) (a .names .now) in
-    too-many-occurrences t (a .s .now) (omega arith) (grammatical (c .before .before .before .before .before .before))
-    (shallow (c .before .before .before .before)) (labelled (c .before .before)) (omega (arith, c .before .occurrences .ensures))
+unless-requires-4 : tie.Need-unless-requires-4
+unless-requires-4 c κs = search needs
 
-returns-6 : tie.Need-returns-6
-returns-6 c =
-    let a = c .before .before .before .before .before .before .before .before .before .before .before .before .args in
-    let t = namesAt (a .text .now) (a .names .now) in
-    all-fine t (a .s .now) (omega arith) (grammatical (c .before .before .before .before .before .before))
-    (shallow (c .before .before .before .before)) (labelled (c .before .before)) (omega (arith, c .before .occurrences .ensures))
+first-requires : tie.Need-first-requires
+first-requires c κs = search needs
+
+first-requires-2 : tie.Need-first-requires-2
+first-requires-2 c κs = search needs
+
+first-requires-3 : tie.Need-first-requires-3
+first-requires-3 c κs = search needs
+
+returns-2 : tie.Need-returns-2
+returns-2 c =
+    let l = c .before .before .before .before .before in
+    let d = l .before .before in
+    let g = d .before .before in
+    let a = g .before .before .before .before .before .before .args in
+    rw (c .first3 .ensures, c .before .first2 .ensures, c .before .before .first .ensures)
+    (rw (grammar g, depth d, labels l, number (c .before .before .before))
+    (in-order (namesAt (a .text .now) (a .names .now)) (a .s .now) (omega arith)))
 
 pub check-expression-spec : {M : Type 1} → statement M
 check-expression-spec =
@@ -82,11 +90,14 @@ check-expression-spec =
     (tie.spec
     returns
     in-grammar-requires
-    returns-2
+    unless-requires
     nesting-requires
-    returns-3
+    unless-requires-2
     all-known-requires
-    returns-4
+    unless-requires-3
     occurrences-requires
-    returns-5
-    returns-6)
+    unless-requires-4
+    first-requires
+    first-requires-2
+    first-requires-3
+    returns-2)

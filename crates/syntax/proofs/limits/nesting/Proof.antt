@@ -56,17 +56,17 @@ next s i n h = rw (add-one, drop-cons s i 0 h)
 -- The arms of the match are the balance.
 balanced : (c : tie.At-match-came Inv-loop μ-loop)
     → c .match .«open» ≡ balance (c .before .before .before .loop .«open»)
-    (getD (c .before .before .before .before .args .s .now) (c .before .before .before .loop .i) 0)
+    (getD (c .before .before .before .before .before .args .s .now) (c .before .before .before .loop .i) 0)
 balanced c =
     let n : ℕ = c .before .before .before .loop .«open» in
-    let b : ℕ = getD (c .before .before .before .before .args .s .now) (c .before .before .before .loop .i) 0 in
+    let b : ℕ = getD (c .before .before .before .before .before .args .s .now) (c .before .before .before .loop .i) 0 in
     ⊎-elim (λ w. omega (arith, opens n b (w .0 .keys1)))
     (⊎-elim (λ w. omega (arith, closes n b (w .0 .keys2)))
     (⊎-elim (λ w. omega (arith, closes n b (w .0 .keys2))) (λ w. omega (arith, keeps n b (w .0 .rest .0 .1) (w .0 .rest .1)))))
     (c .match .came)
 
 loop-holds : tie.Need-loop-holds Inv-loop μ-loop
-loop-holds c = omega (arith, deeper 0 (c .args .s .now))
+loop-holds c = omega (arith, deeper 0 (c .before .args .s .now))
 
 shared-slice-read-match : tie.Need-shared-slice-read-match Inv-loop μ-loop
 shared-slice-read-match c = search needs
@@ -77,6 +77,9 @@ add-open c = search needs
 sub-open : tie.Need-sub-open Inv-loop μ-loop
 sub-open c = search needs
 
+depth-requires : tie.Need-depth-requires Inv-loop μ-loop
+depth-requires c κs = search needs
+
 add-i : tie.Need-add-i Inv-loop μ-loop
 add-i c = search needs
 
@@ -85,19 +88,21 @@ loop-less c = search needs
 
 loop-again : tie.Need-loop-again Inv-loop μ-loop
 loop-again c =
-    let s : Bytes = c .before .before .before .before .before .args .s .now in
-    let l = c .before .before .before .before .loop in
-    let e = balanced (c .before) in
-    let m : c .if2 .most ≡ max (l .most) (c .before .match .«open») = ⊎-elim (λ w. omega arith) (λ w. omega arith) (c .if2 .came) in
-    let d = deeper (c .before .match .«open») (drop (l .i + 1) s) in
-    let f : nesting (l .«open») (drop (l .i) s) ≡ max (l .«open») (nesting (c .before .match .«open») (drop (l .i + 1) s)) =
-    rw e (next s (l .i) (l .«open») (c .before .before .before .loop-test .taken)) in
+    let m = c .before .before in
+    let l = m .before .before .before .loop in
+    let s : Bytes = m .before .before .before .before .before .args .s .now in
+    let e = balanced m in
+    let d = deeper (m .match .«open») (drop (l .i + 1) s) in
+    let f : nesting (l .«open») (drop (l .i) s) ≡ max (l .«open») (nesting (m .match .«open») (drop (l .i + 1) s)) =
+    rw e (next s (l .i) (l .«open») (m .before .before .loop-test .taken)) in
+    let most : c .if2 .most ≡ max (l .most) (m .match .«open») =
+    ⊎-elim (λ w. omega (arith, c .before .depth .ensures)) (λ w. omega (arith, c .before .depth .ensures)) (c .if2 .came) in
     (omega arith, omega arith, omega (arith, one-more (l .«open») (getD s (l .i) 0)))
 
 returns : tie.Need-returns Inv-loop μ-loop
 unfolding nesting
 returns c =
-    let s : Bytes = c .before .before .args .s .now in
+    let s : Bytes = c .before .before .before .args .s .now in
     let l = c .before .loop in
     let e : nesting (l .«open») (drop (l .i) s) ≡ l .«open» = rw (drop-of-length-le s (c .loop-test .left), nesting) in
     omega arith
@@ -105,4 +110,4 @@ returns c =
 pub nesting-spec : {M : Type 1} → statement M
 nesting-spec =
     tie.close
-    (tie.spec Inv-loop μ-loop loop-holds shared-slice-read-match add-open sub-open add-i loop-less loop-again returns)
+    (tie.spec Inv-loop μ-loop loop-holds shared-slice-read-match add-open sub-open depth-requires add-i loop-less loop-again returns)
