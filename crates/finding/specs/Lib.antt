@@ -37,13 +37,16 @@ pub mod StatesTold
 pub mod FirstWords
 pub mod Filling
 pub mod Padded
+pub mod FoundSizes
 -- Find on the tables of a job.
 pub mod StoredAutomata
 pub mod StoredImages
 pub mod ListRows
 pub mod Outcome
+pub mod WrittenLaws
 pub mod QueryTold
 pub mod FoundTold
 pub mod StatesPart
 pub mod CoreTold
 pub mod Operation
+pub mod FindSmall

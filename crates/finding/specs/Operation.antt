@@ -67,7 +67,7 @@ module _ (text : Bytes) (table flags : List ℕ) where
       ∙ sym (ap (λ b. chosen (ltb (length table) 4096 || b)) (lt-ltb (length flags) 256 h) ∙ ap chosen (or-true (ltb (length table) 4096)))
 
   module _ (room : 4096 ≤ length table) (marks : 256 ≤ length flags) where
-    long-buffers : outcome text table flags ≡ leftByReading (read text) table flags
+    pub long-buffers : outcome text table flags ≡ leftByReading (read text) table flags
     unfolding outcome chosen
     long-buffers = ap₂ (λ a b. chosen (a || b)) (le-ltb (length table) 4096 room) (le-ltb (length flags) 256 marks)
 
@@ -86,7 +86,7 @@ module _ (text : Bytes) (table flags : List ℕ) where
               sym (ap₂ (λ u v. left (refusedWith u v) table flags) q k)
 
       -- The tables hold the automata of the job.
-      holding : (J : NamedJob) → read text ≡ job J
+      pub holding : (J : NamedJob) → read text ≡ job J
           → Holding (jobTables [] 0 (length (J .labels)) (T .follow) (T .enter) (T .sizes) (T .accepting)) (glushkov (J .query))
           (map glushkov (J .lists)) (length (J .listNames))
       holding J e =

@@ -8,6 +8,7 @@ pub mod image;
 pub mod list_images;
 pub mod number;
 pub mod operation;
+pub mod rewriting;
 pub mod search;
 pub mod standings;
 pub mod state;

@@ -1,82 +1,43 @@
 -- The code's steps leave what Keep leaves (KeepOperation): Find's tables are the rewriting's with zeros behind, so they are written as it is.
-use Prim.Native.Nat.{ℕ, zero, suc, _+_, _*_, _-_, _≤_, _<_, min}
+use Prim.Native.Nat.{ℕ, suc, _+_, _*_, _-_, _≤_, _<_, min}
 use mathlib.Core.Bool.{Bool, true, false, _||_}
-use mathlib.Core.List.{List, [], _∷_, _++_, append-nil}
+use mathlib.Core.List.{List, _++_}
 use mathlib.Core.Path.{_≡_, refl, sym, ap, ap₂, _∙_, subst}
 use native.Mathlib.Omega.{arith}
 use borrow.Author.Tests.{lt-ltb, le-ltb}
 use lib.Dec.{ltb}
 use lib.ListN.{length, getD, take, drop, replicate, length-drop}
-use lib.Seq.{drop-length, take-length}
-use Rattle.theory.specs.Expression.{Expression}
-use Rattle.theory.specs.Automaton.{Automaton}
-use Rattle.theory.specs.ExplorationLaws.{explored}
+use lib.Seq.{take-length}
 use Rattle.syntax.specs.Byte.{Bytes}
 use Rattle.syntax.specs.declared.refusal.Refusal.{Refusal}
 use Rattle.syntax.specs.declared.refusal.Refusal.the-variants.{BufferTooShort}
 use Rattle.reading.specs.declared.answer.Answer.{Answer}
 use Rattle.reading.specs.declared.answer.Answer.the-variants.{Job as Jobs, Refused as Refuses}
 use Rattle.reading.specs.Text.{mostText}
-use Rattle.reading.specs.JobText.{NamedJob, jobOf, ListLines}
+use Rattle.reading.specs.JobText.{NamedJob, jobOf}
 use Rattle.reading.specs.Read.{Reading, job, refused, read}
-use Rattle.reading.specs.ReadLaws.{read-job, read-line}
-use Rattle.reading.specs.ReadFacts.{read-facts}
+use Rattle.reading.specs.ReadLaws.{read-line}
+use Rattle.reading.specs.ReadFacts.{ShortNames, read-facts}
 use Rattle.reading.specs.Answering.{answerOf}
 use Rattle.reading.specs.Tables.{Tables}
 use Rattle.reading.specs.Loading.{Loaded}
 use Rattle.finding.specs.declared.answer.FindAnswer.{FindAnswer}
 use Rattle.finding.specs.declared.answer.Finding.the-variants.{Found as Told, Refused as Unfound}
-use Rattle.finding.specs.States.{states}
-use Rattle.finding.specs.StatesLaws.{state-tests}
-use Rattle.finding.specs.Find.{Rewriting, Found, found, find, findAutomata, refused as unfound}
-use Rattle.finding.specs.FindLaws.{Course, course, standings-exceeded, states-exceeded, answered}
-use Rattle.finding.specs.Outcome.{Outcome as Both, left as both, leftBy as bothBy, refusedWith, written as padded}
+use Rattle.finding.specs.Find.{Rewriting, Found, found, find, refused as unfound}
+use Rattle.finding.specs.FindSmall.{found-small}
+use Rattle.finding.specs.Outcome.{Outcome as Both, left as both, leftBy as bothBy, refusedWith}
+use Rattle.finding.specs.WrittenLaws.{written-read}
 use Rattle.finding.specs.Operation.{outcome as bothOf, leftByReading as bothByReading, reading-found}
 use Rattle.finding.specs.CoreTold.{CoreTold}
 use Rattle.keeping.specs.declared.operation.Keeping.{Keeping}
 use Rattle.keeping.specs.declared.operation.Keeping.the-variants.{Kept, Refused}
 use Rattle.keeping.specs.Kept.{keptLength}
-use Rattle.keeping.specs.Write.{ShortNames, Agree, lent, Within, Keeps, listNames, Writes}
+use Rattle.keeping.specs.Write.{Agree, lent, Within, Keeps, listNames, Writes}
 use Rattle.keeping.specs.KeptLaws.{kept-fits}
 use Rattle.keeping.specs.KeepOperation.{Outcome, left, leftBy, leftByReading, outcome, JobTold}
 
 clash : {A : Type 0} → _≡_ {A = ℕ} 0 1 → A
 clash z = absurd (omega arith)
-
--- Zeros behind a list do not change what is read from it.
-zeros-read : (n i : ℕ) → _≡_ {A = ℕ} (getD (replicate n 0) i 0) 0
-zeros-read zero i = refl
-zeros-read (suc n) zero = refl
-zeros-read (suc n) (suc i) = zeros-read n i
-
-zeros-behind : (xs : List ℕ) (n i : ℕ) → getD (xs ++ replicate n 0) i 0 ≡ getD xs i 0
-zeros-behind [] n i = zeros-read n i
-zeros-behind (x ∷ xs) n zero = refl
-zeros-behind (x ∷ xs) n (suc i) = zeros-behind xs n i
-
-padded-read : (n : ℕ) (xs lent : List ℕ) (i : ℕ) → length lent ≡ n → getD (padded n xs lent) i 0 ≡ getD xs i 0
-padded-read n xs lent i e =
-    ap (λ d. getD ((xs ++ replicate (n - length xs) 0) ++ d) i 0) (ap (λ k. drop k lent) (sym e) ∙ drop-length lent)
-    ∙ (ap (λ l. getD l i 0) (append-nil (xs ++ replicate (n - length xs) 0)) ∙ zeros-behind xs (n - length xs) i)
-
--- The names of a job are short.
-lines-short : {labels names : List Bytes} {lists : List Expression} {s : Bytes} → ListLines labels names lists s → ShortNames names
-lines-short ListLines.nothing i h = absurd (omega arith)
-lines-short (ListLines.next text more n i e r) zero h = n .short
-lines-short (ListLines.next text more n i e r) (suc j) h = lines-short r j (omega arith)
-
--- What is found has no more states than the limit.
-found-few : (A : Automaton) (k : ℕ) (lists : List Automaton) (mostA mostB : ℕ) (R : Rewriting)
-    → findAutomata A k lists mostA mostB ≡ found R → R .states ≤ mostB
-unfolding states
-found-few A k lists mostA mostB R h = side (course A k lists mostA mostB)
-  where
-    side : Course A k lists mostA mostB → R .states ≤ mostB
-    side (standings-exceeded e f) = clash (cc)
-    side (states-exceeded l e g f) = clash (cc)
-    side (answered l r e g f) =
-        let s : length r ≡ R .states = cc in
-        omega (arith, explored (state-tests _ _) r g .1)
 
 module _ (text : Bytes) (T : Tables) (labels lists : ℕ) (before : Bytes) (places : length (T .names) ≡ 96) (table flags : List ℕ)
     (wide : length table ≡ 4096) (long : length flags ≡ 256) (f : FindAnswer) (table′ flags′ : List ℕ)
@@ -129,7 +90,7 @@ module _ (text : Bytes) (T : Tables) (labels lists : ℕ) (before : Bytes) (plac
           let b : both f table′ flags′ ≡ bothBy (found R) table flags = job-left J p loaded ∙ ap (λ x. bothBy x table flags) q in
           let c : Told m n ≡ Told (R .standings) (R .states) = sym e ∙ ap (λ o. o .answer .finding) b in
           let s : R .states ≡ n = cc in
-          let few : R .states ≤ 256 = found-few _ _ _ _ _ R q in
+          let few : R .states ≤ 256 = found-small _ _ _ _ _ R q .few-states in
           let rest : take (length (T .names) - 64) (drop 64 (T .names)) ≡ drop 64 (T .names) =
           ap (λ i. take i (drop 64 (T .names))) (sym (length-drop 64 (T .names))) ∙ take-length (drop 64 (T .names)) in
           let w = subst (λ l. Writes text l lists n table′ flags′ before told after) rest written-names in
@@ -138,12 +99,12 @@ module _ (text : Bytes) (T : Tables) (labels lists : ℕ) (before : Bytes) (plac
           let within : Within (drop 64 (T .names)) lists n before =
           omega (arith, read-facts text p .few-lists, length-drop 64 (T .names)) in
           let agree : Agree R (lent n table′ flags′) lists n = record {
-            nexts = λ s v i j. sym (ap (λ o. getD (o .table) (16 * s + v) 0) b ∙ padded-read 4096 (R .table) table (16 * s + v) wide);
-            flags = λ s i. sym (ap (λ o. getD (o .flags) s 0) b ∙ padded-read 256 (R .flags) flags s long);
+            nexts = λ s v i j. sym (ap (λ o. getD (o .table) (16 * s + v) 0) b ∙ written-read 4096 (R .table) table (16 * s + v) wide);
+            flags = λ s i. sym (ap (λ o. getD (o .flags) s 0) b ∙ written-read 256 (R .flags) flags s long);
           } in
           let keeps : Keeps (J .listNames) R before told after =
           subst (λ N. Keeps N R before told after) names
-          (w .keeps within (subst ShortNames (sym names) (lines-short (read-job text J .0 p .lists))) R s agree) in
+          (w .keeps within (subst ShortNames (sym names) (read-facts text p .short-list-names)) R s agree) in
           ap₂ (λ u v. left (Kept u) v) (keeps .size) (keeps .bytes)
 
   pub job-unfound : (r : Refusal) (n : ℕ) (after : Bytes) → f .finding ≡ Unfound r n
@@ -208,7 +169,8 @@ keep-small text out a e = subst Small e (measured (ltb (length out) keptLength))
     given : (J : NamedJob) → read text ≡ job J → (x : Found) → find (jobOf J) ≡ x → Small (leftBy (J .listNames) x out .answer)
     given J p (unfound r) q = omega arith
     given J p (found R) q =
-        kept-fits (J .listNames) R (read-facts text p .few-lists) (lines-short (read-job text J .0 p .lists)) (found-few _ _ _ _ _ R q)
+        kept-fits (J .listNames) R (read-facts text p .few-lists) (read-facts text p .short-list-names)
+        (found-small _ _ _ _ _ R q .few-states)
 
     by-reading : (x : Reading) → read text ≡ x → Small (leftByReading x out .answer)
     by-reading (refused r n) p = read-line text r n p

@@ -9,10 +9,11 @@ use lib.ListN.{length, getD, drop, length-append}
 use Rattle.syntax.specs.Byte.{Bytes}
 use Rattle.syntax.specs.Resolve.{namesAt}
 use Rattle.syntax.specs.TableLaws.{nameAt, namesAt-next, namesAt-end}
+use Rattle.reading.specs.ReadFacts.{ShortNames}
 use Rattle.finding.specs.Find.{Rewriting, rowWidth}
 use Rattle.keeping.specs.Kept.{keptLength, twoBytes, keptNames, keptNexts, keptStates, kept}
-use Rattle.keeping.specs.Put.{Writing, put, puts, puts-one, puts-first}
-use Rattle.keeping.specs.Write.{ShortNames, oneName, nameBytes, Agree}
+use Rattle.output.specs.Put.{Writing, put, puts, puts-one, puts-first}
+use Rattle.keeping.specs.Write.{oneName, nameBytes, Agree}
 
 short-first : (n : Bytes) (t : List Bytes) → ShortNames (n ∷ t) → length n ≤ 16
 short-first n t h = h 0 (omega arith)

@@ -1,5 +1,4 @@
 pub mod Kept
-pub mod Put
 pub mod Write
 pub mod KeptLaws
 pub mod WriteLaws

@@ -6,6 +6,7 @@ use mathlib.Core.Path.{_≡_}
 use lib.ListN.{length, getD, take, drop, replicate}
 use Rattle.syntax.specs.Byte.{Bytes}
 use Rattle.syntax.specs.Resolve.{namesAt}
+use Rattle.reading.specs.ReadFacts.{ShortNames}
 use Rattle.finding.specs.Find.{Rewriting, rowWidth}
 use Rattle.keeping.specs.Kept.{keptLength, keptMark, twoBytes, kept}
 
@@ -21,10 +22,6 @@ oneName n = (length n % 256) ∷ n
 unfoldable pub nameBytes : List Bytes → Bytes
 nameBytes [] = []
 nameBytes (n ∷ t) = oneName n ++ nameBytes t
-
--- Names as document 01 has them: none is longer than 16 bytes.
-abbrev pub ShortNames : List Bytes → Type 0
-ShortNames names = (i : ℕ) → i < length names → length (getD names i []) ≤ 16
 
 -- The rewriting that a lent table and lent flags hold, as far as the kept bytes go.
 abbrev pub lent : ℕ → List ℕ → List ℕ → Rewriting

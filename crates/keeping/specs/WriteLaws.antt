@@ -6,11 +6,12 @@ use native.Mathlib.Omega.{arith}
 use lib.ListN.{length, take, replicate, length-take}
 use Rattle.syntax.specs.Byte.{Bytes}
 use Rattle.syntax.specs.TableLaws.{length-namesAt}
+use Rattle.reading.specs.ReadFacts.{ShortNames}
 use Rattle.finding.specs.Find.{Rewriting}
 use Rattle.keeping.specs.Kept.{keptLength, keptStates, kept}
 use Rattle.keeping.specs.KeptLaws.{nameBytes-kept, kept-agree, kept-fits}
-use Rattle.keeping.specs.Put.{Writing, writing, puts, puts-then, padded-at, padded-out}
-use Rattle.keeping.specs.Write.{header, nameBytes, ShortNames, lent, Agree, Within, Keeps, listNames, Writes}
+use Rattle.output.specs.Put.{Writing, writing, puts, puts-then, padded-at, padded-out}
+use Rattle.keeping.specs.Write.{header, nameBytes, lent, Agree, Within, Keeps, listNames, Writes}
 
 -- There is a name for each list.
 names-count : (text : Bytes) (names : List ℕ) (lists : ℕ) → 2 * lists ≤ length names → length (listNames text names lists) ≡ lists

@@ -1,10 +1,10 @@
 // The lists' names in a kept file.
-use super::put::put;
-use super::put::put_part;
+use output::put::put;
+use output::put::put_part;
 use syntax::table::part;
 ghost use mathlib.Core.Path.{_≡_};
 ghost use Rattle.syntax.specs.Resolve.{namesAt};
-ghost use Rattle.keeping.specs.Put.{writing, puts};
+ghost use Rattle.output.specs.Put.{writing, puts};
 ghost use Rattle.keeping.specs.Write.{oneName, nameBytes};
 
 // A length byte and the name; a name of a job has at most 16 bytes.

@@ -1,28 +1,12 @@
 // The states in a kept file: for each a flag and its next states.
-use super::put::put;
 use super::put::put16;
+use finding::rewriting::flag;
+use finding::rewriting::next_state;
+use output::put::put;
 ghost use mathlib.Core.Path.{_≡_};
-ghost use Prim.Native.Nat.{_+_, _*_};
-ghost use lib.ListN.{getD};
-ghost use Rattle.finding.specs.Find.{rowWidth};
 ghost use Rattle.keeping.specs.Kept.{keptNexts, keptStates};
-ghost use Rattle.keeping.specs.Put.{writing, puts};
+ghost use Rattle.output.specs.Put.{writing, puts};
 ghost use Rattle.keeping.specs.Write.{lent};
-
-// The next state of a state for a list.
-pub fn next_state(table: &[u16], state: u16, list: u8) -> u16
-    ensures { λ r. ⌜ r ≡ getD (now (table .entry)) (rowWidth * state + list) 0 ⌝ }
-{
-    let at = 16 * (state as usize) + (list as usize);
-    if at < table.len() { table[at] } else { 0 }
-}
-
-pub fn flag(flags: &[u8], state: u16) -> u8
-    ensures { λ r. ⌜ r ≡ getD (now (flags .entry)) state 0 ⌝ }
-{
-    let at = state as usize;
-    if at < flags.len() { flags[at] } else { 0 }
-}
 
 pub fn put_nexts(table: &[u16], state: u16, lists: u8, out: &mut [u8], at: usize) -> usize
     ensures { λ r. ⌜ writing (now (out .exit)) r ≡ puts (writing (now (out .entry)) at)

@@ -1,16 +1,16 @@
 // The writer of kept files (document 01, "Keep").
 use super::names::put_names;
-use super::put::put;
-use super::put::put_part;
-use super::put::put_zeros;
 use super::put::put16;
 use super::states::put_states;
+use output::put::put;
+use output::put::put_part;
+use output::put::put_zeros;
 ghost use mathlib.Core.Path.{_≡_};
 ghost use mathlib.Core.List.{_++_};
 ghost use Prim.Native.Nat.{_-_, min};
 ghost use lib.ListN.{length, drop, replicate};
 ghost use Rattle.keeping.specs.Kept.{keptLength};
-ghost use Rattle.keeping.specs.Put.{writing, puts};
+ghost use Rattle.output.specs.Put.{writing, puts};
 ghost use Rattle.keeping.specs.Write.{header, Writes};
 
 // The length of the output's named part.

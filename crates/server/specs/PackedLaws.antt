@@ -2,10 +2,8 @@
 use Prim.Native.Nat.{ℕ, _+_, _*_, _≤_}
 use mathlib.Core.Path.{_≡_, refl, ap}
 use native.Mathlib.Omega.{arith}
-use lib.Dec.{lit≤}
 use lib.ListN.{length}
 use Rattle.syntax.specs.declared.refusal.Refusal.{Refusal}
-use Rattle.syntax.specs.declared.refusal.Refusal.the-variants.{TextTooLong, BadLine, BadName, TooManyNames, NotInGrammar, UnknownLabel, ExpressionTooLong, TooDeep, TooManyOccurrences, BufferTooShort, TooManyStandings, TooManyStates, BadAllowance, TooManyPlaces, TooManyPairs, BadRecordings, BadTable, BadStart, NoExpression}
 use Rattle.syntax.specs.Byte.{Bytes}
 use Rattle.syntax.specs.Number.{number}
 use Rattle.reading.specs.declared.answer.Answer.{Answer}
@@ -15,27 +13,6 @@ use Rattle.reading.specs.ReadFacts.{ReadFacts, read-facts}
 use Rattle.reading.specs.ReadLaws.{read-line}
 use Rattle.reading.specs.Answering.{answerOf}
 use Rattle.server.specs.Packed.{packed}
-
-pub number-few : (r : Refusal) → number r ≤ 17
-number-few TextTooLong = lit≤ tt
-number-few BadLine = lit≤ tt
-number-few BadName = lit≤ tt
-number-few TooManyNames = lit≤ tt
-number-few NotInGrammar = lit≤ tt
-number-few UnknownLabel = lit≤ tt
-number-few ExpressionTooLong = lit≤ tt
-number-few TooDeep = lit≤ tt
-number-few TooManyOccurrences = lit≤ tt
-number-few BufferTooShort = lit≤ tt
-number-few TooManyStandings = lit≤ tt
-number-few TooManyStates = lit≤ tt
-number-few BadAllowance = lit≤ tt
-number-few TooManyPlaces = lit≤ tt
-number-few TooManyPairs = lit≤ tt
-number-few BadRecordings = lit≤ tt
-number-few BadTable = lit≤ tt
-number-few BadStart = lit≤ tt
-number-few NoExpression = lit≤ tt
 
 pub told-job : (text : Bytes) (a b : ℕ) → answerOf (read text) ≡ Job a b
     → (a ≤ 32) × (b ≤ 16) × (packed (read text) ≡ 4294967296 * a + 1099511627776 * b)

@@ -1,5 +1,5 @@
 -- `cezhappu_keep` meets its contract: what Keep answers fits into the returned number.
-use Rattle.server.specs.PackedLaws.{number-few}
+use Rattle.syntax.specs.NumberLaws.{number-few}
 use Rattle.server.specs.PackedKeepingLaws.{kept-length, kept-line, left-kept, left-refused}
 use native.Mathlib.Omega.{arith}
 use borrow.Author.Needs.{needs}

@@ -2,7 +2,8 @@
 use native.Mathlib.Omega.{arith}
 use borrow.Author.Needs.{needs}
 use mathlib.Core.Path.{sym, _∙_}
-use Rattle.server.specs.PackedLaws.{number-few, told-job, told-refused}
+use Rattle.syntax.specs.NumberLaws.{number-few}
+use Rattle.server.specs.PackedLaws.{told-job, told-refused}
 use Rattle.server.proofs.cezhappu_read.Statement.{statement}
 use Rattle.server.proofs.cezhappu_read.Tie as tie
 

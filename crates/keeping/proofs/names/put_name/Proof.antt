@@ -1,5 +1,5 @@
 -- `put_name` meets its contract: its length is put, and then its bytes.
-use Rattle.keeping.specs.Put.{puts}
+use Rattle.output.specs.Put.{puts}
 use borrow.Author.Needs.{needs}
 use Rattle.keeping.proofs.names.put_name.Statement.{statement}
 use Rattle.keeping.proofs.names.put_name.Tie as tie

@@ -5,7 +5,7 @@ use native.Mathlib.Omega.{arith}
 use lib.ListN.{drop}
 use Rattle.syntax.specs.Resolve.{namesAt}
 use Rattle.keeping.specs.KeptLaws.{puts-name, names-end}
-use Rattle.keeping.specs.Put.{writing, puts, puts-none, puts-length}
+use Rattle.output.specs.Put.{writing, puts, puts-none, puts-length}
 use Rattle.keeping.specs.Write.{nameBytes}
 use borrow.Author.Needs.{needs}
 use Rattle.keeping.proofs.names.put_names.Statement.{statement}

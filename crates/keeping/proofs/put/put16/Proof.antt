@@ -1,6 +1,6 @@
 -- `put16` meets its contract: the high byte is put, and then the low one.
 use borrow.Author.Needs.{needs}
-use Rattle.keeping.specs.Put.{puts}
+use Rattle.output.specs.Put.{puts}
 use Rattle.keeping.proofs.put.put16.Statement.{statement}
 use Rattle.keeping.proofs.put.put16.Tie as tie
 

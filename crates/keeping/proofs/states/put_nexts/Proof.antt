@@ -5,7 +5,7 @@ use native.Mathlib.Nat.{sub-zero}
 use native.Mathlib.Omega.{arith}
 use Rattle.keeping.specs.Kept.{keptNexts}
 use Rattle.keeping.specs.KeptLaws.{puts-next, nexts-end}
-use Rattle.keeping.specs.Put.{writing, puts, puts-none, puts-length}
+use Rattle.output.specs.Put.{writing, puts, puts-none, puts-length}
 use borrow.Author.Needs.{needs}
 use Rattle.keeping.proofs.states.put_nexts.Statement.{statement}
 use Rattle.keeping.proofs.states.put_nexts.Tie as tie

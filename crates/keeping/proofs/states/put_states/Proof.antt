@@ -5,7 +5,7 @@ use native.Mathlib.Nat.{sub-zero}
 use native.Mathlib.Omega.{arith}
 use Rattle.keeping.specs.Kept.{keptStates}
 use Rattle.keeping.specs.KeptLaws.{puts-state, states-end}
-use Rattle.keeping.specs.Put.{writing, puts, puts-none, puts-length}
+use Rattle.output.specs.Put.{writing, puts, puts-none, puts-length}
 use Rattle.keeping.specs.Write.{lent}
 use borrow.Author.Needs.{needs}
 use Rattle.keeping.proofs.states.put_states.Statement.{statement}

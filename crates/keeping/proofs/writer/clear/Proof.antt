@@ -5,7 +5,7 @@ use mathlib.Core.Path.{_≡_}
 use native.Mathlib.Omega.{arith}
 use lib.ListN.{length}
 use Rattle.keeping.specs.Kept.{keptLength}
-use Rattle.keeping.specs.Put.{zeros-front}
+use Rattle.output.specs.Put.{zeros-front}
 use borrow.Author.Needs.{needs}
 use Rattle.keeping.proofs.writer.clear.Statement.{statement}
 use Rattle.keeping.proofs.writer.clear.Tie as tie

@@ -1,5 +1,5 @@
 -- `put_header` meets its contract: its four pieces are put one after another.
-use Rattle.keeping.specs.Put.{puts}
+use Rattle.output.specs.Put.{puts}
 use borrow.Author.Needs.{needs}
 use Rattle.keeping.proofs.writer.put_header.Statement.{statement}
 use Rattle.keeping.proofs.writer.put_header.Tie as tie

@@ -4,7 +4,7 @@ use mathlib.Core.Path.{_≡_, sym, ap}
 use native.Mathlib.Omega.{arith}
 use lib.ListN.{replicate}
 use Rattle.keeping.specs.Kept.{keptLength}
-use Rattle.keeping.specs.Put.{writing, puts}
+use Rattle.output.specs.Put.{writing, puts}
 use borrow.Author.Needs.{needs}
 use Rattle.keeping.proofs.writer.put_rest.Statement.{statement}
 use Rattle.keeping.proofs.writer.put_rest.Tie as tie

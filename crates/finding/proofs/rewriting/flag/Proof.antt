@@ -2,8 +2,8 @@
 use mathlib.Core.Path.{sym}
 use lib.ListN.{List·getD-eq-default}
 use borrow.Author.Needs.{needs}
-use Rattle.keeping.proofs.states.flag.Statement.{statement}
-use Rattle.keeping.proofs.states.flag.Tie as tie
+use Rattle.finding.proofs.rewriting.flag.Statement.{statement}
+use Rattle.finding.proofs.rewriting.flag.Tie as tie
 
 shared-slice-read-result : tie.Need-shared-slice-read-result
 shared-slice-read-result c = search needs

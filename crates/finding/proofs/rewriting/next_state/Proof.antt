@@ -2,8 +2,8 @@
 use mathlib.Core.Path.{sym}
 use lib.ListN.{List·getD-eq-default}
 use borrow.Author.Needs.{needs}
-use Rattle.keeping.proofs.states.next_state.Statement.{statement}
-use Rattle.keeping.proofs.states.next_state.Tie as tie
+use Rattle.finding.proofs.rewriting.next_state.Statement.{statement}
+use Rattle.finding.proofs.rewriting.next_state.Tie as tie
 
 mul-at : tie.Need-mul-at
 mul-at c = search needs

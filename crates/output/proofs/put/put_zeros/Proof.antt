@@ -3,13 +3,10 @@ use Prim.Native.Nat.{ℕ}
 use mathlib.Core.Path.{_≡_, refl, ap, _∙_}
 use native.Mathlib.Omega.{arith}
 use lib.ListN.{replicate}
-use Rattle.keeping.specs.Put.{writing, puts, puts-zeros, puts-none, puts-length}
 use borrow.Author.Needs.{needs}
-use Rattle.keeping.proofs.put.put_zeros.Statement.{statement}
-use Rattle.keeping.proofs.put.put_zeros.Tie as tie
-use Rattle.keeping.proofs.put.put_zeros.Reads as reads
-use Rattle.keeping.proofs.put.put_zeros.Lts as lts
-use Rattle.keeping.proofs.put.put.Reads as put-reads
+use Rattle.output.specs.Put.{writing, puts, puts-zeros, puts-none, puts-length}
+use Rattle.output.proofs.put.put_zeros.Statement.{statement}
+use Rattle.output.proofs.put.put_zeros.Tie as tie
 
 abbrev Inv-loop : tie.InvT-loop
 Inv-loop out₀ at count next₀ left₀ out next left =

@@ -3,9 +3,9 @@ use mathlib.Core.Path.{refl, sym}
 use native.Mathlib.Omega.{arith}
 use lib.Seq.{set-out}
 use borrow.Author.Needs.{needs}
-use Rattle.keeping.specs.Put.{put, same-writing}
-use Rattle.keeping.proofs.put.put.Statement.{statement}
-use Rattle.keeping.proofs.put.put.Tie as tie
+use Rattle.output.specs.Put.{put, same-writing}
+use Rattle.output.proofs.put.put.Statement.{statement}
+use Rattle.output.proofs.put.put.Tie as tie
 
 slice-write-out : tie.Need-slice-write-out
 slice-write-out c = search needs

@@ -3,13 +3,10 @@ use Prim.Native.Nat.{_-_, _≤_}
 use mathlib.Core.Path.{_≡_, refl, _∙_}
 use native.Mathlib.Omega.{arith}
 use lib.ListN.{length, drop, drop-of-length-le}
-use Rattle.keeping.specs.Put.{writing, puts, puts-part, puts-none, puts-length}
 use borrow.Author.Needs.{needs}
-use Rattle.keeping.proofs.put.put_part.Statement.{statement}
-use Rattle.keeping.proofs.put.put_part.Tie as tie
-use Rattle.keeping.proofs.put.put_part.Reads as reads
-use Rattle.keeping.proofs.put.put_part.Lts as lts
-use Rattle.keeping.proofs.put.put.Reads as put-reads
+use Rattle.output.specs.Put.{writing, puts, puts-part, puts-none, puts-length}
+use Rattle.output.proofs.put.put_part.Statement.{statement}
+use Rattle.output.proofs.put.put_part.Tie as tie
 
 abbrev Inv-loop : tie.InvT-loop
 Inv-loop out₀ at bytes next₀ i₀ out next i =
