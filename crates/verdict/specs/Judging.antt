@@ -29,7 +29,7 @@ use Rattle.verdict.specs.declared.verdict.Told.{Told}
 use Rattle.verdict.specs.declared.verdict.Told.the-variants.{Complete, Missed, Refused}
 
 -- Lists that agree from d on.
-same-rest : (d : ℕ) (l m : List ℕ) → length l ≡ length m → ((n : ℕ) → d ≤ n → getD l n 0 ≡ getD m n 0) → drop d l ≡ drop d m
+pub same-rest : (d : ℕ) (l m : List ℕ) → length l ≡ length m → ((n : ℕ) → d ≤ n → getD l n 0 ≡ getD m n 0) → drop d l ≡ drop d m
 same-rest d l m e h =
     ext-getD 0 (drop d l) (drop d m) (length-drop d l ∙ ap (λ n. n - d) e ∙ sym (length-drop d m))
     (λ i k. getD-drop d l i 0 ∙ h (d + i) (omega arith) ∙ sym (getD-drop d m i 0))

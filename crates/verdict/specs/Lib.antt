@@ -13,7 +13,6 @@ pub mod CoverReached
 pub mod PairLaws
 pub mod PairCounts
 pub mod MissedPairs
-pub mod LeastWords
 pub mod FirstMisses
 pub mod VerdictLaws
 pub mod VerdictJob
@@ -37,3 +36,7 @@ pub mod Missing
 pub mod VerdictTold
 pub mod Placing
 pub mod Judging
+-- Verdict on job texts.
+pub mod VerdictOperation
+pub mod GivenTables
+pub mod VerdictOperationLaws

@@ -16,7 +16,7 @@ use Rattle.finding.specs.Finds.{followed, Finds, DistinctStandings, DistinctSta
 use Rattle.finding.specs.FindLaws.{find-finds, find-standings, find-states, find-refusals}
 use Rattle.verdict.specs.Verdict.{Verdict, complete, missed, refused, mostPlaces}
 use Rattle.verdict.specs.Verdicts.{Decides}
-use Rattle.verdict.specs.VerdictLaws.{Told, all-yielded, first-missed, verdict-told}
+use Rattle.verdict.specs.VerdictLaws.{Told, over-places, over-pairs, all-yielded, first-missed, verdict-told}
 use Rattle.verdict.specs.VerdictJob.{rewritten, verdictFound, verdictJob}
 
 pub followed-append : (table : List ℕ) (s : ℕ) (w v : Word) → followed table s (w ++ v) ≡ followed table (followed table s w) v
@@ -46,6 +46,12 @@ pub data JobTold (J : Job) (allowance : ℕ) : Verdict → Type 0 where
   many-standings : DistinctStandings (J .query) (J .labels) 65 → JobTold J allowance (refused TooManyStandings)
   many-states : ¬ DistinctStandings (J .query) (J .labels) 65 → DistinctStates J 257 → JobTold J allowance (refused TooManyStates)
   judged : {v : Verdict} (R : Rewriting) → find J ≡ found R → Told J (rewritten R) mostPlaces allowance v → JobTold J allowance v
+
+-- What is told is small: no more pairs than are allowed, and a missed path shorter than their number.
+abbrev pub FewPairs : ℕ → Verdict → Type 0
+FewPairs allowance (complete n) = n ≤ allowance
+FewPairs allowance (missed p n) = (n ≤ allowance) × (length p < n)
+FewPairs allowance (refused r) = Unit
 
 module _ (J : Job) (formed : WellFormed J) (few : length (J .lists) ≤ 16) (allowance : ℕ) where
   on-refused : (r : Refusal) → find J ≡ Found.refused r → (r ≡ TooManyStandings) ⊎ (r ≡ TooManyStates) → JobTold J allowance (refused r)
@@ -78,3 +84,14 @@ module _ (J : Job) (formed : WellFormed J) (few : length (J .lists) ≤ 16) (all
   -- Else the path that is named is the first missed one.
   pub job-missed : (p : Path) (n : ℕ) → verdictJob J allowance ≡ missed p n → FirstMissed J p
   job-missed p n e = told-missed (subst (JobTold J allowance) e verdict-job)
+
+  told-few : {v : Verdict} → JobTold J allowance v → FewPairs allowance v
+  told-few (many-standings d) = tt
+  told-few (many-states n d) = tt
+  told-few (judged R e (over-places h)) = tt
+  told-few (judged R e (over-pairs h d)) = tt
+  told-few (judged R e (all-yielded c k h)) = h
+  told-few (judged R e (first-missed f k h s)) = (h, s)
+
+  pub job-few : FewPairs allowance (verdictJob J allowance)
+  job-few = told-few verdict-job

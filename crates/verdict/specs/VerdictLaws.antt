@@ -13,6 +13,7 @@ use borrow.Author.Tests.{le-leb, lt-leb}
 use Rattle.theory.specs.Path.{Path, Below, Before}
 use Rattle.theory.specs.PathOrder.{before-irreflexive, before-transitive}
 use Rattle.theory.specs.PathsBelow.{query-below}
+use Rattle.theory.specs.WordLengths.{word-short}
 use Rattle.theory.specs.Job.{Job, WellFormed}
 use Rattle.theory.specs.Rewriting.{Missed, FirstMissed, Complete}
 use Rattle.theory.specs.Automaton.{Automaton, glushkov}
@@ -25,7 +26,6 @@ use Rattle.verdict.specs.Verdicts.{Decides, DistinctPairs, CountsPairs, 
 use Rattle.verdict.specs.CoverPlaces.{offsets-exactly}
 use Rattle.verdict.specs.CoverReached.{automata}
 use Rattle.verdict.specs.PairCounts.{pairs-over, pairs-explored, pairs-count}
-use Rattle.verdict.specs.LeastWords.{word-short}
 use Rattle.verdict.specs.FirstMisses.{none-misses, some-misses}
 
 -- The number of places is document 01's count.
