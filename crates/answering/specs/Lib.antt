@@ -32,6 +32,11 @@ pub mod MarksSteps
 pub mod LinksCore
 pub mod LinksCoreLaws
 pub mod LinksOperation
+pub mod AnswerChecks
+pub mod AnswerReading
 pub mod LinksOperationLaws
 pub mod ListsCore
 pub mod ListsCoreLaws
+pub mod ListsOperation
+pub mod FoundTables
+pub mod ListsOperationLaws

@@ -1,7 +1,7 @@
--- Answer from links (document 01): what is told and what the lent marks and words hold at the end, from the job text on. Refusal 9 zeroes
--- the named parts, every other refusal changes nothing, and what lies beyond the named parts never changes.
+-- Answer from links (document 01): what is told and what the lent marks and words hold at the end, from the job text on; and what it shares
+-- with Answer from lists, whose workspace has more words.
 use Prim.Native.Nat.{ℕ, _≤_}
-use mathlib.Core.Bool.{true, false, _&&_}
+use mathlib.Core.Bool.{true, false, _&&_, _||_}
 use mathlib.Core.List.{List, _++_}
 use mathlib.Core.Option.{some}
 use mathlib.Core.Path.{_≡_}
@@ -32,29 +32,41 @@ pub record Outcome : Type 0 where
 abbrev pub outcome : Answered → List ℕ → List ℕ → Outcome
 outcome r m w = record { answer = r; marks = m; workspace = w }
 
--- What a job's marks or refusal leave.
-abbrev pub left : ℕ → List ℕ → List ℕ → Marking → Outcome
-left N before workspace (marked m) = outcome (Marked (ones m)) (m ++ drop N before) (replicate N 0 ++ drop N workspace)
-left N before workspace (refused r) =
-    elim (eqb (number r) 9) [
-      | true ↦ outcome (Refused r 0) (replicate N 0 ++ drop N before) (replicate N 0 ++ drop N workspace)
+-- What a job's marks or refusal leave, where the named parts are N marks and so many words. Refusals 9 and 10 zero the named parts, every
+-- other refusal changes nothing, and what lies beyond the named parts never changes.
+abbrev pub leftOf : ℕ → ℕ → List ℕ → List ℕ → Marking → Outcome
+leftOf N words before workspace (marked m) =
+    outcome (Marked (ones m)) (m ++ drop N before) (replicate words 0 ++ drop words workspace)
+leftOf N words before workspace (refused r) =
+    elim (eqb (number r) 9 || eqb (number r) 10) [
+      | true ↦ outcome (Refused r 0) (replicate N 0 ++ drop N before) (replicate words 0 ++ drop words workspace)
       | false ↦ outcome (Refused r 0) before workspace
     ]
 
--- What a text that is read leaves.
-abbrev pub readLinks : Reading → ℕ → ℕ → Table → ℕ → List ℕ → List ℕ → Outcome
-readLinks (Reading.refused r n) N c t x before workspace = outcome (Refused r n) before workspace
-readLinks (job J) N c t x before workspace = left N before workspace (linksJob (jobOf J) N c t x)
+-- What a text leaves: where it is read, what its job leaves.
+abbrev pub byReading : (Job → Outcome) → List ℕ → List ℕ → Reading → Outcome
+byReading more before workspace (Reading.refused r n) = outcome (Refused r n) before workspace
+byReading more before workspace (job J) = more (jobOf J)
 
-unfoldable pub linksAnswer : Bytes → ℕ → ℕ → Table → ℕ → List ℕ → List ℕ → Outcome
-linksAnswer text N c t x before workspace =
+-- N recordings, with marks and so many words lent for them: 14, then 8, then what comes after.
+unfoldable pub lentChecked : ℕ → ℕ → List ℕ → List ℕ → Outcome → Outcome
+lentChecked N words before workspace more =
     elim (leb 1 N && leb N 4096) [
       | false ↦ outcome (Refused BadRecordings 0) before workspace
-      | true ↦ elim (leb N (length before) && leb N (length workspace)) [
+      | true ↦ elim (leb N (length before) && leb words (length workspace)) [
         | false ↦ outcome (Refused BufferTooShort 0) before workspace
-        | true ↦ readLinks (read text) N c t x before workspace
+        | true ↦ more
       ]
     ]
+
+abbrev pub left : ℕ → List ℕ → List ℕ → Marking → Outcome
+left N = leftOf N N
+
+abbrev pub readLinks : Reading → ℕ → ℕ → Table → ℕ → List ℕ → List ℕ → Outcome
+readLinks z N c t x before workspace = byReading (λ J. left N before workspace (linksJob J N c t x)) before workspace z
+
+unfoldable pub linksAnswer : Bytes → ℕ → ℕ → Table → ℕ → List ℕ → List ℕ → Outcome
+linksAnswer text N c t x before workspace = lentChecked N N before workspace (readLinks (read text) N c t x before workspace)
 
 -- What the code keeps.
 

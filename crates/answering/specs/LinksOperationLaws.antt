@@ -1,37 +1,27 @@
 -- The steps of Answer from links (LinksOperation).
 use Prim.Native.Nat.{ℕ, zero, suc, _+_, _*_, _≤_, _<_}
-use mathlib.Core.Bool.{Bool, true, false, _&&_}
+use mathlib.Core.Bool.{true, false}
 use mathlib.Core.List.{List}
-use mathlib.Core.Option.{Option, some, none}
-use mathlib.Core.Path.{_≡_, refl, sym, ap, ap₂, _∙_, subst}
+use mathlib.Core.Option.{some, none}
+use mathlib.Core.Path.{_≡_, refl, sym, ap, _∙_, subst}
 use native.Mathlib.Omega.{arith}
-use borrow.Author.Tests.{lt-ltb, le-ltb, ltb-true, le-leb, lt-leb}
-use lib.Dec.{ltb, leb}
+use borrow.Author.Tests.{lt-ltb, le-ltb}
 use lib.ListN.{length, getD, take, drop, length-take, length-drop}
 use Rattle.theory.specs.Expression.{Expression, empty}
 use Rattle.theory.specs.Job.{Job}
 use Rattle.theory.specs.Graph.{Table}
 use Rattle.theory.specs.Automaton.{glushkov}
 use Rattle.theory.specs.Exploration.{Exploration, all, over}
-use Rattle.syntax.specs.declared.refusal.Refusal.{Refusal}
-use Rattle.syntax.specs.declared.refusal.Refusal.the-variants.{TooManyStandings, BadRecordings, BufferTooShort, BadTable, BadStart, NoExpression}
-use Rattle.syntax.specs.Byte.{Bytes}
-use Rattle.reading.specs.JobText.{NamedJob, jobOf}
-use Rattle.reading.specs.declared.answer.Answer.{Answer}
-use Rattle.reading.specs.Answering.{answerOf}
-use Rattle.reading.specs.Loading.{Loaded}
-use Rattle.reading.specs.Read.{Reading, read, job}
-use Rattle.reading.specs.ReadFacts.{ReadFacts, read-facts}
-use Rattle.reading.specs.Tables.{Tables, Holds}
+use Rattle.syntax.specs.declared.refusal.Refusal.the-variants.{TooManyStandings, BadTable, BadStart, NoExpression}
 use Rattle.finding.specs.Standings.{standings}
 use Rattle.finding.specs.Plain.{plain}
-use Rattle.finding.specs.StoredAutomata.{Stored, row-stored}
 use Rattle.answering.specs.declared.links_core.Links.{Links}
 use Rattle.answering.specs.declared.links_operation.Answered.{Answered}
 use Rattle.answering.specs.Table.{isTable}
-use Rattle.answering.specs.AnswerJob.{Marking, marked, refused, chosen, markedLinks, linksOf, linksJob}
+use Rattle.answering.specs.AnswerJob.{Marking, chosen, checked, markedLinks, linksOf, linksJob}
 use Rattle.answering.specs.LinksCore.{LinksGiven, LinksTold}
-use Rattle.answering.specs.LinksOperation.{Outcome, outcome, left, readLinks, linksAnswer, JobGiven, ExpressionTold}
+use Rattle.answering.specs.LinksOperation.{Outcome, outcome, left, JobGiven, ExpressionTold}
+use Rattle.answering.specs.AnswerChecks.{bad-table, bad-start, both-proper}
 
 -- An expression.
 
@@ -100,10 +90,6 @@ unfolding chosen
 chosen-some J zero h = (J .query, refl)
 chosen-some J (suc v) h = (getD (J .lists) v empty, rw (lt-ltb v (length (J .lists)) (omega arith), chosen))
 
--- 15, then 16, then what comes after.
-abbrev checks : Bool → Bool → Marking → Marking
-checks proper begins more = elim proper [ false ↦ refused BadTable | true ↦ elim begins [ false ↦ refused BadStart | true ↦ more ] ]
-
 abbrev marking : Expression → ℕ → Table → ℕ → ℕ → Marking
 marking e N table start labels = markedLinks e N table start (standings (glushkov e) labels 64)
 
@@ -118,14 +104,14 @@ module _ (J : Job) (N c : ℕ) (table : Table) (start : ℕ) (before workspace :
   unfolding linksJob
   links-bad-table h t = let (e, q) = chosen-some J c h in
       ap (left N before workspace)
-      (sym (ap (linksOf J N table start) q ∙ ap (λ b. checks b (ltb start N) (marking e N table start (J .labels))) t))
+      (sym (ap (linksOf J N table start) q ∙ bad-table N (J .labels) table start (marking e N table start (J .labels)) t))
 
   pub links-bad-start : c ≤ length (J .lists) → isTable N (J .labels) table ≡ true → N ≤ start
       → outcome (Answered.Refused BadStart 0) before workspace ≡ left N before workspace (linksJob J N c table start)
   unfolding linksJob
   links-bad-start h t l = let (e, q) = chosen-some J c h in
       ap (left N before workspace)
-      (sym (ap (linksOf J N table start) q ∙ ap₂ (λ a b. checks a b (marking e N table start (J .labels))) t (le-ltb start N l)))
+      (sym (ap (linksOf J N table start) q ∙ bad-start N (J .labels) table start (marking e N table start (J .labels)) t l))
 
   pub links-marked-job : {follow enter sizes accepting : List ℕ} {labels lists : ℕ} {o : Outcome}
       → JobGiven J follow enter sizes accepting labels lists → c ≤ lists → isTable N labels table ≡ true → start < N
@@ -137,116 +123,5 @@ module _ (J : Job) (N c : ℕ) (table : Table) (start : ℕ) (before workspace :
       x .told e (g .stored c e q)
       ∙ ap (left N before workspace)
       (sym (ap (linksOf J N table start) q
-      ∙ ap (λ k. checks (isTable N k table) (ltb start N) (marking e N table start k)) (g .labels-told)
-      ∙ ap₂ (λ a b. checks a b (marking e N table start labels)) t (lt-ltb start N l)))
-
--- The tables of a text that is read.
-module _ (text : Bytes) (J : NamedJob) (T : Tables) (h : Holds text J T) (f : ReadFacts J) where
-  stored : (c : ℕ) (e : Expression) → chosen (jobOf J) c ≡ some e
-      → Stored (T .follow) (T .enter) (T .sizes) (T .accepting) c (glushkov e)
-  unfolding chosen
-  stored zero e q =
-      let p : J .query ≡ e = cc in
-      subst (λ e. Stored (T .follow) (T .enter) (T .sizes) (T .accepting) 0 (glushkov e)) p
-      (row-stored (J .query) 0 (length (J .labels)) T (h .query) (f .well-formed .query) (f .few-labels) (f .query-fits))
-  stored (suc v) e q = go (ltb v (length (J .lists))) refl q
-    where
-      go : (b : Bool) → ltb v (length (J .lists)) ≡ b
-          → elim b as (λ b. Option Expression) [ true ↦ some (getD (J .lists) v empty) | false ↦ none ] ≡ some e
-          → Stored (T .follow) (T .enter) (T .sizes) (T .accepting) (suc v) (glushkov e)
-      go true t q =
-          let l = ltb-true v (length (J .lists)) t in
-          let p : getD (J .lists) v empty ≡ e = cc in
-          subst (λ e. Stored (T .follow) (T .enter) (T .sizes) (T .accepting) (suc v) (glushkov e)) p
-          (row-stored (getD (J .lists) v empty) (suc v) (length (J .labels)) T (h .rows v l) (f .well-formed .lists v l) (f .few-labels)
-          (f .lists-fit v l))
-      go false t q = let z : _≡_ {A = ℕ} 0 1 = cc in absurd (omega arith)
-
-  pub job-given : JobGiven (jobOf J) (T .follow) (T .enter) (T .sizes) (T .accepting) (length (J .labels)) (length (J .listNames))
-  job-given = record { labels-told = refl; lists-told = f .as-many; stored = stored }
-
--- A text that is read.
-
-job-told : (z : Reading) {labels lists : ℕ} → answerOf z ≡ Answer.Job labels lists
-    → (J : NamedJob) × (z ≡ job J) × (length (J .labels) ≡ labels) × (length (J .listNames) ≡ lists)
-job-told (job J) e = (J, refl, cc, cc)
-job-told (Reading.refused r n) e = let z : _≡_ {A = ℕ} 0 1 = cc in absurd (omega arith)
-
-module _ (text : Bytes) {r : Answer} {T : Tables} (l : Loaded text r T) where
-  pub read-few : {labels lists : ℕ} → r ≡ Answer.Job labels lists → (labels ≤ 32) × (lists ≤ 16)
-  read-few e =
-      let (J, q, a, b) = job-told (read text) (sym (l .answer) ∙ e) in
-      let f = read-facts text q in
-      (omega (arith, f .few-labels), omega (arith, f .few-lists))
-
-  module _ (N c : ℕ) (table : Table) (start : ℕ) (before workspace : List ℕ) where
-    pub read-marked : {labels lists : ℕ} {o : Outcome} → r ≡ Answer.Job labels lists
-        → ((J : Job) → JobGiven J (T .follow) (T .enter) (T .sizes) (T .accepting) labels lists
-        → o ≡ left N before workspace (linksJob J N c table start))
-        → o ≡ readLinks (read text) N c table start before workspace
-    read-marked {labels} {lists} {o} e told =
-        let (J, q, a, b) = job-told (read text) (sym (l .answer) ∙ e) in
-        let g = job-given text J T (l .holds J q) (read-facts text q) in
-        told (jobOf J) (subst (λ n. JobGiven (jobOf J) (T .follow) (T .enter) (T .sizes) (T .accepting) n lists) a
-        (subst (JobGiven (jobOf J) (T .follow) (T .enter) (T .sizes) (T .accepting) (length (J .labels))) b g))
-        ∙ ap (λ z. readLinks z N c table start before workspace) (sym q)
-
-    pub read-refused : {q : Refusal} {n : ℕ} → r ≡ Answer.Refused q n
-        → outcome (Answered.Refused q n) before workspace ≡ readLinks (read text) N c table start before workspace
-    read-refused {q} {n} e = go (read text) (sym (l .answer) ∙ e)
-      where
-        go : (z : Reading) → answerOf z ≡ Answer.Refused q n
-            → outcome (Answered.Refused q n) before workspace ≡ readLinks z N c table start before workspace
-        go (job J) e = let z : _≡_ {A = ℕ} 0 1 = cc in absurd (omega arith)
-        go (Reading.refused p m) e =
-            let a : q ≡ p = cc in
-            let b : n ≡ m = cc in
-            ap₂ (λ q n. outcome (Answered.Refused q n) before workspace) a b
-
--- The checks before reading.
-
-module _ (text : Bytes) (N c : ℕ) (table : Table) (start : ℕ) (before workspace : List ℕ) where
-  module _ (z : Outcome) where
-    abbrev ranged : Bool → Bool → Bool → Bool → Outcome
-    ranged a b d e =
-        elim (a && b) [
-          | false ↦ outcome (Answered.Refused BadRecordings 0) before workspace
-          | true ↦ elim (d && e) [ false ↦ outcome (Answered.Refused BufferTooShort 0) before workspace | true ↦ z ]
-        ]
-
-  abbrev after : Outcome
-  after = readLinks (read text) N c table start before workspace
-
-  pub none-refused : N ≡ 0
-      → outcome (Answered.Refused BadRecordings 0) before workspace ≡ linksAnswer text N c table start before workspace
-  unfolding linksAnswer
-  none-refused h =
-      sym (ap (λ a. ranged after a (leb N 4096) (leb N (length before)) (leb N (length workspace))) (lt-leb 1 N (omega arith)))
-
-  pub many-refused : 1 ≤ N → 4096 < N
-      → outcome (Answered.Refused BadRecordings 0) before workspace ≡ linksAnswer text N c table start before workspace
-  unfolding linksAnswer
-  many-refused h l =
-      sym (ap₂ (λ a b. ranged after a b (leb N (length before)) (leb N (length workspace))) (le-leb 1 N h) (lt-leb N 4096 l))
-
-  module _ (some : 1 ≤ N) (few : N ≤ 4096) where
-    pub marks-short : length before < N
-        → outcome (Answered.Refused BufferTooShort 0) before workspace ≡ linksAnswer text N c table start before workspace
-    unfolding linksAnswer
-    marks-short h =
-        sym (ap₂ (λ a b. ranged after a b (leb N (length before)) (leb N (length workspace))) (le-leb 1 N some) (le-leb N 4096 few)
-        ∙ ap (λ d. ranged after true true d (leb N (length workspace))) (lt-leb N (length before) h))
-
-    pub workspace-short : N ≤ length before → length workspace < N
-        → outcome (Answered.Refused BufferTooShort 0) before workspace ≡ linksAnswer text N c table start before workspace
-    unfolding linksAnswer
-    workspace-short h l =
-        sym (ap₂ (λ a b. ranged after a b (leb N (length before)) (leb N (length workspace))) (le-leb 1 N some) (le-leb N 4096 few)
-        ∙ ap₂ (λ d e. ranged after true true d e) (le-leb N (length before) h) (lt-leb N (length workspace) l))
-
-    pub links-answered : N ≤ length before → N ≤ length workspace → {o : Outcome}
-        → o ≡ readLinks (read text) N c table start before workspace → o ≡ linksAnswer text N c table start before workspace
-    unfolding linksAnswer
-    links-answered h l q =
-        q ∙ sym (ap₂ (λ a b. ranged after a b (leb N (length before)) (leb N (length workspace))) (le-leb 1 N some) (le-leb N 4096 few)
-        ∙ ap₂ (λ d e. ranged after true true d e) (le-leb N (length before) h) (le-leb N (length workspace) l))
+      ∙ ap (λ k. checked N k table start (marking e N table start k)) (g .labels-told)
+      ∙ both-proper N labels table start (marking e N table start labels) t l))

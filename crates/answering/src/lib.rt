@@ -1,10 +1,11 @@
-// Answers over lent tables: whether a table is one, where a recording's links begin, what a search reaches, and its marks; and Answer from
-// links.
+// Answers over lent tables: whether a table is one, where a recording's links begin, what a search reaches, and its marks; and both answers
+// on job texts.
 mod clear;
 mod links;
 mod links_core;
 mod links_operation;
 mod lists_core;
+mod lists_operation;
 mod marks;
 mod pairs;
 pub mod search;
@@ -18,5 +19,6 @@ pub use links_core::mark_links;
 pub use links_operation::Answered;
 pub use links_operation::answer_from_links;
 pub use lists_core::mark_lists;
+pub use lists_operation::answer_from_lists;
 pub use marks::mark;
 pub use table::is_table;

@@ -1,5 +1,7 @@
 -- `read_links` meets its contract: the text is refused, or the tables hold its job.
-use Rattle.answering.specs.LinksOperationLaws.{read-few, read-marked, read-refused}
+use Rattle.answering.specs.AnswerJob.{linksJob}
+use Rattle.answering.specs.LinksOperation.{left}
+use Rattle.answering.specs.AnswerReading.{read-few, read-answered, read-refused}
 use borrow.Author.Needs.{needs}
 use Rattle.answering.proofs.links_operation.read_links.Statement.{statement}
 use Rattle.answering.proofs.links_operation.read_links.Tie as tie
@@ -33,15 +35,17 @@ returns c =
     let at-told = at-job-links .before .before .before .before .before .before .before .before in
     let at-load = at-told .before .before in
     let a = at-load .before .before .before .before .before .before .before .before .before .before .args in
-    read-marked (a .text .now) (at-load .load .ensures) (a .recordings) (a .chosen) (a .table .now) (a .start) (a .marks .now)
-    (a .workspace .now) (at-told .told .given .1) (at-job-links .job-links .ensures)
+    read-answered (a .text .now) (at-load .load .ensures)
+    (λ J. left (a .recordings) (a .marks .now) (a .workspace .now) (linksJob J (a .recordings) (a .chosen) (a .table .now) (a .start)))
+    (a .marks .now) (a .workspace .now) (at-told .told .given .1) (λ J w. at-job-links .job-links .ensures J)
 
 returns-2 : tie.Need-returns-2
 returns-2 c =
     let at-load = c .before .before .before in
     let a = at-load .before .before .before .before .before .before .before .before .before .before .args in
-    read-refused (a .text .now) (at-load .load .ensures) (a .recordings) (a .chosen) (a .table .now) (a .start) (a .marks .now)
-    (a .workspace .now) (c .before .told2 .given .1)
+    read-refused (a .text .now) (at-load .load .ensures)
+    (λ J. left (a .recordings) (a .marks .now) (a .workspace .now) (linksJob J (a .recordings) (a .chosen) (a .table .now) (a .start)))
+    (a .marks .now) (a .workspace .now) (c .before .told2 .given .1)
 
 pub read-links-spec : {M : Type 1} → statement M
 read-links-spec =

@@ -1,0 +1,51 @@
+-- `rewriting_lists` meets its contract: Find runs on zeroed memory, and what it tells and leaves there gives the marks.
+use mathlib.Core.Path.{refl}
+use Rattle.finding.specs.Find.{find}
+use Rattle.answering.specs.FoundTables.{found-given}
+use borrow.Author.Needs.{needs}
+use Rattle.answering.proofs.lists_operation.rewriting_lists.Statement.{statement}
+use Rattle.answering.proofs.lists_operation.rewriting_lists.Tie as tie
+
+slice-aggregate-find-core : tie.Need-slice-aggregate-find-core
+slice-aggregate-find-core c = search needs
+
+slice-aggregate-find-core-2 : tie.Need-slice-aggregate-find-core-2
+slice-aggregate-find-core-2 c = search needs
+
+find-core-requires : tie.Need-find-core-requires
+find-core-requires c κs = search needs
+
+slice-aggregate-finding-lists : tie.Need-slice-aggregate-finding-lists
+slice-aggregate-finding-lists c = search needs
+
+finding-lists-requires : tie.Need-finding-lists-requires
+finding-lists-requires c κs = search needs
+
+same-length : tie.Need-same-length
+same-length c = search needs
+
+same-length-2 : tie.Need-same-length-2
+same-length-2 c = search needs
+
+returns : tie.Need-returns
+returns c =
+    let at-finding-lists = c .before .before .before .before in
+    let at-find-core = at-finding-lists .before .before .before .before .before .before .before in
+    let start = at-find-core .before .before .before .before .before .before in
+    let p = start .pre in
+    λ J w g.
+    at-finding-lists .finding-lists .ensures (find J) (start .args .lists)
+    (found-given J w g (p .0) (p .1) refl refl (at-find-core .find-core .ensures) (p .2))
+
+pub rewriting-lists-spec : {M : Type 1} → statement M
+rewriting-lists-spec =
+    tie.close
+    (tie.spec
+    slice-aggregate-find-core
+    slice-aggregate-find-core-2
+    find-core-requires
+    slice-aggregate-finding-lists
+    finding-lists-requires
+    same-length
+    same-length-2
+    returns)

@@ -1,0 +1,154 @@
+-- What Find tells, and what it leaves in lent memory, on the tables of a job: what marking by its rewriting asks for (FoundGiven).
+use Prim.Native.Nat.{ℕ, zero, suc, _+_, _*_, _-_, _≤_, _<_}
+use mathlib.Core.Bool.{true}
+use mathlib.Core.List.{List, [], _∷_, _++_, map}
+use mathlib.Core.Option.{some}
+use mathlib.Core.Path.{_≡_, refl, sym, ap, _∙_, subst}
+use native.Mathlib.Omega.{arith}
+use borrow.Author.Tests.{lt-ltb}
+use lib.ListN.{length, getD, drop, replicate, length-map, length-append, List·getD-append}
+use Rattle.theory.specs.Expression.{Expression, empty}
+use Rattle.theory.specs.Job.{Job, WellFormed}
+use Rattle.theory.specs.Graph.{Table}
+use Rattle.theory.specs.Automaton.{Automaton, glushkov}
+use Rattle.theory.specs.ExplorationLaws.{explored}
+use Rattle.finding.specs.declared.answer.Finding.{Finding}
+use Rattle.finding.specs.declared.answer.FindAnswer.{FindAnswer}
+use Rattle.finding.specs.Standings.{values}
+use Rattle.finding.specs.Numbers.{length-values}
+use Rattle.finding.specs.ListImage.{imageTable}
+use Rattle.finding.specs.ImageTable.{length-imageTable}
+use Rattle.finding.specs.States.{states}
+use Rattle.finding.specs.StatesLaws.{state-tests}
+use Rattle.finding.specs.Find.{Rewriting, Found, found, find, findAutomata}
+use Rattle.finding.specs.FindLaws.{Course, course, find-finds, find-refusals}
+use Rattle.finding.specs.Padded.{length-rows}
+use Rattle.finding.specs.Outcome.{left, leftBy, written}
+use Rattle.finding.specs.StoredAutomata.{Stored}
+use Rattle.finding.specs.ListRows.{jobTables}
+use Rattle.finding.specs.StatesPart.{Holding, Room}
+use Rattle.finding.specs.CoreTold.{CoreTold}
+use Rattle.verdict.specs.VerdictJob.{rewritten}
+use Rattle.verdict.specs.VerdictJobLaws.{finds-decides}
+use Rattle.answering.specs.Table.{isTable}
+use Rattle.answering.specs.AnswerJob.{chosen}
+use Rattle.answering.specs.LinksOperation.{JobGiven}
+use Rattle.answering.specs.ListsCore.{ListsGiven}
+use Rattle.answering.specs.ListsOperation.{FoundGiven}
+
+clash : {A : Type 0} → _≡_ {A = ℕ} 0 1 → A
+clash z = absurd (omega arith)
+
+-- The sizes of what Find gives.
+
+record FoundSizes (R : Rewriting) : Type 0 where
+  pub most : R .states ≤ 256
+  pub table-size : length (R .table) ≡ 16 * R .states
+  pub flags-size : length (R .flags) ≡ R .states
+
+same-answer : {f : Found} {Q R : Rewriting} → f ≡ found Q → f ≡ found R → Q ≡ R
+same-answer p q = cc
+
+found-sizes : (J : Job) → length (J .lists) ≤ 16 → (R : Rewriting) → find J ≡ found R → FoundSizes R
+unfolding find states
+found-sizes J few R e = go (course (glushkov (J .query)) (J .labels) (map glushkov (J .lists)) 64 256)
+  where
+    go : Course (glushkov (J .query)) (J .labels) (map glushkov (J .lists)) 64 256 → FoundSizes R
+    go (Course.standings-exceeded p q) = clash (cc)
+    go (Course.states-exceeded l p q r) = clash (cc)
+    go (Course.answered l r p q f) =
+        let A = glushkov (J .query) in
+        let lists = map glushkov (J .lists) in
+        let images = imageTable A (values l) (J .labels) lists in
+        let wide : length images ≤ 16 = omega (arith, length-imageTable A (values l) (J .labels) lists, length-map (J .lists) glushkov) in
+        subst FoundSizes (same-answer f e) (record {
+          most = explored (state-tests _ _) r q .1;
+          table-size = length-rows images (length (values l)) (values r) wide (values r) ∙ ap (λ n. 16 * n) (length-values r);
+          flags-size = length-map (values r) _ ∙ length-values r;
+        })
+
+-- What is written stands at its place.
+written-at : (n i : ℕ) (xs lent : List ℕ) → i < length xs → getD (written n xs lent) i 0 ≡ getD xs i 0
+written-at n i xs lent h =
+    List·getD-append (xs ++ replicate (n - length xs) 0) (drop n lent) 0 i
+    (omega (arith, length-append xs (replicate (n - length xs) 0)))
+    ∙ List·getD-append xs (replicate (n - length xs) 0) 0 i h
+
+written-size : (n : ℕ) (xs lent : List ℕ) → length xs ≤ length (written n xs lent)
+written-size n xs lent =
+    omega (
+      arith,
+      length-append (xs ++ replicate (n - length xs) 0) (drop n lent),
+      length-append xs (replicate (n - length xs) 0),
+    )
+
+getD-mapped : (l : List Expression) (v : ℕ) (B : Automaton) → v < length l → getD (map glushkov l) v B ≡ glushkov (getD l v empty)
+getD-mapped [] v B h = absurd (omega arith)
+getD-mapped (e ∷ l) zero B h = refl
+getD-mapped (e ∷ l) (suc v) B h = getD-mapped l v B (omega arith)
+
+-- The job of the tables.
+module _ (J : Job) (formed : WellFormed J) {follow enter sizes accepting : List ℕ} {labels lists : ℕ}
+    (g : JobGiven J follow enter sizes accepting labels lists) where
+  holding : Holding (jobTables [] 0 labels follow enter sizes accepting) (glushkov (J .query)) (map glushkov (J .lists)) lists
+  unfolding chosen
+  holding =
+      record {
+        query = g .stored 0 (J .query) refl;
+        size = length-map (J .lists) glushkov ∙ g .lists-told;
+        listed = λ v B l.
+            let k : v < length (J .lists) = omega (arith, g .lists-told) in
+            subst (Stored follow enter sizes accepting (suc v)) (sym (getD-mapped (J .lists) v B k))
+            (g .stored (suc v) (getD (J .lists) v empty) (rw (lt-ltb v (length (J .lists)) k, chosen)));
+      }
+
+  module _ (few-labels : labels ≤ 32) (few : lists ≤ 16) {next₀ flags₀ : List ℕ} (room : length next₀ ≡ 4096) (marks : length flags₀ ≡ 256)
+      {r : FindAnswer} {next flags : List ℕ} (core : CoreTold follow enter sizes accepting labels lists 64 256 next₀ flags₀ r next flags)
+    where
+      leaves : left r next flags ≡ leftBy (find J) next₀ flags₀
+      unfolding find
+      leaves =
+          let fits : Room labels lists 256 next₀ flags₀ = record {
+            labels = few-labels;
+            lists = few;
+            states = omega arith;
+            table = omega arith;
+            flags = omega arith;
+          } in
+          core .told fits (omega arith) (glushkov (J .query)) (map glushkov (J .lists)) holding
+          ∙ ap (λ k. leftBy (findAutomata (glushkov (J .query)) k (map glushkov (J .lists)) 64 256) next₀ flags₀) (sym (g .labels-told))
+
+      module _ {table : Table} {N : ℕ} (proper : isTable N lists table ≡ true) where
+        pub found-given : FoundGiven (find J) lists (r .finding) next flags table N
+        unfolding leftBy
+        found-given =
+            record {
+              answered = answers;
+              refuses = λ r e. (ap (λ o. o .answer .finding) (leaves ∙ ap (λ F. leftBy F next₀ flags₀) e), find-refusals J r e);
+            }
+          where
+            answers : (R : Rewriting) → find J ≡ found R
+                → (r .finding ≡ Finding.Found (R .standings) (R .states)) × ListsGiven (rewritten R) lists next flags (R .states) table N
+            answers R e =
+                let s = leaves ∙ ap (λ F. leftBy F next₀ flags₀) e in
+                let t : next ≡ written 4096 (R .table) next₀ = ap (λ o. o .table) s in
+                let f : flags ≡ written 256 (R .flags) flags₀ = ap (λ o. o .flags) s in
+                let k = g .lists-told in
+                let z = found-sizes J (omega arith) R e in
+                let table-size = z .table-size in
+                let flags-size = z .flags-size in
+                let d = finds-decides J R (find-finds J formed (omega arith) R e) in (
+                  ap (λ o. o .answer .finding) s,
+                  record {
+                    is-table = proper;
+                    few-lists = few;
+                    same-states = refl;
+                    some = d .some-state;
+                    most = z .most;
+                    rows = subst (λ l. 16 * R .states ≤ length l) (sym t) (omega (arith, written-size 4096 (R .table) next₀));
+                    same-next = λ q v h l.
+                        sym (ap (λ l. getD l (16 * q + v) 0) t ∙ written-at 4096 (16 * q + v) (R .table) next₀ (omega arith));
+                    next-below = λ q v h l. d .next q v h (omega arith);
+                    same-flags = λ q h. sym (ap (λ l. getD l q 0) f ∙ written-at 256 q (R .flags) flags₀ (omega arith));
+                  },
+                )

@@ -1,0 +1,220 @@
+// Answer from lists: the rewriting that Find gives for a job, over a table of links over its lists.
+use super::clear::clear_bytes;
+use super::clear::clear_words;
+use super::links_operation::Answered;
+use super::lists_core::mark_lists;
+use super::table::is_table;
+use finding::answer::Finding;
+use finding::core::find_core;
+use reading::Answer;
+use reading::load;
+use syntax::Refusal;
+ghost use mathlib.Core.Path.{_≡_};
+ghost use mathlib.Core.Bool.{true};
+ghost use Prim.Native.Nat.{ℕ, _≤_};
+ghost use Rattle.theory.specs.Job.{Job, WellFormed};
+ghost use Rattle.reading.specs.Read.{read};
+ghost use Rattle.finding.specs.Find.{Found, find};
+ghost use Rattle.answering.specs.Table.{isTable};
+ghost use Rattle.answering.specs.AnswerJob.{markedLists, listsJob};
+ghost use Rattle.answering.specs.LinksOperation.{outcome, JobGiven};
+ghost use Rattle.answering.specs.ListsCore.{ListsLent};
+ghost use Rattle.answering.specs.ListsOperation.{listsLeft, readLists, listsAnswer, ListsSized, FoundGiven};
+
+// The marks by what Find tells and leaves; where it refuses, zeros.
+fn finding_lists(
+    finding: Finding,
+    next: &[u16],
+    flags: &[u8; 256],
+    table: &[u16],
+    recordings: u64,
+    start: u64,
+    marks: &mut [u8],
+    workspace: &mut [u64],
+) -> Answered
+    requires { ⌜ ListsLent recordings start (now marks) (now workspace) ⌝ }
+    ensures { λ r. ⌜ ((F : Found) (lists : ℕ) → FoundGiven F lists finding (now (next .entry)) (now (flags .entry)) (now (table .entry)) recordings
+        → outcome r (now (marks .exit)) (now (workspace .exit))
+        ≡ listsLeft recordings (now (marks .entry)) (now (workspace .entry)) (markedLists recordings (now (table .entry)) start F)) ⌝ }
+{
+    match finding {
+        Finding::Found(_, states) => {
+            let ones = mark_lists(
+                next,
+                flags,
+                states,
+                table,
+                recordings,
+                start,
+                marks,
+                workspace,
+            );
+            Answered::Marked(ones)
+        }
+        Finding::Refused(refusal, _) => {
+            clear_bytes(marks, recordings as usize);
+            clear_words(workspace, (4 * recordings) as usize);
+            Answered::Refused(refusal, 0)
+        }
+    }
+}
+
+// The marks by the rewriting of the job of the tables.
+fn rewriting_lists(
+    follow: &[u64; 1088],
+    enter: &[u64; 544],
+    sizes: &[u64; 17],
+    accepting: &[u64; 17],
+    labels: u64,
+    lists: u64,
+    table: &[u16],
+    recordings: u64,
+    start: u64,
+    marks: &mut [u8],
+    workspace: &mut [u64],
+) -> Answered
+    requires { ⌜ (labels ≤ 32) × (lists ≤ 16) × (isTable recordings lists (now table) ≡ true)
+        × ListsLent recordings start (now marks) (now workspace) ⌝ }
+    ensures { λ r. ⌜ ((J : Job) → WellFormed J
+        → JobGiven J (now (follow .entry)) (now (enter .entry)) (now (sizes .entry)) (now (accepting .entry)) labels lists
+        → outcome r (now (marks .exit)) (now (workspace .exit))
+        ≡ listsLeft recordings (now (marks .entry)) (now (workspace .entry)) (markedLists recordings (now (table .entry)) start (find J))) ⌝ }
+{
+    let mut next: [u16; 4096] = [0; 4096];
+    let mut flags: [u8; 256] = [0; 256];
+    let told = find_core(
+        labels,
+        lists,
+        follow,
+        enter,
+        sizes,
+        accepting,
+        64,
+        256,
+        &mut next,
+        &mut flags,
+    );
+    let finding = told.finding;
+    finding_lists(
+        finding,
+        &next,
+        &flags,
+        table,
+        recordings,
+        start,
+        marks,
+        workspace,
+    )
+}
+
+// The job of the tables.
+fn job_lists(
+    follow: &[u64; 1088],
+    enter: &[u64; 544],
+    sizes: &[u64; 17],
+    accepting: &[u64; 17],
+    labels: u64,
+    lists: u64,
+    table: &[u16],
+    recordings: u64,
+    start: u64,
+    marks: &mut [u8],
+    workspace: &mut [u64],
+) -> Answered
+    requires { ⌜ (labels ≤ 32) × (lists ≤ 16) × ListsSized recordings (now marks) (now workspace) ⌝ }
+    ensures { λ r. ⌜ ((J : Job) → WellFormed J
+        → JobGiven J (now (follow .entry)) (now (enter .entry)) (now (sizes .entry)) (now (accepting .entry)) labels lists
+        → outcome r (now (marks .exit)) (now (workspace .exit))
+        ≡ listsLeft recordings (now (marks .entry)) (now (workspace .entry)) (listsJob J recordings (now (table .entry)) start)) ⌝ }
+{
+    if !is_table(table, recordings, lists) {
+        return Answered::Refused(Refusal::BadTable, 0);
+    }
+    if recordings <= start {
+        return Answered::Refused(Refusal::BadStart, 0);
+    }
+    rewriting_lists(
+        follow,
+        enter,
+        sizes,
+        accepting,
+        labels,
+        lists,
+        table,
+        recordings,
+        start,
+        marks,
+        workspace,
+    )
+}
+
+// The job of a text, read into tables.
+fn read_lists(
+    text: &[u8],
+    recordings: u64,
+    table: &[u16],
+    start: u64,
+    marks: &mut [u8],
+    workspace: &mut [u64],
+) -> Answered
+    requires { ⌜ ListsSized recordings (now marks) (now workspace) ⌝ }
+    ensures { λ r. ⌜ outcome r (now (marks .exit)) (now (workspace .exit))
+        ≡ readLists (read (now (text .entry))) recordings (now (table .entry)) start (now (marks .entry)) (now (workspace .entry)) ⌝ }
+{
+    let mut names = [0; 96];
+    let mut follow = [0; 1088];
+    let mut enter = [0; 544];
+    let mut sizes = [0; 17];
+    let mut accepting = [0; 17];
+    let told = load(
+        text,
+        &mut names,
+        &mut follow,
+        &mut enter,
+        &mut sizes,
+        &mut accepting,
+    );
+    match told {
+        Answer::Job(labels, lists) => job_lists(
+            &follow,
+            &enter,
+            &sizes,
+            &accepting,
+            labels,
+            lists,
+            table,
+            recordings,
+            start,
+            marks,
+            workspace,
+        ),
+        Answer::Refused(refusal, line) => Answered::Refused(refusal, line),
+    }
+}
+
+// Answer from lists (document 01): the number of recordings that are marked, or the refusal with its line.
+pub fn answer_from_lists(
+    text: &[u8],
+    recordings: u64,
+    table: &[u16],
+    start: u64,
+    marks: &mut [u8],
+    workspace: &mut [u64],
+) -> Answered
+    ensures { λ r. ⌜ outcome r (now (marks .exit)) (now (workspace .exit))
+        ≡ listsAnswer (now (text .entry)) recordings (now (table .entry)) start (now (marks .entry)) (now (workspace .entry)) ⌝ }
+{
+    if recordings == 0 {
+        return Answered::Refused(Refusal::BadRecordings, 0);
+    }
+    if 4096 < recordings {
+        return Answered::Refused(Refusal::BadRecordings, 0);
+    }
+    if (marks.len() as u64) < recordings {
+        return Answered::Refused(Refusal::BufferTooShort, 0);
+    }
+    if (workspace.len() as u64) < 4 * recordings {
+        return Answered::Refused(Refusal::BufferTooShort, 0);
+    }
+    read_lists(text, recordings, table, start, marks, workspace)
+}
