@@ -1,0 +1,13 @@
+pub mod Lines
+pub mod LinesLaws
+pub mod Told
+pub mod ToldLaws
+pub mod Printed
+pub mod LineLengths
+pub mod FoundBounds
+pub mod PrintedFits
+pub mod Printing
+pub mod VerdictPutLaws
+pub mod JobPutLaws
+pub mod PrintLaws
+pub mod Example
