@@ -1,6 +1,6 @@
 /*
- * Calls the library as the hosting server would: Read and Keep on the job of document 01, texts that are refused, and, in a thread with
- * 256 KiB of stack, the deepest and longest texts. Prints 'N passed, 0 failed' where all answers are as they should be.
+ * Calls the library as the hosting server would: Read and Keep on the job of document 01, texts that are refused, and, in threads with no
+ * more stack than the header asks for, the deepest and longest texts. Prints 'N passed, 0 failed' where all answers are as they should be.
  */
 #include <pthread.h>
 #include <stdio.h>
@@ -36,21 +36,6 @@ static void text(const char *what, const char *job, unsigned refusal, unsigned l
     expect(what, job, strlen(job), refusal, line, labels, lists);
 }
 
-/* A job `label a`, with a query of the front n times, a middle, and the back n times. */
-static void query(const char *what, const char *front, const char *middle, const char *back, unsigned n, unsigned refusal)
-{
-    char job[2048];
-    size_t at = (size_t)sprintf(job, "label a\nquery ");
-    unsigned i;
-    for (i = 0; i < n; i++)
-        at += (size_t)sprintf(job + at, "%s", front);
-    at += (size_t)sprintf(job + at, "%s", middle);
-    for (i = 0; i < n; i++)
-        at += (size_t)sprintf(job + at, "%s", back);
-    at += (size_t)sprintf(job + at, "\n");
-    expect(what, job, at, refusal, refusal ? 2 : 0, refusal ? 0 : 1, 0);
-}
-
 /* Keep on a text: the refusal or the length, the bytes at the front of the kept file, and what must not change. */
 static void keep(const char *what, const char *job, size_t size, unsigned refusal, unsigned length, const uint8_t *front, size_t count)
 {
@@ -76,38 +61,112 @@ static void keep(const char *what, const char *job, size_t size, unsigned refusa
     free(out);
 }
 
-static void *deep(void *unused)
+/* A job with a query of the front n times, a middle, and the back n times, and its lists: what Read and Keep refuse it with, and where
+   Keep does not, whether the query has the empty path. */
+struct deep {
+    const char *what, *front, *middle, *back;
+    unsigned n;
+    const char *lists;
+    unsigned read, keep, empty;
+};
+
+static const struct deep deepest[] = {
+    {"16 parentheses", "(", "a", ")", 16, "", 0, 0, 0},
+    {"17 parentheses", "(", "a", ")", 17, "", 7, 7, 0},
+    {"255 parentheses", "(", "a", ")", 255, "", 7, 7, 0},
+    {"255 parentheses around ()", "(", "()", ")", 255, "", 7, 7, 0},
+    {"512 opening parentheses", "(", "", "", 512, "", 5, 5, 0},
+    {"511 opening parentheses and a name", "(", "a", "", 511, "", 5, 5, 0},
+    {"511 marks", "", "a", "*", 511, "", 0, 0, 1},
+    {"171 empty paths in sequence", "().", "()", "", 170, "", 0, 0, 1},
+    {"171 empty paths in an alternative", "()|", "()", "", 170, "", 0, 0, 1},
+    {"256 names in sequence, 255 marks", "a.", "a", "", 255, "", 7, 7, 0},
+    {"256 names in an alternative", "a|", "a", "", 255, "", 7, 7, 0},
+    {"62 names in sequence", "a.", "a", "", 61, "", 0, 0, 0},
+    {"63 names in sequence", "a.", "a", "", 62, "", 0, 9, 0},
+    {"63 names in an alternative", "a|", "a", "", 62, "", 0, 0, 0},
+    {"nested to the right", "a.(", "a", ")", 127, "", 7, 7, 0},
+    {"nested alternatives", "a|(", "a", ")", 16, "", 0, 0, 0},
+    {"513 bytes", "a", "", "", 513, "", 7, 7, 0},
+    {"over 256 states", "a.", "a", "", 20, "list l a\nlist m a?\n", 0, 10, 0},
+};
+
+/* Appends a text n times. */
+static char *append(char *at, const char *text, unsigned n)
 {
-    (void)unused;
-    keep("62 names in sequence",
-         "label a\nquery a.a.a.a.a.a.a.a.a.a.a.a.a.a.a.a.a.a.a.a.a.a.a.a.a.a.a.a.a.a.a.a.a.a.a.a.a.a.a.a.a.a.a.a.a.a.a.a.a.a.a.a.a.a.a.a.a.a.a.a.a.a\n",
-         CEZHAPPU_KEPT_LENGTH, 0, 9, (const uint8_t *)"LRW\0\1\0\0\1\0", 9);
-    keep("63 names in sequence",
-         "label a\nquery a.a.a.a.a.a.a.a.a.a.a.a.a.a.a.a.a.a.a.a.a.a.a.a.a.a.a.a.a.a.a.a.a.a.a.a.a.a.a.a.a.a.a.a.a.a.a.a.a.a.a.a.a.a.a.a.a.a.a.a.a.a.a\n",
-         CEZHAPPU_KEPT_LENGTH, 9, 0, NULL, 0);
-    keep("over 256 states", "label a\nquery a.a.a.a.a.a.a.a.a.a.a.a.a.a.a.a.a.a.a.a.a\nlist l a\nlist m a?\n", CEZHAPPU_KEPT_LENGTH + 3, 10, 0, NULL, 0);
-    query("16 parentheses", "(", "a", ")", 16, 0);
-    query("17 parentheses", "(", "a", ")", 17, 7);
-    query("255 parentheses", "(", "a", ")", 255, 7);
-    query("255 parentheses around ()", "(", "()", ")", 255, 7);
-    query("512 opening parentheses", "(", "", "", 512, 5);
-    query("511 marks", "", "a", "*", 511, 0);
-    query("511 opening parentheses and a name", "(", "a", "", 511, 5);
-    query("256 names in sequence, 255 marks", "a.", "a", "", 255, 7);
-    query("256 names in an alternative", "a|", "a", "", 255, 7);
-    query("63 names in sequence", "a.", "a", "", 62, 0);
-    query("63 names in an alternative", "a|", "a", "", 62, 0);
-    query("nested to the right", "a.(", "a", ")", 127, 7);
-    query("nested alternatives", "a|(", "a", ")", 16, 0);
-    query("513 bytes", "a", "", "", 513, 7);
-    return NULL;
+    while (n--)
+        at += sprintf(at, "%s", text);
+    return at;
+}
+
+static void deep_job(char *job, const struct deep *d)
+{
+    char *at = append(job, "label a\nquery ", 1);
+    at = append(at, d->front, d->n);
+    at = append(at, d->middle, 1);
+    at = append(at, d->back, d->n);
+    at = append(at, "\n", 1);
+    append(at, d->lists, 1);
+}
+
+static void *deep_read(void *unused)
+{
+    char job[2048];
+    size_t i;
+    for (i = 0; i < sizeof deepest / sizeof *deepest; i++) {
+        const struct deep *d = &deepest[i];
+        deep_job(job, d);
+        if (d->read)
+            text(d->what, job, d->read, 2, 0, 0);
+        else
+            text(d->what, job, 0, 0, 1, *d->lists ? 2 : 0);
+    }
+    return unused;
+}
+
+/* 253 states in terms of 16 lists, 14 of them with 63 names. */
+static void longest_job(char *job)
+{
+    unsigned i;
+    char *at = append(job, "label a\nquery a", 1);
+    at = append(at, ".a", 19);
+    at = append(at, "\nlist l a\nlist m a?\n", 1);
+    for (i = 0; i < 14; i++) {
+        at += sprintf(at, "list n%02u a", i);
+        at = append(at, ".a", 62);
+        at = append(at, "\n", 1);
+    }
+}
+
+static void *deep_keep(void *unused)
+{
+    static const uint8_t one_state[2][9] = {"LRW\0\1\0\0\1\0", "LRW\0\1\0\0\1\1"};
+    static const uint8_t many_states[16] = "LRW\0\1\20\0\375\1l\1m\3n00";
+    char job[4096];
+    size_t i;
+    for (i = 0; i < sizeof deepest / sizeof *deepest; i++) {
+        const struct deep *d = &deepest[i];
+        deep_job(job, d);
+        keep(d->what, job, CEZHAPPU_KEPT_LENGTH + i, d->keep, d->keep ? 0 : 9, one_state[d->empty], 9);
+    }
+    longest_job(job);
+    keep("253 states, 16 lists", job, CEZHAPPU_KEPT_LENGTH, 0, 8 + 2 * 2 + 14 * 4 + 253 * 33, many_states, 16);
+    return unused;
+}
+
+/* Runs the calls in a thread with so much stack, its own frames included. */
+static void in_thread(void *(*calls)(void *), size_t stack)
+{
+    pthread_attr_t attributes;
+    pthread_t thread;
+    if (pthread_attr_init(&attributes) || pthread_attr_setstacksize(&attributes, stack) ||
+        pthread_create(&thread, &attributes, calls, NULL) || pthread_join(thread, NULL))
+        abort();
 }
 
 int main(void)
 {
     static const char job[] = "label episode\nlabel mix\nlabel master\nquery episode.(mix|master)\nlist episodes episode\nlist mixes mix\n";
-    pthread_attr_t attributes;
-    pthread_t thread;
     char *longest = malloc(8193);
     if (!longest)
         abort();
@@ -125,9 +184,8 @@ int main(void)
     expect("8,193 bytes", longest, 8193, 1, 0, 0, 0);
     expect("8,192 bytes", longest, 8192, 2, 1, 0, 0);
     free(longest);
-    if (pthread_attr_init(&attributes) || pthread_attr_setstacksize(&attributes, 256 * 1024) ||
-        pthread_create(&thread, &attributes, deep, NULL) || pthread_join(thread, NULL))
-        abort();
+    in_thread(deep_read, CEZHAPPU_READ_STACK);
+    in_thread(deep_keep, CEZHAPPU_KEEP_STACK);
     printf("%u passed, %u failed\n", passed, failed);
     return failed != 0;
 }

@@ -18,13 +18,7 @@ pub struct Answer {
 /// Marks where a path of the chosen expression leads (0 the query, 1 upward a
 /// list). Refusals: 17, no such expression; 15, bad table; 16, bad start; 9,
 /// the chosen expression has over 64 standings.
-pub fn from_links(
-    job: &Job,
-    recordings: usize,
-    links: &[u16],
-    chosen: usize,
-    start: usize,
-) -> Result<Answer, u8> {
+pub fn from_links(job: &Job, recordings: usize, links: &[u16], chosen: usize, start: usize) -> Result<Answer, u8> {
     let expr = chosen_expression(job, chosen).ok_or(17)?;
     let leaving = leaving(links, recordings, job.labels.len()).ok_or(15)?;
     if start >= recordings {
@@ -52,6 +46,11 @@ fn chosen_expression(job: &Job, chosen: usize) -> Option<&Expr> {
     }
 }
 
+/// Whether a table of links (or lists) is a right one.
+pub fn is_table(table: &[u16], recordings: usize, labels: usize) -> bool {
+    leaving(table, recordings, labels).is_some()
+}
+
 /// For each recording, the label (or list) numbers and ends of the links that
 /// leave it; none if the table is not a right one.
 fn leaving(table: &[u16], recordings: usize, labels: usize) -> Option<Vec<Vec<(usize, usize)>>> {
@@ -77,12 +76,7 @@ fn leaving(table: &[u16], recordings: usize, labels: usize) -> Option<Vec<Vec<(u
 
 /// Marks each recording that can be reached with an accepting place of the
 /// deterministic automaton (`next[place][label]`), beginning at its place 0.
-fn walk(
-    leaving: &[Vec<(usize, usize)>],
-    start: usize,
-    next: &[Vec<usize>],
-    accepts: &[bool],
-) -> Answer {
+fn walk(leaving: &[Vec<(usize, usize)>], start: usize, next: &[Vec<usize>], accepts: &[bool]) -> Answer {
     let mut met = vec![vec![false; next.len()]; leaving.len()];
     met[start][0] = true;
     let mut waiting = vec![(start, 0)];
@@ -107,35 +101,40 @@ fn walk(
 /// when a path of the list's expression leads from x to y. It may be longer
 /// than a lent table may be.
 pub fn exact_lists(job: &Job, recordings: usize, links: &[u16]) -> Vec<u16> {
+    exact_lists_within(job, recordings, links, usize::MAX).expect("no limit")
+}
+
+/// The same, or none if it has more than `most` triples.
+pub fn exact_lists_within(job: &Job, recordings: usize, links: &[u16], most: usize) -> Option<Vec<u16>> {
     let leaving = leaving(links, recordings, job.labels.len()).expect("a right table");
+    let lists = job.lists.iter().map(|list| Automaton::new(&list.expr));
+    let lists: Vec<Automaton> = lists.collect();
     let mut table = Vec::new();
     for from in 0..recordings {
-        for (list, automaton) in job.lists.iter().enumerate() {
-            let automaton = Automaton::new(&automaton.expr);
-            for to in list_ends(&leaving, from, &automaton) {
-                table.extend([from as u16, list as u16, to as u16]);
+        for (number, list) in lists.iter().enumerate() {
+            for to in list_ends(&leaving, from, list) {
+                table.extend([from as u16, number as u16, to as u16]);
+            }
+            if table.len() / 3 > most {
+                return None;
             }
         }
     }
-    table
+    Some(table)
 }
 
-fn list_ends(
-    leaving: &[Vec<(usize, usize)>],
-    from: usize,
-    automaton: &Automaton,
-) -> BTreeSet<usize> {
+fn list_ends(leaving: &[Vec<(usize, usize)>], from: usize, list: &Automaton) -> BTreeSet<usize> {
     let mut met = BTreeSet::from([(from, 0)]);
     let mut waiting = vec![(from, 0)];
     while let Some((recording, position)) = waiting.pop() {
         for (label, to) in &leaving[recording] {
-            for follower in automaton.step(position, *label) {
+            for follower in list.step(position, *label) {
                 if met.insert((*to, follower)) {
                     waiting.push((*to, follower));
                 }
             }
         }
     }
-    let ended = met.into_iter().filter(|(_, at)| automaton.ends_at(*at));
+    let ended = met.into_iter().filter(|(_, at)| list.ends_at(*at));
     ended.map(|(recording, _)| recording).collect()
 }

@@ -1,7 +1,8 @@
 //! Glushkov's positions of an expression, and the standings they make.
 
+use crate::explore::Explored;
 use crate::read::Expr;
-use std::collections::{BTreeSet, HashMap};
+use std::collections::BTreeSet;
 
 pub const MOST_STANDINGS: usize = 64;
 
@@ -21,6 +22,7 @@ pub struct Automaton {
 }
 
 /// What is known of a part of an expression, beside the follow sets.
+#[derive(Default)]
 struct Part {
     first: BTreeSet<usize>,
     last: BTreeSet<usize>,
@@ -29,12 +31,8 @@ struct Part {
 
 impl Automaton {
     pub fn new(expr: &Expr) -> Automaton {
-        let mut automaton = Automaton {
-            label: vec![None],
-            follow: vec![BTreeSet::new()],
-            last: BTreeSet::new(),
-            nullable: false,
-        };
+        let mut automaton =
+            Automaton { label: vec![None], follow: vec![BTreeSet::new()], last: BTreeSet::new(), nullable: false };
         let whole = automaton.add(expr);
         automaton.follow[0] = whole.first;
         automaton.last = whole.last;
@@ -44,51 +42,10 @@ impl Automaton {
 
     fn add(&mut self, expr: &Expr) -> Part {
         match expr {
-            Expr::Empty => Part {
-                first: BTreeSet::new(),
-                last: BTreeSet::new(),
-                nullable: true,
-            },
-            Expr::Label(label) => {
-                let here = self.label.len();
-                self.label.push(Some(*label));
-                self.follow.push(BTreeSet::new());
-                Part {
-                    first: BTreeSet::from([here]),
-                    last: BTreeSet::from([here]),
-                    nullable: false,
-                }
-            }
-            Expr::Alt(parts) => {
-                let mut whole = Part {
-                    first: BTreeSet::new(),
-                    last: BTreeSet::new(),
-                    nullable: false,
-                };
-                for part in parts {
-                    let part = self.add(part);
-                    whole.first.extend(part.first);
-                    whole.last.extend(part.last);
-                    whole.nullable |= part.nullable;
-                }
-                whole
-            }
-            Expr::Seq(parts) => {
-                let mut whole = self.add(&Expr::Empty);
-                for part in parts {
-                    let part = self.add(part);
-                    self.join(&whole.last, &part.first);
-                    if whole.nullable {
-                        whole.first.extend(part.first);
-                    }
-                    if !part.nullable {
-                        whole.last.clear();
-                    }
-                    whole.last.extend(part.last);
-                    whole.nullable &= part.nullable;
-                }
-                whole
-            }
+            Expr::Empty => Part { nullable: true, ..Part::default() },
+            Expr::Label(label) => self.add_label(*label),
+            Expr::Alt(parts) => self.add_alternative(parts),
+            Expr::Seq(parts) => self.add_sequence(parts),
             Expr::Star(inner) => {
                 let mut part = self.add(inner);
                 self.join(&part.last, &part.first);
@@ -101,6 +58,41 @@ impl Automaton {
                 part
             }
         }
+    }
+
+    fn add_label(&mut self, label: usize) -> Part {
+        let here = self.label.len();
+        self.label.push(Some(label));
+        self.follow.push(BTreeSet::new());
+        Part { first: BTreeSet::from([here]), last: BTreeSet::from([here]), nullable: false }
+    }
+
+    fn add_alternative(&mut self, parts: &[Expr]) -> Part {
+        let mut whole = Part::default();
+        for part in parts {
+            let part = self.add(part);
+            whole.first.extend(part.first);
+            whole.last.extend(part.last);
+            whole.nullable |= part.nullable;
+        }
+        whole
+    }
+
+    fn add_sequence(&mut self, parts: &[Expr]) -> Part {
+        let mut whole = Part { nullable: true, ..Part::default() };
+        for part in parts {
+            let part = self.add(part);
+            self.join(&whole.last, &part.first);
+            if whole.nullable {
+                whole.first.extend(part.first);
+            }
+            if !part.nullable {
+                whole.last.clear();
+            }
+            whole.last.extend(part.last);
+            whole.nullable &= part.nullable;
+        }
+        whole
     }
 
     fn join(&mut self, ends: &BTreeSet<usize>, begins: &BTreeSet<usize>) {
@@ -155,6 +147,7 @@ impl Automaton {
 
 /// All standings over the paths of some labels, numbered; 0 is the start.
 pub struct Standings {
+    pub sets: Vec<Standing>,
     pub accepts: Vec<bool>,
     /// The standing after one more label: `next[standing][label]`.
     pub next: Vec<Vec<usize>>,
@@ -163,28 +156,10 @@ pub struct Standings {
 impl Standings {
     /// Refusal 9 if there are over 64.
     pub fn new(automaton: &Automaton, labels: usize) -> Result<Standings, u8> {
-        let mut all = vec![automaton.start()];
-        let mut number = HashMap::from([(automaton.start(), 0)]);
-        let mut next = Vec::new();
-        while next.len() < all.len() {
-            let here = all[next.len()].clone();
-            let mut row = Vec::new();
-            for label in 0..labels {
-                let after = automaton.after(&here, label);
-                let known = number.get(&after).copied();
-                row.push(known.unwrap_or(all.len()));
-                if known.is_none() {
-                    if all.len() == MOST_STANDINGS {
-                        return Err(9);
-                    }
-                    number.insert(after.clone(), all.len());
-                    all.push(after);
-                }
-            }
-            next.push(row);
-        }
-        let accepts = all.iter().map(|one| automaton.accepts(one)).collect();
-        Ok(Standings { accepts, next })
+        let step = |here: &Standing, label| automaton.after(here, label);
+        let all = Explored::new(automaton.start(), labels, MOST_STANDINGS, step).ok_or(9)?;
+        let accepts = all.values.iter().map(|one| automaton.accepts(one));
+        Ok(Standings { accepts: accepts.collect(), sets: all.values, next: all.next })
     }
 
     pub fn count(&self) -> usize {

@@ -1,8 +1,10 @@
 //! Find: the states of the list words, and which of them are accepted.
 
 use crate::automaton::{Automaton, Standings};
+use crate::explore::Explored;
 use crate::read::Job;
-use std::collections::{BTreeSet, HashMap};
+use crate::turn::Turn;
+use std::collections::BTreeSet;
 
 pub const MOST_STATES: usize = 256;
 
@@ -21,54 +23,45 @@ pub struct Found {
     pub first: Option<Vec<usize>>,
 }
 
+impl Found {
+    /// The state of a list word, by the table.
+    pub fn follow(&self, word: &[usize]) -> usize {
+        word.iter().fold(0, |state, list| self.table[state][*list])
+    }
+}
+
 /// Refusals: 9, over 64 query standings; 10, over 256 states.
 pub fn find(job: &Job) -> Result<Found, u8> {
-    let query = Standings::new(&Automaton::new(&job.query), job.labels.len())?;
-    let lists = job.lists.iter().map(|list| Automaton::new(&list.expr));
-    let leads: Vec<Vec<BTreeSet<usize>>> = lists
+    find_by(Turn::Right, job)
+}
+
+pub fn find_by(turn: Turn, job: &Job) -> Result<Found, u8> {
+    let query = turn.query(job)?;
+    let lists: Vec<Vec<BTreeSet<usize>>> = job
+        .lists
+        .iter()
         .map(|list| {
+            let list = turn.list(&list.expr);
             let each = 0..query.count();
             each.map(|from| after_list(&query, from, &list)).collect()
         })
         .collect();
 
+    let step = |state: &BTreeSet<usize>, list: usize| -> BTreeSet<usize> {
+        let each = state.iter().flat_map(|from| &lists[list][*from]);
+        each.copied().collect()
+    };
     let start = BTreeSet::from([0]);
-    let mut number = HashMap::from([(start.clone(), 0)]);
-    let mut states = vec![start];
-    let mut words: Vec<Vec<usize>> = vec![Vec::new()];
-    let mut table: Vec<Vec<usize>> = Vec::new();
-    while table.len() < states.len() {
-        let here = table.len();
-        let mut row = Vec::new();
-        for (list, leads) in leads.iter().enumerate() {
-            let standings = states[here].iter();
-            let next: BTreeSet<usize> = standings.flat_map(|s| leads[*s].clone()).collect();
-            let known = number.get(&next).copied();
-            row.push(known.unwrap_or(states.len()));
-            if known.is_none() {
-                if states.len() == MOST_STATES {
-                    return Err(10);
-                }
-                number.insert(next.clone(), states.len());
-                states.push(next);
-                let mut word = words[here].clone();
-                word.push(list);
-                words.push(word);
-            }
-        }
-        table.push(row);
-    }
+    let states = Explored::new(start, lists.len(), MOST_STATES, step).ok_or(10)?;
 
-    let accepting: Vec<bool> = states
-        .iter()
-        .map(|state| state.iter().all(|standing| query.accepts[*standing]))
-        .collect();
+    let accepts = |state: &BTreeSet<usize>| turn.all(state.iter().map(|s| query.accepts[*s]));
+    let accepting: Vec<bool> = states.values.iter().map(accepts).collect();
     let least = accepting.iter().position(|accepting| *accepting);
     Ok(Found {
         standings: query.count(),
-        first: least.map(|state| words[state].clone()),
-        states,
-        table,
+        first: least.map(|state| states.word(state)),
+        states: states.values,
+        table: states.next,
         accepting,
     })
 }

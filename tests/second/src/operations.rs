@@ -6,7 +6,8 @@
 use crate::answer::{from_links, from_lists, Answer, MOST_RECORDINGS};
 use crate::find::Found;
 use crate::keep::KEPT_BYTES;
-use crate::read::{read, Refusal};
+use crate::read::{read, Job, Refusal};
+use crate::verdict::Verdict;
 
 pub const TABLE_NUMBERS: usize = 4096;
 pub const TABLE_ROW: usize = 16;
@@ -45,11 +46,7 @@ pub fn find(text: &[u8], table: &mut [u16], flags: &mut [u8]) -> Result<FindTold
     flags[..FLAG_BYTES].fill(0);
     let found = crate::find::find(&job).map_err(refusal)?;
     write_found(&found, table, flags);
-    Ok(FindTold {
-        standings: found.standings,
-        states: found.states.len(),
-        first: found.first,
-    })
+    Ok(FindTold { standings: found.standings, states: found.states.len(), first: found.first })
 }
 
 /// Writes Find's table and flags over zeros.
@@ -70,15 +67,25 @@ pub fn verdict(
     path: &mut [u8],
     workspace: &mut [u64],
 ) -> Result<VerdictTold, Refusal> {
+    let decide = crate::verdict::verdict;
+    verdict_by(decide, text, allowance, table, flags, path, workspace)
+}
+
+/// As `verdict`, on a job's verdict that `decide` tells by the allowance.
+pub fn verdict_by(
+    decide: impl Fn(&Job, usize) -> Result<Verdict, u8>,
+    text: &[u8],
+    allowance: usize,
+    table: &mut [u16],
+    flags: &mut [u8],
+    path: &mut [u8],
+    workspace: &mut [u64],
+) -> Result<VerdictTold, Refusal> {
     if allowance == 0 || allowance > MOST_ALLOWANCE {
         return Err(refusal(11));
     }
     let words = WORDS_FOR_A_PAIR * allowance;
-    if table.len() < TABLE_NUMBERS
-        || flags.len() < FLAG_BYTES
-        || path.len() < allowance
-        || workspace.len() < words
-    {
+    if table.len() < TABLE_NUMBERS || flags.len() < FLAG_BYTES || path.len() < allowance || workspace.len() < words {
         return Err(refusal(8));
     }
     let job = read(text)?;
@@ -87,15 +94,12 @@ pub fn verdict(
     flags[..FLAG_BYTES].fill(0);
     path[..allowance].fill(0);
     workspace[..words].fill(0);
-    let verdict = crate::verdict::verdict(&job, allowance).map_err(refusal)?;
+    let verdict = decide(&job, allowance).map_err(refusal)?;
     write_found(&verdict.found, table, flags);
     for (place, label) in verdict.missed.iter().flatten().enumerate() {
         path[place] = *label as u8;
     }
-    Ok(VerdictTold {
-        missed: verdict.missed.map(|path| path.len()),
-        pairs: verdict.pairs,
-    })
+    Ok(VerdictTold { missed: verdict.missed.map(|path| path.len()), pairs: verdict.pairs })
 }
 
 /// Answer from links. Tells the number of ones.
@@ -131,12 +135,7 @@ pub fn lists(
     write_answer(answer, recordings, marks, workspace, words)
 }
 
-fn check_answer_buffers(
-    recordings: usize,
-    marks: &[u8],
-    workspace: &[u64],
-    words: usize,
-) -> Result<(), Refusal> {
+fn check_answer_buffers(recordings: usize, marks: &[u8], workspace: &[u64], words: usize) -> Result<(), Refusal> {
     if recordings == 0 || recordings > MOST_RECORDINGS {
         return Err(refusal(14));
     }

@@ -1,15 +1,20 @@
 //! The printed form: Find, then Verdict with allowance 128.
 
-use crate::find::find;
+use crate::find::find_by;
 use crate::read::{read, Refusal};
-use crate::verdict::verdict;
+use crate::turn::Turn;
+use crate::verdict::verdict_by;
 
 pub const PRINTED_ALLOWANCE: usize = 128;
 
 /// All that the program prints for a job text.
 pub fn printed(text: &[u8]) -> String {
+    printed_by(Turn::Right, text)
+}
+
+pub fn printed_by(turn: Turn, text: &[u8]) -> String {
     let mut out = String::new();
-    if let Err(refusal) = print(text, &mut out) {
+    if let Err(refusal) = print(turn, text, &mut out) {
         match refusal.line {
             0 => out += &format!("refused {}\n", refusal.number),
             line => out += &format!("refused {} line {line}\n", refusal.number),
@@ -18,10 +23,10 @@ pub fn printed(text: &[u8]) -> String {
     out
 }
 
-fn print(text: &[u8], out: &mut String) -> Result<(), Refusal> {
+fn print(turn: Turn, text: &[u8], out: &mut String) -> Result<(), Refusal> {
     let refusal = |number| Refusal { number, line: 0 };
     let job = read(text)?;
-    let found = find(&job).map_err(refusal)?;
+    let found = find_by(turn, &job).map_err(refusal)?;
     *out += &format!("query {}\n", found.standings);
     *out += &format!("states {}\n", found.states.len());
     for (state, row) in found.table.iter().enumerate() {
@@ -36,7 +41,7 @@ fn print(text: &[u8], out: &mut String) -> Result<(), Refusal> {
         Some(word) => *out += &named("first", word, |list| &job.lists[list].name),
         None => *out += "empty\n",
     }
-    let verdict = verdict(&job, PRINTED_ALLOWANCE).map_err(refusal)?;
+    let verdict = verdict_by(turn, &job, PRINTED_ALLOWANCE).map_err(refusal)?;
     match &verdict.missed {
         Some(path) => *out += &named("missed", path, |label| &job.labels[label]),
         None => *out += "complete\n",

@@ -23,9 +23,7 @@ impl Tally {
         match answer {
             Ok(_) => self.accepted += 1,
             Err(fault) => {
-                let reason = Reason::ALL
-                    .iter()
-                    .position(|reason| *reason == fault.reason);
+                let reason = Reason::ALL.iter().position(|reason| *reason == fault.reason);
                 self.reasons[reason.expect("every reason is listed")] += 1;
             }
         }
@@ -33,33 +31,19 @@ impl Tally {
 
     pub fn refused(&self, number: u8) -> usize {
         let counts = Reason::ALL.iter().zip(self.reasons);
-        counts
-            .filter(|(reason, _)| reason.number() == number)
-            .map(|(_, count)| count)
-            .sum()
+        counts.filter(|(reason, _)| reason.number() == number).map(|(_, count)| count).sum()
     }
 
     /// Stops the run if too few texts of some kind were met.
     pub fn assert_floors(&self) {
         assert!(self.inputs >= LEAST_INPUTS, "only {} inputs", self.inputs);
-        assert!(
-            self.accepted >= LEAST_ACCEPTED,
-            "only {} accepted",
-            self.accepted
-        );
+        assert!(self.accepted >= LEAST_ACCEPTED, "only {} accepted", self.accepted);
         for number in 1..=7 {
             let count = self.refused(number);
-            assert!(
-                count >= LEAST_OF_EACH_REASON,
-                "only {count} of refusal {number}"
-            );
+            assert!(count >= LEAST_OF_EACH_REASON, "only {count} of refusal {number}");
         }
         for (reason, count) in Reason::ALL.iter().zip(self.reasons) {
-            assert!(
-                count >= LEAST_OF_EACH_REASON,
-                "only {count} of: {}",
-                reason.words()
-            );
+            assert!(count >= LEAST_OF_EACH_REASON, "only {count} of: {}", reason.words());
         }
     }
 }

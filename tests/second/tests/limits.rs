@@ -3,6 +3,7 @@
 use second::answer::{from_links, from_lists};
 use second::cases::EXAMPLE;
 use second::find::find;
+use second::jobs::many;
 use second::keep::keep;
 use second::print::printed;
 use second::read::{read, Job, Refusal};
@@ -33,11 +34,6 @@ fn example() -> Job {
     read(EXAMPLE.as_bytes()).expect("a right job")
 }
 
-/// `count` times `a`, in sequence.
-fn many(count: usize) -> String {
-    vec!["a"; count].join(".")
-}
-
 #[test]
 fn p1() {
     let verdict_11 = verdict(&example(), 11).expect("it answers");
@@ -59,7 +55,7 @@ fn p2() {
     // The rewriting of document 001: any number of the second list, the first
     // list, any number of the third.
     for word in words(3, 6) {
-        let state = word.iter().fold(0, |state, list| found.table[state][*list]);
+        let state = found.follow(&word);
         let mut rest = word.as_slice();
         while let [1, after @ ..] = rest {
             rest = after;
@@ -192,14 +188,8 @@ fn printed_example() {
 #[test]
 fn printed_otherwise() {
     let of = |query: &str, lists: &[&str]| printed(text(query, lists).as_bytes());
-    assert_eq!(
-        of("a*", &["a*"]),
-        "query 2\nstates 2\n0 + 1\n1 + 1\nfirst\ncomplete\npairs 2\n"
-    );
-    assert_eq!(
-        of("a*", &[]),
-        "query 2\nstates 1\n0 +\nfirst\nmissed a\npairs 2\n"
-    );
+    assert_eq!(of("a*", &["a*"]), "query 2\nstates 2\n0 + 1\n1 + 1\nfirst\ncomplete\npairs 2\n");
+    assert_eq!(of("a*", &[]), "query 2\nstates 1\n0 +\nfirst\nmissed a\npairs 2\n");
     assert!(of("a", &["a*"]).contains("\nempty\nmissed a\n"));
     assert!(of("a?", &["a"]).contains("\nfirst\ncomplete\n"));
     assert_eq!(printed(b""), "refused 2 line 1\n");
@@ -208,10 +198,7 @@ fn printed_otherwise() {
     assert_eq!(of(&many(21), &["a", "a?"]), "refused 10\n");
     let refused = of(&many(62), &["a", &many(15)]);
     assert!(refused.starts_with("query 64\nstates 64\n0 - 1 "));
-    assert!(refused.ends_with(&format!(
-        "\nfirst {}\nrefused 12\n",
-        "e0 ".repeat(2) + &["e1"; 4].join(" ")
-    )));
+    assert!(refused.ends_with(&format!("\nfirst {}\nrefused 12\n", "e0 ".repeat(2) + &["e1"; 4].join(" "))));
 }
 
 #[test]

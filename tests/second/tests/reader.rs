@@ -26,21 +26,11 @@ fn query(expr: &str) -> Expr {
 #[test]
 fn example_of_the_scope_document() {
     let job = Job {
-        labels: vec![
-            "episode".to_string(),
-            "mix".to_string(),
-            "master".to_string(),
-        ],
+        labels: vec!["episode".to_string(), "mix".to_string(), "master".to_string()],
         query: Expr::Seq(vec![label(0), Expr::Alt(vec![label(1), label(2)])]),
         lists: vec![
-            List {
-                name: "episodes".to_string(),
-                expr: label(0),
-            },
-            List {
-                name: "mixes".to_string(),
-                expr: label(1),
-            },
+            List { name: "episodes".to_string(), expr: label(0) },
+            List { name: "mixes".to_string(), expr: label(1) },
         ],
     };
     assert_eq!(read(cases::EXAMPLE.as_bytes()), Ok(job));
@@ -53,13 +43,7 @@ fn hand_made_table() {
             Ok(_) => (0, 0),
             Err(Refusal { number, line }) => (number, line),
         };
-        assert_eq!(
-            answer,
-            (case.number, case.line),
-            "{}: {}",
-            case.why,
-            case.text.escape_ascii()
-        );
+        assert_eq!(answer, (case.number, case.line), "{}: {}", case.why, case.text.escape_ascii());
     }
 }
 
@@ -80,32 +64,14 @@ fn trees() {
     assert_eq!(query("a"), a);
     assert_eq!(query("()"), Expr::Empty);
     assert_eq!(query("((a))"), a);
-    assert_eq!(
-        query("a.b.c"),
-        Expr::Seq(vec![a.clone(), b.clone(), c.clone()])
-    );
-    assert_eq!(
-        query("a|b.c"),
-        Expr::Alt(vec![a.clone(), Expr::Seq(vec![b.clone(), c.clone()])])
-    );
-    assert_eq!(
-        query("(a|b).c"),
-        Expr::Seq(vec![Expr::Alt(vec![a.clone(), b.clone()]), c.clone()])
-    );
-    assert_eq!(
-        query("a.(b.c)"),
-        Expr::Seq(vec![a.clone(), Expr::Seq(vec![b.clone(), c.clone()])])
-    );
+    assert_eq!(query("a.b.c"), Expr::Seq(vec![a.clone(), b.clone(), c.clone()]));
+    assert_eq!(query("a|b.c"), Expr::Alt(vec![a.clone(), Expr::Seq(vec![b.clone(), c.clone()])]));
+    assert_eq!(query("(a|b).c"), Expr::Seq(vec![Expr::Alt(vec![a.clone(), b.clone()]), c.clone()]));
+    assert_eq!(query("a.(b.c)"), Expr::Seq(vec![a.clone(), Expr::Seq(vec![b.clone(), c.clone()])]));
     assert_eq!(query("a*?"), opt(star(a.clone())));
     assert_eq!(query("a.b*"), Expr::Seq(vec![a.clone(), star(b.clone())]));
     assert_eq!(query("(a.b)*"), star(Expr::Seq(vec![a.clone(), b.clone()])));
-    assert_eq!(
-        query("a.(b.a|c)*"),
-        Expr::Seq(vec![
-            a.clone(),
-            star(Expr::Alt(vec![Expr::Seq(vec![b, a]), c]))
-        ])
-    );
+    assert_eq!(query("a.(b.a|c)*"), Expr::Seq(vec![a.clone(), star(Expr::Alt(vec![Expr::Seq(vec![b, a]), c]))]));
 }
 
 /// An expression written with no parentheses but those it needs.
@@ -154,20 +120,14 @@ fn written_and_read_again() {
 #[test]
 fn generated_texts() {
     let mut tally = Tally::default();
-    for text in generate::texts(2, 150_000) {
+    for text in generate::texts(2, 120_000) {
         let answer = read_or_fault(&text.bytes);
         if let Some(expected) = text.expected {
             let found = match &answer {
                 Ok(_) => (0, 0),
                 Err(fault) => (fault.reason.number(), fault.line),
             };
-            assert_eq!(
-                found,
-                expected,
-                "{}: {}",
-                text.family,
-                text.bytes.escape_ascii()
-            );
+            assert_eq!(found, expected, "{}: {}", text.family, text.bytes.escape_ascii());
         }
         tally.count(&text, &answer);
     }

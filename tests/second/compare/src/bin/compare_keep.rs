@@ -3,7 +3,9 @@
 //! which is filled with a pattern first and is one byte too short, exactly
 //! long enough, or longer. Arguments: a seed and a count of texts.
 
+use second::find_jobs::jobs;
 use second::generate::texts;
+use second::jobs::{from_the_end, many, text};
 use second::keep::KEPT_BYTES;
 use second::operations::keep;
 
@@ -11,43 +13,38 @@ extern "C" {
     fn cezhappu_keep(job: *const u8, length: usize, output: *mut u8, size: usize) -> u64;
 }
 
-/// Jobs on each side of a limit of states and standings, beside the generated ones.
-fn limits() -> Vec<Vec<u8>> {
-    let job = |query: &str, lists: &[&str]| {
-        let mut text = format!("label a\nlabel b\nquery {query}\n");
-        for (number, list) in lists.iter().enumerate() {
-            text += &format!("list l{number} {list}\n");
-        }
-        text.into_bytes()
-    };
-    let row = |count: usize| vec!["a"; count].join(".");
-    let tail = |count: usize| format!("(a|b)*.a{}", ".(a|b)".repeat(count));
-    let mut jobs = Vec::new();
-    for count in [1, 3, 19, 20, 21, 22] {
-        jobs.push(job(&row(count), &["a", "a?"]));
-    }
-    for count in [61, 62, 63, 64] {
-        jobs.push(job(&row(count), &["a"]));
-    }
-    for count in [3, 4, 5, 6] {
-        jobs.push(job(&tail(count), &["a", "b", "a|b"]));
-    }
-    jobs
+/// The least of refusals 9 and 10 each.
+const LEAST_OF_A_KIND: usize = 300;
+
+/// Jobs on each side of a limit of states and standings.
+fn limits() -> Vec<String> {
+    let of_names = |count, lists: &[&str]| text(&["a"], &many(count), lists);
+    let mut all = Vec::new();
+    all.extend([1, 3, 19, 20, 21, 22].map(|count| of_names(count, &["a", "a?"])));
+    all.extend([61, 62, 63, 64].map(|count| of_names(count, &["a"])));
+    all.extend([3, 4, 5, 6].map(|places| text(&["a", "b"], &from_the_end(places), &["a", "b", "a|b"])));
+    all
+}
+
+/// Random jobs on both sides of these limits.
+fn near_limits(seed: u64) -> impl Iterator<Item = String> {
+    let strata = ["many standings", "many states", "sequences"];
+    let all = jobs(seed, 12_000).filter(move |sample| strata.contains(&sample.stratum));
+    all.map(|sample| sample.text)
 }
 
 fn main() {
     let mut arguments = std::env::args().skip(1);
     let mut argument = |otherwise: u64| {
-        arguments.next().map_or(otherwise, |text| {
-            text.parse().expect("the arguments are a seed and a count")
-        })
+        arguments.next().map_or(otherwise, |text| text.parse().expect("the arguments are a seed and a count"))
     };
     let (seed, count) = (argument(1), argument(80_000) as usize);
 
     let mut inputs = 0usize;
     let mut told = [0usize; 18];
     let generated = texts(seed, count).map(|text| text.bytes);
-    for text in limits().into_iter().chain(generated) {
+    let near = limits().into_iter().chain(near_limits(seed)).map(String::into_bytes);
+    for text in near.chain(generated) {
         let size = KEPT_BYTES + [0, 1, 7][inputs % 3] - usize::from(inputs % 50 == 49);
         let mut ours: Vec<u8> = (0..size).map(|place| (place % 251) as u8 ^ 0xa5).collect();
         let mut theirs = ours.clone();
@@ -56,35 +53,19 @@ fn main() {
             Err(refusal) => u64::from(refusal.number) | u64::from(refusal.line) << 8,
         };
         // Both buffers are lent for the call alone, and do not overlap.
-        let number =
-            unsafe { cezhappu_keep(text.as_ptr(), text.len(), theirs.as_mut_ptr(), theirs.len()) };
+        let number = unsafe { cezhappu_keep(text.as_ptr(), text.len(), theirs.as_mut_ptr(), theirs.len()) };
         if number != answer || ours != theirs {
-            println!(
-                "difference after {inputs} equal answers: {}",
-                text.escape_ascii()
-            );
-            println!(
-                "cezhappu_keep: {number:#x}; second: {answer:#x}; same bytes: {}",
-                ours == theirs
-            );
+            println!("difference after {inputs} equal answers: {}", text.escape_ascii());
+            println!("cezhappu_keep: {number:#x}; second: {answer:#x}; same bytes: {}", ours == theirs);
             std::process::exit(1);
         }
         told[(answer & 0xff) as usize] += 1;
         inputs += 1;
     }
     for (number, times) in told.iter().enumerate().filter(|(_, times)| **times > 0) {
-        println!(
-            "{} {times}",
-            if number == 0 {
-                "kept".into()
-            } else {
-                format!("refused {number}")
-            }
-        );
+        println!("{} {times}", if number == 0 { "kept".into() } else { format!("refused {number}") });
     }
-    assert!(
-        told[0] > 5_000 && told[8] > 500 && told[9] > 0 && told[10] > 0,
-        "too few of a kind"
-    );
+    let enough = told[9].min(told[10]) >= LEAST_OF_A_KIND;
+    assert!(told[0] > 5_000 && told[8] > 500 && enough, "too few of a kind");
     println!("compare_keep: {inputs} inputs, 0 differences");
 }

@@ -17,10 +17,7 @@ fn main() {
     let mut arguments = std::env::args().skip(1);
     let seed = argument(arguments.next(), 1);
     let count = argument(arguments.next(), 150_000) as usize;
-    assert!(
-        count >= LEAST_INPUTS,
-        "the count must be at least {LEAST_INPUTS}"
-    );
+    assert!(count >= LEAST_INPUTS, "the count must be at least {LEAST_INPUTS}");
     println!("compare_read: seed {seed}, {count} texts");
 
     let mut tally = Tally::default();
@@ -29,13 +26,7 @@ fn main() {
         let ours = packed(&answer);
         if let Some((number, line)) = text.expected {
             if ours & 0xffff_ffff != u64::from(number) | u64::from(line) << 8 {
-                differ(
-                    tally.inputs,
-                    &text,
-                    "expected",
-                    told(number.into(), line.into()),
-                    ours,
-                );
+                differ(tally.inputs, &text, "expected", told(number.into(), line.into()), ours);
             }
         }
         let theirs = call(&text.bytes);
@@ -50,9 +41,7 @@ fn main() {
 }
 
 fn argument(given: Option<String>, otherwise: u64) -> u64 {
-    given.map_or(otherwise, |text| {
-        text.parse().expect("the arguments are a seed and a count")
-    })
+    given.map_or(otherwise, |text| text.parse().expect("the arguments are a seed and a count"))
 }
 
 fn call(text: &[u8]) -> u64 {
@@ -76,10 +65,7 @@ fn unpacked(answer: u64) -> String {
     let line = answer >> 8 & 0xff_ffff;
     let labels = answer >> 32 & 0xff;
     let lists = answer >> 40 & 0xff;
-    format!(
-        "{}, {labels} labels, {lists} lists ({answer:#018x})",
-        told(number, line)
-    )
+    format!("{}, {labels} labels, {lists} lists ({answer:#018x})", told(number, line))
 }
 
 fn told(number: u64, line: u64) -> String {
@@ -91,10 +77,7 @@ fn told(number: u64, line: u64) -> String {
 
 /// Tells a difference and ends the program.
 fn differ(before: usize, text: &Text, other: &str, theirs: String, ours: u64) -> ! {
-    println!(
-        "difference after {before} equal answers, in a text of the kind `{}`:",
-        text.family
-    );
+    println!("difference after {before} equal answers, in a text of the kind `{}`:", text.family);
     println!("{}", text.bytes.escape_ascii());
     if let Some(why) = &text.why {
         println!("({why})");

@@ -1,0 +1,124 @@
+//! Find, Verdict and both answers, which libexports.a has.
+
+use crate::input::Input;
+use crate::library;
+use crate::operations::{filled_bytes, length, packed, Lent, Operation};
+use second::answer::MOST_RECORDINGS;
+use second::operations::{
+    find, links, lists, verdict, FLAG_BYTES, MOST_ALLOWANCE, TABLE_NUMBERS, WORDS_FOR_A_PAIR,
+    WORDS_FOR_A_RECORDING_OF_LINKS, WORDS_FOR_A_RECORDING_OF_LISTS,
+};
+
+pub const ALL: [Operation; 4] = [FIND, VERDICT, LINKS, LISTS];
+
+/// The most names of a first word: there are 256 states.
+const WORD_BYTES: usize = 256;
+
+fn filled_numbers(length: usize) -> Vec<u16> {
+    (0..length).map(|place| (place % 241) as u16 ^ 0xa5c3).collect()
+}
+
+fn filled_words(length: usize) -> Vec<u64> {
+    (0..length as u64).map(|place| place << 7 ^ 0xa5c3_0f1e_2d4b_6978).collect()
+}
+
+const FIND: Operation = Operation {
+    name: "Find",
+    refusals: &[1, 2, 3, 4, 5, 6, 7, 8, 9, 10],
+    has_missed: false,
+    lend: |input| Lent {
+        numbers: filled_numbers(length(TABLE_NUMBERS, input.spare[0])),
+        bytes: filled_bytes(length(FLAG_BYTES, input.spare[1])),
+        more_bytes: vec![0; WORD_BYTES],
+        ..Lent::default()
+    },
+    second: |input, lent| {
+        packed(find(&input.job, &mut lent.numbers, &mut lent.bytes), |told| {
+            let first = told.first.map_or(0, |word| {
+                for (place, list) in word.iter().enumerate() {
+                    lent.more_bytes[place] = *list as u8;
+                }
+                word.len() as u64 + 1
+            });
+            (told.standings as u64) << 32 | (told.states as u64) << 40 | first << 52
+        })
+    },
+    // Of the word's own buffer, only the told word means something.
+    library: |input, lent| {
+        let mut word = [0; WORD_BYTES];
+        let told = library::find(&input.job, &mut lent.numbers, &mut lent.bytes, &mut word);
+        let names = (told >> 52).saturating_sub(1) as usize;
+        if told & 0xff == 0 && names <= WORD_BYTES {
+            lent.more_bytes[..names].copy_from_slice(&word[..names]);
+        }
+        told
+    },
+};
+
+const VERDICT: Operation = Operation {
+    name: "Verdict",
+    refusals: &[1, 2, 3, 4, 5, 6, 7, 8, 9, 10, 11, 12, 13],
+    has_missed: true,
+    lend: |input| {
+        let allowance = input.allowance.min(MOST_ALLOWANCE);
+        Lent {
+            numbers: filled_numbers(length(TABLE_NUMBERS, input.spare[0])),
+            bytes: filled_bytes(length(FLAG_BYTES, input.spare[1])),
+            more_bytes: filled_bytes(length(allowance, input.spare[2])),
+            words: filled_words(length(WORDS_FOR_A_PAIR * allowance, input.spare[3])),
+        }
+    },
+    second: |input, lent| {
+        let Lent { numbers, bytes, more_bytes, words } = lent;
+        packed(verdict(&input.job, input.allowance, numbers, bytes, more_bytes, words), |told| {
+            (told.pairs as u64) << 32 | told.missed.map_or(0, |length| length as u64 + 1) << 48
+        })
+    },
+    library: |input, lent| {
+        let Lent { numbers, bytes, more_bytes, words } = lent;
+        library::verdict(&input.job, input.allowance, numbers, bytes, more_bytes, words)
+    },
+};
+
+const LINKS: Operation = Operation {
+    name: "Answer from links",
+    refusals: &[1, 2, 3, 4, 5, 6, 7, 8, 9, 14, 15, 16, 17],
+    has_missed: false,
+    lend: |input| marks_and_words(input, WORDS_FOR_A_RECORDING_OF_LINKS),
+    second: |input, lent| {
+        let answer = links(
+            &input.job, input.recordings, &input.links, input.chosen, input.start, &mut lent.bytes, &mut lent.words,
+        );
+        packed(answer, |ones| (ones as u64) << 32)
+    },
+    library: |input, lent| {
+        library::links(
+            &input.job, input.recordings, input.chosen, &input.links, input.start, &mut lent.bytes, &mut lent.words,
+        )
+    },
+};
+
+const LISTS: Operation = Operation {
+    name: "Answer from lists",
+    refusals: &[1, 2, 3, 4, 5, 6, 7, 8, 9, 10, 14, 15, 16],
+    has_missed: false,
+    lend: |input| marks_and_words(input, WORDS_FOR_A_RECORDING_OF_LISTS),
+    second: |input, lent| {
+        let Lent { bytes, words, .. } = lent;
+        let answer = lists(&input.job, input.recordings, &input.lists, input.start, bytes, words);
+        packed(answer, |ones| (ones as u64) << 32)
+    },
+    library: |input, lent| {
+        let Lent { bytes, words, .. } = lent;
+        library::lists(&input.job, input.recordings, &input.lists, input.start, bytes, words)
+    },
+};
+
+fn marks_and_words(input: &Input, words: usize) -> Lent {
+    let recordings = input.recordings.min(MOST_RECORDINGS);
+    Lent {
+        bytes: filled_bytes(length(recordings, input.spare[0])),
+        words: filled_words(length(words * recordings, input.spare[1])),
+        ..Lent::default()
+    }
+}

@@ -1,0 +1,78 @@
+//! Random right jobs for Verdict and the Answers, by kind: most of them small,
+//! others made so that what is rare among random jobs is met often.
+
+mod by_lists;
+mod near_limits;
+mod parts;
+
+pub use near_limits::with_pairs;
+
+use crate::generate::{right_text, Random};
+use by_lists::{beside_lists, list_dropped, of_lists, small, wide};
+use near_limits::{at_limit_of_places, far};
+use parts::drawn;
+
+#[derive(Clone, Copy, Debug, PartialEq, Eq)]
+pub enum Kind {
+    /// Few labels, few short lists.
+    Small,
+    /// The query is an expression over the lists: the verdict is complete.
+    OfLists,
+    /// The same, with one path more in the query.
+    BesideLists,
+    /// The same, with one list dropped afterwards.
+    ListDropped,
+    /// Many labels, many lists.
+    Wide,
+    /// As many cover places as may be, or some more.
+    Places,
+    /// Over 128 pairs.
+    Pairs,
+    /// Over 64 standings or over 256 states.
+    Far,
+    /// Any right job.
+    Right,
+}
+
+impl Kind {
+    pub const ALL: [Kind; 9] = [
+        Kind::Small,
+        Kind::OfLists,
+        Kind::BesideLists,
+        Kind::ListDropped,
+        Kind::Wide,
+        Kind::Places,
+        Kind::Pairs,
+        Kind::Far,
+        Kind::Right,
+    ];
+
+    pub fn words(self) -> &'static str {
+        match self {
+            Kind::Small => "small",
+            Kind::OfLists => "query made of the lists",
+            Kind::BesideLists => "query made of the lists and a path",
+            Kind::ListDropped => "query made of the lists, one dropped",
+            Kind::Wide => "many labels and lists",
+            Kind::Places => "about 1024 cover places",
+            Kind::Pairs => "over 128 pairs",
+            Kind::Far => "over 64 standings or 256 states",
+            Kind::Right => "any right job",
+        }
+    }
+
+    /// A random job of this kind.
+    pub fn text(self, random: &mut Random) -> Vec<u8> {
+        match self {
+            Kind::Small => drawn(random, small),
+            Kind::OfLists => drawn(random, of_lists),
+            Kind::BesideLists => drawn(random, beside_lists),
+            Kind::ListDropped => drawn(random, list_dropped),
+            Kind::Wide => drawn(random, wide),
+            Kind::Places => at_limit_of_places(random),
+            Kind::Pairs => with_pairs(random, 129, 700),
+            Kind::Far => drawn(random, far),
+            Kind::Right => right_text(random),
+        }
+    }
+}
