@@ -2,3 +2,4 @@ pub mod UnionLaws
 pub mod Words
 pub mod WordsLaws
 pub mod WordsShift
+pub mod NextPlace

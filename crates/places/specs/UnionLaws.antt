@@ -1,13 +1,11 @@
--- More laws of the union of sets of places: it is associative, moving up and cutting go through it, and a test for a member is known by the
--- members.
+-- More laws of the union of sets of places: it is associative, and moving up goes through it.
 use Prim.Native.Nat.{ℕ, _*_, _^_}
-use mathlib.Core.Bool.{Bool, true, false}
-use mathlib.Core.Logic.{_↔_, _⊎_, inl, inr}
-use mathlib.Core.Path.{_≡_, refl, sym, ap₂, _∙_}
+use mathlib.Core.Logic.{_⊎_, inl, inr}
+use mathlib.Core.Path.{_≡_, sym, ap₂, _∙_}
 use native.Mathlib.Nat.{add-zero}
 use lib.Bits.{or-block}
 use lib.Pow.{pow-pos}
-use Rattle.theory.specs.Places.{Member, member, union}
+use Rattle.theory.specs.Places.{Member, union}
 use Rattle.theory.specs.PlacesLaws.{member-union, equal-members}
 
 pub union-assoc : (a b c : ℕ) → union (union a b) c ≡ union a (union b c)
@@ -38,9 +36,3 @@ union-up k a b =
     sym (add-zero (union a b * 2 ^ k))
     ∙ sym (or-block k a b 0 0 (pow-pos k) (pow-pos k))
     ∙ ap₂ union (add-zero (a * 2 ^ k)) (add-zero (b * 2 ^ k))
-
--- Two tests that hold under the same condition are equal.
-pub same-test : (x y : Bool) → (x ≡ true) ↔ (y ≡ true) → x ≡ y
-same-test true y h = sym (h .0 refl)
-same-test false true h = h .1 refl
-same-test false false h = refl

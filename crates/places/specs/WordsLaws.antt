@@ -6,16 +6,16 @@ use mathlib.Core.Path.{_≡_, refl, sym, ap, ap₂, _∙_, subst}
 use native.Mathlib.Decide.{ℕ-discrete, decLt}
 use native.Mathlib.Nat.{le-refl}
 use native.Mathlib.Omega.{arith}
-use lib.Bits.{or-shifted}
+use lib.Bits.{bitAnd, bitXor, or-shifted}
 use lib.ListN.{length, getD, set, length-set, List·getD-eq-default}
 use lib.Seq.{getD-set-same, getD-set-other}
 use lib.Pow.{high, low}
-use Rattle.theory.specs.Places.{Member, member, union, intersection}
+use Rattle.theory.specs.Places.{Member, intersection}
 use Rattle.theory.specs.PlacesLaws.{member-none, member-below, members-below, member-union, member-intersection, member-test, equal-members}
 use Rattle.theory.specs.PlacesLaws.{no-members, not-none, union-below}
 use Rattle.theory.specs.PlacesShift.{member-up, member-up-from}
-use Rattle.places.specs.UnionLaws.{same-test}
-use Rattle.places.specs.Words.{numberOf, Words}
+use Rattle.theory.specs.PlacesWithin.{within-at-most, member-without}
+use Rattle.places.specs.Words.{numberOf, Words, Without}
 
 -- Place by place: a number in blocks of 64 bits.
 
@@ -63,14 +63,6 @@ member-number (w ∷ l) h i = go (decLt i 64) (λ j. member-number l (λ k. h (s
           λ m. subst (λ z. Member z (numberOf l * 2 ^ 64 + w)) (sym e) (a .1 (b .1 m)),
         )
 
--- The test for a member.
-pub has-place : (l : List ℕ) → Words l → (i : ℕ) → member (i % 64) (getD l (i / 64) 0) ≡ member i (numberOf l)
-has-place l h i =
-    same-test (member (i % 64) (getD l (i / 64) 0)) (member i (numberOf l)) (
-      λ e. member-test i (numberOf l) .1 (member-number l h i .1 (member-test (i % 64) (getD l (i / 64) 0) .0 e)),
-      λ e. member-test (i % 64) (getD l (i / 64) 0) .1 (member-number l h i .0 (member-test i (numberOf l) .0 e)),
-    )
-
 pub number-below : (l : List ℕ) → Words l → numberOf l < 2 ^ (64 * length l)
 number-below l h = members-below (64 * length l) (numberOf l) (λ i m. inside i (member-number l h i .0 m) (decLt (i / 64) (length l)))
   where
@@ -89,24 +81,22 @@ number-same (x ∷ l) (y ∷ m) h k s e =
     let q : numberOf l ≡ numberOf m = sym (high (numberOf l) 64 (h 0)) ∙ ap (λ n. n / 2 ^ 64) e ∙ high (numberOf m) 64 (k 0) in
     ap₂ (λ z t. z ∷ t) p (number-same l m (λ i. h (suc i)) (λ i. k (suc i)) (omega arith) q)
 
--- Union and intersection, word by word.
+-- Word by word: the places of one set that are not in another, and whether two sets have a place in common.
 
-pub number-union : (l m r : List ℕ) → Words l → Words m → Words r → ((k : ℕ) → getD r k 0 ≡ union (getD l k 0) (getD m k 0))
-    → numberOf r ≡ union (numberOf l) (numberOf m)
-number-union l m r hl hm hr e = equal-members (numberOf r) (union (numberOf l) (numberOf m)) λ i. (
-  λ x. member-union i (numberOf l) (numberOf m) .1
-      (there i (member-union (i % 64) (getD l (i / 64) 0) (getD m (i / 64) 0) .0 (rw (e (i / 64)) at (member-number r hr i .0 x)))),
-  λ x. member-number r hr i .1
-      (rw (e (i / 64)) (member-union (i % 64) (getD l (i / 64) 0) (getD m (i / 64) 0) .1 (back i (member-union i (numberOf l) (numberOf m) .0 x)))),
+pub number-without : (l m r : List ℕ) → Words l → Words m → ((k : ℕ) → getD r k 0 ≡ bitXor (getD l k 0) (bitAnd (getD l k 0) (getD m k 0)))
+    → Without (numberOf l) (numberOf m) (numberOf r)
+number-without l m r hl hm e i = (
+  λ x.
+      let (y, z) = at (i / 64) (i % 64) .0 (member-number r hr i .0 x) in
+      (member-number l hl i .1 y, λ q. z (member-number m hm i .0 q)),
+  λ (y, z). member-number r hr i .1 (at (i / 64) (i % 64) .1 (member-number l hl i .0 y, λ q. z (member-number m hm i .1 q))),
 )
   where
-    there : (i : ℕ) → Member (i % 64) (getD l (i / 64) 0) ⊎ Member (i % 64) (getD m (i / 64) 0) → Member i (numberOf l) ⊎ Member i (numberOf m)
-    there i (inl x) = inl (member-number l hl i .1 x)
-    there i (inr x) = inr (member-number m hm i .1 x)
+    at : (k b : ℕ) → Member b (getD r k 0) ↔ (Member b (getD l k 0) × ¬ Member b (getD m k 0))
+    at k b = rw (e k) (member-without (getD l k 0) (getD m k 0) b)
 
-    back : (i : ℕ) → Member i (numberOf l) ⊎ Member i (numberOf m) → Member (i % 64) (getD l (i / 64) 0) ⊎ Member (i % 64) (getD m (i / 64) 0)
-    back i (inl x) = inl (member-number l hl i .0 x)
-    back i (inr x) = inr (member-number m hm i .0 x)
+    hr : Words r
+    hr k = omega (arith, hl k, within-at-most (getD r k 0) (getD l k 0) (λ b x. at k b .0 x .0))
 
 -- No word has a place in common: the sets have none.
 pub number-apart : (l m : List ℕ) → Words l → Words m → ((k : ℕ) → intersection (getD l k 0) (getD m k 0) ≡ 0)
@@ -129,40 +119,37 @@ number-meets l m hl hm k d e =
     (member-intersection (64 * k + b) (numberOf l) (numberOf m) .1
     (member-number l hl (64 * k + b) .1 (rw (p, q) y), member-number m hm (64 * k + b) .1 (rw (p, q) z))))
 
--- A loop that joins the words of m to those of l has joined the first i.
-pub record Joined (l m r : List ℕ) (i : ℕ) : Type 0 where
+-- A loop that puts f of the words of l and m into r has done the first i.
+pub record Joined (f : ℕ → ℕ → ℕ) (l m r : List ℕ) (i : ℕ) : Type 0 where
   pub size : length r ≡ length l
-  pub done : (k : ℕ) → k < i → getD r k 0 ≡ union (getD l k 0) (getD m k 0)
+  pub done : (k : ℕ) → k < i → getD r k 0 ≡ f (getD l k 0) (getD m k 0)
   pub left : (k : ℕ) → i ≤ k → getD r k 0 ≡ getD l k 0
 
-pub joined-none : (l m : List ℕ) → Joined l m l 0
-joined-none l m = record { size = refl; done = λ k h. absurd (omega arith); left = λ k h. refl }
+pub joined-none : (f : ℕ → ℕ → ℕ) (l m : List ℕ) → Joined f l m l 0
+joined-none f l m = record { size = refl; done = λ k h. absurd (omega arith); left = λ k h. refl }
 
-pub joined-next : (l m r : List ℕ) (i : ℕ) → i < length r → Joined l m r i → Joined l m (set r i (union (getD r i 0) (getD m i 0))) (i + 1)
-joined-next l m r i h s =
+pub joined-next : (f : ℕ → ℕ → ℕ) (l m r : List ℕ) (i : ℕ) → i < length r → Joined f l m r i → Joined f l m (set r i (f (getD r i 0) (getD m i 0))) (i + 1)
+joined-next f l m r i h s =
     record {
-      size = length-set r i (union (getD r i 0) (getD m i 0)) ∙ s .size;
+      size = length-set r i (f (getD r i 0) (getD m i 0)) ∙ s .size;
       done = λ k b. at k b (ℕ-discrete k i);
-      left = λ k b. getD-set-other r i k (union (getD r i 0) (getD m i 0)) 0 (λ e. omega arith) ∙ s .left k (omega arith);
+      left = λ k b. getD-set-other r i k (f (getD r i 0) (getD m i 0)) 0 (λ e. omega arith) ∙ s .left k (omega arith);
     }
   where
-    at : (k : ℕ) → k < i + 1 → Dec (k ≡ i) → getD (set r i (union (getD r i 0) (getD m i 0))) k 0 ≡ union (getD l k 0) (getD m k 0)
+    at : (k : ℕ) → k < i + 1 → Dec (k ≡ i) → getD (set r i (f (getD r i 0) (getD m i 0))) k 0 ≡ f (getD l k 0) (getD m k 0)
     at k b (yes e) =
-        rw e (getD-set-same r i (union (getD r i 0) (getD m i 0)) 0 h ∙ ap (λ x. union x (getD m i 0)) (s .left i (le-refl i)))
-    at k b (no e) = getD-set-other r i k (union (getD r i 0) (getD m i 0)) 0 e ∙ s .done k (omega arith)
+        rw e (getD-set-same r i (f (getD r i 0) (getD m i 0)) 0 h ∙ ap (λ x. f x (getD m i 0)) (s .left i (le-refl i)))
+    at k b (no e) = getD-set-other r i k (f (getD r i 0) (getD m i 0)) 0 e ∙ s .done k (omega arith)
 
-pub joined-all : (l m r : List ℕ) (i : ℕ) → length l ≤ i → length m ≤ i → Words l → Words m → Joined l m r i
-    → numberOf r ≡ union (numberOf l) (numberOf m)
-joined-all l m r i hl hm wl wm s = number-union l m r wl wm (λ k. subst (λ x. x < 2 ^ 64) (sym (all k)) (union-below 64 (getD l k 0) (getD m k 0) (wl k) (wm k))) all
+pub joined-all : (f : ℕ → ℕ → ℕ) (l m r : List ℕ) (i : ℕ) → f 0 0 ≡ 0 → length l ≤ i → length m ≤ i → Joined f l m r i
+    → (k : ℕ) → getD r k 0 ≡ f (getD l k 0) (getD m k 0)
+joined-all f l m r i z hl hm s k = go (decLt k i)
   where
-    all : (k : ℕ) → getD r k 0 ≡ union (getD l k 0) (getD m k 0)
-    all k = go (decLt k i)
-      where
-        go : Dec (k < i) → getD r k 0 ≡ union (getD l k 0) (getD m k 0)
-        go (yes b) = s .done k b
-        go (no b) =
-            List·getD-eq-default r 0 (omega (arith, s .size))
-            ∙ sym (ap₂ union (List·getD-eq-default l 0 (omega arith)) (List·getD-eq-default m 0 (omega arith)))
+    go : Dec (k < i) → getD r k 0 ≡ f (getD l k 0) (getD m k 0)
+    go (yes b) = s .done k b
+    go (no b) =
+        List·getD-eq-default r 0 (omega (arith, s .size))
+        ∙ sym (ap₂ f (List·getD-eq-default l 0 (omega arith)) (List·getD-eq-default m 0 (omega arith)) ∙ z)
 
 -- The words passed by have no place in common, and there are no more words.
 pub words-apart : (l m : List ℕ) (i : ℕ) → length l ≤ i → length m ≤ i

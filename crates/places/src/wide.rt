@@ -1,10 +1,11 @@
 // Sets of up to 1,024 places by value: sixteen words, the lowest first.
 ghost use mathlib.Core.Path.{_≡_};
 ghost use mathlib.Core.Bool.{not};
-ghost use Prim.Native.Nat.{_+_, _*_, _%_, _^_};
+ghost use Prim.Native.Nat.{_*_, _%_, _^_};
 ghost use lib.Dec.{eqb, ltb};
-ghost use Rattle.theory.specs.Places.{member, one, union, intersection, when};
-ghost use Rattle.places.specs.Words.{numberOf};
+ghost use Rattle.theory.specs.Places.{one, union, intersection, when};
+ghost use Rattle.places.specs.Words.{numberOf, Without};
+use crate::words::add_shifted;
 
 pub struct Wide {
     pub words: [u64; 16],
@@ -13,29 +14,13 @@ pub struct Wide {
 impl Wide {
     pub const EMPTY: Wide = Wide { words: [0; 16] };
 
-    // Adds the places of one word, as the word number `index`; nothing where there is no such word.
-    pub fn with_word(self, index: usize, word: u64) -> Wide
-        ensures { λ r. ⌜ numberOf (r .words) ≡ union (numberOf (self .words)) ((word * 2 ^ (64 * index)) % 2 ^ 1024) ⌝ }
-    {
-        let mut words = self.words;
-        if index < 16 {
-            words[index] = words[index] | word;
-        }
-        Wide { words }
-    }
-
     // Adds the places of `set` moved up by `shift`; those from 1,024 on are left out.
     pub fn with_shifted(self, set: u64, shift: u64) -> Wide
         ensures { λ r. ⌜ numberOf (r .words) ≡ union (numberOf (self .words)) ((set * 2 ^ shift) % 2 ^ 1024) ⌝ }
     {
-        let index = (shift / 64) as usize;
-        let bits = shift % 64;
-        let low = self.with_word(index, set << bits);
-        if bits == 0 {
-            low
-        } else {
-            low.with_word(index + 1, set >> (64 - bits))
-        }
+        let mut words = self.words;
+        add_shifted(&mut words, set, shift);
+        Wide { words }
     }
 
     // The set of one place, empty where the place is not below 1,024.
@@ -45,27 +30,15 @@ impl Wide {
         Wide::EMPTY.with_shifted(1, place)
     }
 
-    // Whether the place is in the set.
-    pub fn has(self, place: u64) -> bool
-        ensures { λ r. ⌜ r ≡ member place (numberOf (self .words)) ⌝ }
-    {
-        if place < 1024 {
-            let words = self.words;
-            let index = (place / 64) as usize;
-            (words[index] >> (place % 64)) & 1 == 1
-        } else {
-            false
-        }
-    }
-
-    pub fn union(self, other: Wide) -> Wide
-        ensures { λ r. ⌜ numberOf (r .words) ≡ union (numberOf (self .words)) (numberOf (other .words)) ⌝ }
+    // The places that are not in the other set.
+    pub fn without(self, other: Wide) -> Wide
+        ensures { λ r. ⌜ Without (numberOf (self .words)) (numberOf (other .words)) (numberOf (r .words)) ⌝ }
     {
         let mut words = self.words;
-        let more = other.words;
+        let others = other.words;
         let mut i = 0;
         while i < 16 {
-            words[i] = words[i] | more[i];
+            words[i] = words[i] ^ (words[i] & others[i]);
             i += 1;
         }
         Wide { words }

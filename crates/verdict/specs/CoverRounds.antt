@@ -1,64 +1,39 @@
--- What the loops over the places of a cover set keep, and the rounds that settle a set: what is left gives what the whole gives.
+-- The rounds that settle a cover set: what is left gives what the whole gives.
 use Prim.Native.Nat.{ℕ, suc, _+_, _*_, _-_, _%_, _^_, _≤_, _<_}
-use mathlib.Core.Bool.{true, false}
 use mathlib.Core.List.{List}
 use mathlib.Core.Logic.{_≢_}
 use mathlib.Core.Path.{_≡_, sym, ap, _∙_, subst}
 use native.Mathlib.Nat.{mod-eq-of-lt}
-use native.Mathlib.Numerals.{add-one}
 use native.Mathlib.Omega.{arith}
-use lib.Bits.{or-mod, or-zero-r}
 use lib.ListN.{length, getD}
-use Rattle.theory.specs.Places.{member, union, when, unionOver}
+use Rattle.theory.specs.Places.{union, unionOver}
 use Rattle.theory.specs.PlacesLaws.{union-below, unionOver-below, wider}
 use Rattle.theory.specs.Closure.{closure}
 use Rattle.theory.specs.ClosureLaws.{round, closure-same, closure-more}
-use Rattle.places.specs.UnionLaws.{union-assoc}
-use Rattle.places.specs.Words.{numberOf}
+use Rattle.places.specs.Words.{numberOf, Without}
 use Rattle.verdict.specs.Cover.{width, places, ends, settled}
 use Rattle.verdict.specs.Tables.{automataOf, rewritten}
 use Rattle.verdict.specs.TablesLaws.{width-exactly}
-use Rattle.verdict.specs.CoverTold.{Gains, Ending, Round, Settled}
+use Rattle.verdict.specs.CoverTold.{Ending, Round, Settled}
 use Rattle.verdict.specs.CoverBounds.{ends-below}
-
--- The first p places of s have been looked at: `set` is `start` with what they lead to.
-abbrev pub Over : (ℕ → ℕ) → ℕ → ℕ → List ℕ → ℕ → Type 0
-Over next s start set p = numberOf set ≡ union start (unionOver next p s % 2 ^ 1024)
-
-pub over-start : (next : ℕ → ℕ) (s : ℕ) (set : List ℕ) → Over next s (numberOf set) set 0
-unfolding unionOver
-over-start next s set = sym (or-zero-r (numberOf set))
-
-pub over-in : (next : ℕ → ℕ) (s start : ℕ) (set set′ : List ℕ) (p : ℕ) → member p s ≡ true → Over next s start set p → Gains set (next p) set′
-    → Over next s start set′ (p + 1)
-unfolding unionOver
-over-in next s start set set′ p m o g =
-    g ∙ ap (λ x. union x (next p % 2 ^ 1024)) o ∙ union-assoc start (unionOver next p s % 2 ^ 1024) (next p % 2 ^ 1024)
-    ∙ ap (union start) (sym (or-mod (unionOver next p s) (next p) 1024)
-    ∙ ap (λ b. union (unionOver next p s) (when b (next p)) % 2 ^ 1024) (sym m)
-    ∙ ap (λ x. unionOver next x s % 2 ^ 1024) (sym (add-one p)))
-
-pub over-out : (next : ℕ → ℕ) (s start : ℕ) (set : List ℕ) (p : ℕ) → member p s ≡ false → Over next s start set p → Over next s start set (p + 1)
-unfolding unionOver
-over-out next s start set p m o =
-    o ∙ ap (union start) (ap (λ x. x % 2 ^ 1024) (sym (or-zero-r (unionOver next p s)))
-    ∙ ap (λ b. union (unionOver next p s) (when b (next p)) % 2 ^ 1024) (sym m)
-    ∙ ap (λ x. unionOver next x s % 2 ^ 1024) (sym (add-one p)))
+use Rattle.verdict.specs.Frontier.{Frontier, frontier-start, frontier-round, frontier-turn}
 
 -- The next states of the table are states.
 abbrev pub NextStates : ℕ → ℕ → List ℕ → Type 0
 NextStates states n table = (q v : ℕ) → q < states → v < n → getD table (16 * q + v) 0 < states
 
--- After some rounds: as many rounds are left as give what all rounds give.
-pub record RoundsLeft (states n : ℕ) (sizes accepting table : List ℕ) (w : ℕ) (set₀ set : List ℕ) (rounds : ℕ) : Type 0 where
+-- After some rounds: as many rounds are left as give what all rounds give, and the next one needs to follow the places of `fresh` alone.
+pub record RoundsLeft (states n : ℕ) (sizes accepting table : List ℕ) (w : ℕ) (set₀ set fresh : List ℕ) (rounds : ℕ) : Type 0 where
   pub inside : rounds ≤ states * w
   pub within : NextStates states n table → (follow : List ℕ) → 64 * n + 64 ≤ length follow
       → numberOf set₀ < 2 ^ (states * w) → numberOf set < 2 ^ (states * w)
   pub left : NextStates states n table → (flags follow enter : List ℕ) → 64 * n + 64 ≤ length follow → numberOf set₀ < 2 ^ (states * w)
       → closure (ends (rewritten states table flags) (automataOf follow enter sizes accepting n)) (states * w) (states * w - rounds) (numberOf set)
       ≡ closure (ends (rewritten states table flags) (automataOf follow enter sizes accepting n)) (states * w) (states * w) (numberOf set₀)
+  pub frontier : NextStates states n table → (flags follow enter : List ℕ) → 64 * n + 64 ≤ length follow
+      → Frontier (ends (rewritten states table flags) (automataOf follow enter sizes accepting n)) (states * w) (numberOf set) (numberOf fresh)
 
-pub rounds-start : (states n : ℕ) (sizes accepting table : List ℕ) (w : ℕ) (set : List ℕ) → RoundsLeft states n sizes accepting table w set set 0
+pub rounds-start : (states n : ℕ) (sizes accepting table : List ℕ) (w : ℕ) (set : List ℕ) → RoundsLeft states n sizes accepting table w set set set 0
 rounds-start states n sizes accepting table w set =
     record {
       inside = omega arith;
@@ -66,6 +41,7 @@ rounds-start states n sizes accepting table w set =
       left = λ next flags follow enter room h.
           let e : states * w - 0 ≡ states * w = omega arith in
           ap (λ r. closure (ends (rewritten states table flags) (automataOf follow enter sizes accepting n)) (states * w) r (numberOf set)) e;
+      frontier = λ next flags follow enter room. frontier-start _ (states * w) (numberOf set);
     }
 
 module _ (states n : ℕ) (sizes accepting table : List ℕ) (w : ℕ) (ending : Ending states n sizes accepting table w) where
@@ -84,35 +60,48 @@ module _ (states n : ℕ) (sizes accepting table : List ℕ) (w : ℕ) (ending :
       (ends-below follow enter sizes accepting n (ending .counted) room (rewritten states table flags) next p
       (subst (λ z. p < z) (sym (count flags follow enter room)) h))
 
-  -- A round is exact: what it adds are cover places, of which there are at most 1,024.
-  round-exact : NextStates states n table → (flags follow enter : List ℕ) → 64 * n + 64 ≤ length follow → (set set′ : List ℕ)
-      → Round n sizes accepting table (states * w) set set′
-      → numberOf set′ ≡ round (ends (rewritten states table flags) (automataOf follow enter sizes accepting n)) (states * w) (numberOf set)
-  round-exact next flags follow enter room set set′ g =
-      let f = ends (rewritten states table flags) (automataOf follow enter sizes accepting n) in
-      g .gains states flags follow enter room
-      ∙ ap (union (numberOf set)) (mod-eq-of-lt (wider (states * w) 1024 (unionOver f (states * w) (numberOf set)) (ending .few-places)
-      (unionOver-below f (states * w) (states * w) (numberOf set) (ends-within next flags follow enter room))))
+  module _ (set₀ set fresh : List ℕ) (rounds : ℕ) (s : RoundsLeft states n sizes accepting table w set₀ set fresh rounds) (set′ : List ℕ)
+      (g : Round n sizes accepting table (states * w) fresh set set′) (next : NextStates states n table) (flags follow enter : List ℕ)
+      (room : 64 * n + 64 ≤ length follow) where
+    -- What a round adds are cover places, of which there are at most 1,024.
+    round-adds : numberOf set′
+        ≡ union (numberOf set) (unionOver (ends (rewritten states table flags) (automataOf follow enter sizes accepting n)) (states * w) (numberOf fresh))
+    round-adds =
+        let f = ends (rewritten states table flags) (automataOf follow enter sizes accepting n) in
+        g .gains states flags follow enter room
+        ∙ ap (union (numberOf set)) (mod-eq-of-lt (wider (states * w) 1024 (unionOver f (states * w) (numberOf fresh)) (ending .few-places)
+        (unionOver-below f (states * w) (states * w) (numberOf fresh) (ends-within next flags follow enter room))))
 
-  pub rounds-turn : (set₀ set set′ : List ℕ) (rounds : ℕ) → rounds < states * w → RoundsLeft states n sizes accepting table w set₀ set rounds
-      → Round n sizes accepting table (states * w) set set′ → numberOf set′ ≢ numberOf set
-      → RoundsLeft states n sizes accepting table w set₀ set′ (rounds + 1)
-  rounds-turn set₀ set set′ rounds h s g d =
+    -- A round is exact.
+    round-exact : numberOf set′ ≡ round (ends (rewritten states table flags) (automataOf follow enter sizes accepting n)) (states * w) (numberOf set)
+    round-exact =
+        round-adds ∙ frontier-round (ends (rewritten states table flags) (automataOf follow enter sizes accepting n)) (states * w) (numberOf set)
+        (numberOf fresh) (s .frontier next flags follow enter room)
+
+  pub rounds-turn : (set₀ set fresh set′ fresh′ : List ℕ) (rounds : ℕ) → rounds < states * w
+      → RoundsLeft states n sizes accepting table w set₀ set fresh rounds → Round n sizes accepting table (states * w) fresh set set′
+      → numberOf set′ ≢ numberOf set → Without (numberOf set′) (numberOf set) (numberOf fresh′)
+      → RoundsLeft states n sizes accepting table w set₀ set′ fresh′ (rounds + 1)
+  rounds-turn set₀ set fresh set′ fresh′ rounds h s g d added =
       record {
         inside = omega arith;
         within = λ next follow room l.
             let f = ends (rewritten states table table) (automataOf follow follow sizes accepting n) in
-            subst (λ z. z < 2 ^ (states * w)) (sym (round-exact next table follow follow room set set′ g))
+            subst (λ z. z < 2 ^ (states * w)) (sym (round-exact set₀ set fresh rounds s set′ g next table follow follow room))
             (union-below (states * w) (numberOf set) (unionOver f (states * w) (numberOf set)) (s .within next follow room l)
             (unionOver-below f (states * w) (states * w) (numberOf set) (ends-within next table follow follow room)));
         left = λ next flags follow enter room l.
             let f = ends (rewritten states table flags) (automataOf follow enter sizes accepting n) in
-            let e = round-exact next flags follow enter room set set′ g in
+            let e = round-exact set₀ set fresh rounds s set′ g next flags follow enter room in
             let m : suc (states * w - (rounds + 1)) ≡ states * w - rounds = omega arith in
             ap (closure f (states * w) (states * w - (rounds + 1))) e
             ∙ sym (closure-more f (states * w) (states * w - (rounds + 1)) (numberOf set) (λ q. d (e ∙ q)))
             ∙ ap (λ r. closure f (states * w) r (numberOf set)) m
             ∙ s .left next flags follow enter room l;
+        frontier = λ next flags follow enter room.
+            frontier-turn (ends (rewritten states table flags) (automataOf follow enter sizes accepting n)) (states * w) (numberOf set) (numberOf fresh)
+            (s .frontier next flags follow enter room) (numberOf set′) (numberOf fresh′)
+            (round-adds set₀ set fresh rounds s set′ g next flags follow enter room) added;
       }
 
   settled-by : (set₀ set : List ℕ) → (NextStates states n table → (flags follow enter : List ℕ) → 64 * n + 64 ≤ length follow
@@ -129,22 +118,23 @@ module _ (states n : ℕ) (sizes accepting table : List ℕ) (w : ℕ) (ending :
       }
 
   -- A round adds nothing.
-  pub rounds-same : (set₀ set set′ : List ℕ) (rounds : ℕ) → rounds < states * w → RoundsLeft states n sizes accepting table w set₀ set rounds
-      → Round n sizes accepting table (states * w) set set′ → numberOf set′ ≡ numberOf set → Settled states n sizes accepting table set₀ set
-  rounds-same set₀ set set′ rounds h s g d =
+  pub rounds-same : (set₀ set fresh set′ : List ℕ) (rounds : ℕ) → rounds < states * w
+      → RoundsLeft states n sizes accepting table w set₀ set fresh rounds → Round n sizes accepting table (states * w) fresh set set′
+      → numberOf set′ ≡ numberOf set → Settled states n sizes accepting table set₀ set
+  rounds-same set₀ set fresh set′ rounds h s g d =
       settled-by set₀ set λ next flags follow enter room l.
       let f = ends (rewritten states table flags) (automataOf follow enter sizes accepting n) in
       let m : suc (states * w - (rounds + 1)) ≡ states * w - rounds = omega arith in
       sym (closure-same f (states * w) (states * w - (rounds + 1)) (numberOf set)
-      (sym (round-exact next flags follow enter room set set′ g) ∙ d))
+      (sym (round-exact set₀ set fresh rounds s set′ g next flags follow enter room) ∙ d))
       ∙ ap (λ r. closure f (states * w) r (numberOf set)) m
       ∙ s .left next flags follow enter room l
 
   -- All rounds are made.
-  pub rounds-end : (set₀ set : List ℕ) (rounds : ℕ) → states * w ≤ rounds → RoundsLeft states n sizes accepting table w set₀ set rounds
+  pub rounds-end : (set₀ set fresh : List ℕ) (rounds : ℕ) → states * w ≤ rounds → RoundsLeft states n sizes accepting table w set₀ set fresh rounds
       → Settled states n sizes accepting table set₀ set
   unfolding closure
-  rounds-end set₀ set rounds h s =
+  rounds-end set₀ set fresh rounds h s =
       settled-by set₀ set λ next flags follow enter room l.
       let m : states * w - rounds ≡ 0 = omega arith in
       sym (ap (λ r. closure (ends (rewritten states table flags) (automataOf follow enter sizes accepting n)) (states * w) r (numberOf set)) m)

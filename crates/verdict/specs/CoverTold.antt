@@ -55,10 +55,10 @@ pub record Ends (n : ℕ) (sizes accepting table : List ℕ) (p : ℕ) (set set�
   pub gains : (states : ℕ) (flags follow enter : List ℕ) → 64 * n + 64 ≤ length follow
       → Gains set (ends (rewritten states table flags) (automataOf follow enter sizes accepting n) p) set′
 
--- A set with what its first p places reach without a label.
-pub record Round (n : ℕ) (sizes accepting table : List ℕ) (p : ℕ) (set set′ : List ℕ) : Type 0 where
+-- A set with what the first p places of `fresh` reach without a label.
+pub record Round (n : ℕ) (sizes accepting table : List ℕ) (p : ℕ) (fresh set set′ : List ℕ) : Type 0 where
   pub gains : (states : ℕ) (flags follow enter : List ℕ) → 64 * n + 64 ≤ length follow
-      → Gains set (unionOver (ends (rewritten states table flags) (automataOf follow enter sizes accepting n)) p (numberOf set)) set′
+      → Gains set (unionOver (ends (rewritten states table flags) (automataOf follow enter sizes accepting n)) p (numberOf fresh)) set′
 
 -- A set of cover places with all that is reached from it without reading a label.
 pub record Settled (states n : ℕ) (sizes accepting table : List ℕ) (set set′ : List ℕ) : Type 0 where

@@ -24,6 +24,8 @@ pub mod CoverSteps
 pub mod CoverTold
 pub mod CoverLoops
 pub mod CoverBounds
+pub mod CoverWalk
+pub mod Frontier
 pub mod CoverRounds
 pub mod CoverStepped
 pub mod PairTable

@@ -10,6 +10,8 @@ ghost use Rattle.verdict.specs.CoverTold.{Gains, Moving, Entered, MovedW
 ghost use Rattle.verdict.specs.CoverTold.{WidthTold, ReadyTold, StartTold, StepTold};
 use places::Places;
 use places::wide::Wide;
+use places::words::add_shifted;
+use places::words::next_place;
 
 // The places that the label a leads to from the place o of the list v.
 fn step_at(follow: &[u64], enter: &[u64], v: usize, o: usize, a: usize) -> u64
@@ -29,20 +31,18 @@ fn entered(
     a: usize,
     w: u64,
     from: u64,
-    into: Wide,
-) -> Wide
-    requires { ⌜ Moving lists a (now follow) (now enter) (now sizes) w × (from ≤ 1024) ⌝ }
-    ensures { λ r. ⌜ Entered lists a (now (follow .entry)) (now (enter .entry)) (now (sizes .entry)) from (into .words) (r .words) ⌝ }
+    into: &mut [u64],
+)
+    requires { ⌜ Moving lists a (now follow) (now enter) (now sizes) w × (from ≤ 1024) × (length (now into) ≡ 16) ⌝ }
+    ensures { λ _. ⌜ Entered lists a (now (follow .entry)) (now (enter .entry)) (now (sizes .entry)) from (now (into .entry)) (now (into .exit)) ⌝ }
 {
-    let mut set = into;
     let mut base: u64 = 0;
     let mut v = 0;
     while v < lists {
-        set = set.with_shifted(step_at(follow, enter, v, 0, a), from + base);
+        add_shifted(into, step_at(follow, enter, v, 0, a), from + base);
         base += sizes[v + 1];
         v += 1;
     }
-    set
 }
 
 // Adds the places that the label a leads to from the occurrence at the offset o.
@@ -55,10 +55,10 @@ fn moved_within(
     w: u64,
     from: u64,
     o: u64,
-    into: Wide,
-) -> Wide
-    requires { ⌜ Moving lists a (now follow) (now enter) (now sizes) w × (from ≤ 1024) ⌝ }
-    ensures { λ r. ⌜ MovedWithin lists a (now (follow .entry)) (now (enter .entry)) (now (sizes .entry)) from o (into .words) (r .words) ⌝ }
+    into: &mut [u64],
+)
+    requires { ⌜ Moving lists a (now follow) (now enter) (now sizes) w × (from ≤ 1024) × (length (now into) ≡ 16) ⌝ }
+    ensures { λ _. ⌜ MovedWithin lists a (now (follow .entry)) (now (enter .entry)) (now (sizes .entry)) from o (now (into .entry)) (now (into .exit)) ⌝ }
 {
     let mut base: u64 = 0;
     let mut rest = o;
@@ -66,13 +66,17 @@ fn moved_within(
     while v < lists {
         let size = sizes[v + 1];
         if rest <= size {
-            return into.with_shifted(step_at(follow, enter, v, rest as usize, a), from + base);
+            add_shifted(
+                into,
+                step_at(follow, enter, v, rest as usize, a),
+                from + base,
+            );
+            return;
         }
         rest -= size;
         base += size;
         v += 1;
     }
-    into
 }
 
 // Adds the cover places that the label a leads to from the place p.
@@ -84,17 +88,17 @@ fn moves(
     a: usize,
     w: u64,
     p: u64,
-    into: Wide,
-) -> Wide
-    requires { ⌜ Moving lists a (now follow) (now enter) (now sizes) w × (p ≤ 1024) ⌝ }
-    ensures { λ r. ⌜ Moves lists a (now (follow .entry)) (now (enter .entry)) (now (sizes .entry)) p (into .words) (r .words) ⌝ }
+    into: &mut [u64],
+)
+    requires { ⌜ Moving lists a (now follow) (now enter) (now sizes) w × (p ≤ 1024) × (length (now into) ≡ 16) ⌝ }
+    ensures { λ _. ⌜ Moves lists a (now (follow .entry)) (now (enter .entry)) (now (sizes .entry)) p (now (into .entry)) (now (into .exit)) ⌝ }
 {
     let from = w * (p / w);
     let o = p % w;
     if o == 0 {
-        entered(follow, enter, sizes, lists, a, w, from, into)
+        entered(follow, enter, sizes, lists, a, w, from, into);
     } else {
-        moved_within(follow, enter, sizes, lists, a, w, from, o, into)
+        moved_within(follow, enter, sizes, lists, a, w, from, o, into);
     }
 }
 
@@ -112,42 +116,37 @@ fn moved(
     requires { ⌜ Moving lists a (now follow) (now enter) (now sizes) w × (count ≤ 1024) ⌝ }
     ensures { λ r. ⌜ Moved lists a (now (follow .entry)) (now (enter .entry)) (now (sizes .entry)) count (set .words) (r .words) ⌝ }
 {
-    let mut next = Wide::EMPTY;
-    let mut p = 0;
+    let places = set.words;
+    let mut words = [0; 16];
+    let mut p = next_place(&places, 0);
     while p < count {
-        if set.has(p) {
-            next = moves(follow, enter, sizes, lists, a, w, p, next);
-        }
-        p += 1;
+        moves(follow, enter, sizes, lists, a, w, p, &mut words);
+        p = next_place(&places, p + 1);
     }
-    next
+    Wide { words }
 }
 
 // Adds the state that is reached from the state q where a path of the list v may end at its place o.
-fn ended(accepting: &[u64], table: &[u16], w: u64, v: usize, o: u64, q: usize, into: Wide) -> Wide
-    requires { ⌜ (v < 16) × (v + 1 < length (now accepting)) × (q < 1024) × (16 * q + 16 ≤ length (now table)) × (w ≤ 1024) ⌝ }
-    ensures { λ r. ⌜ Gains (into .words) (endAt (now (accepting .entry)) (now (table .entry)) w v o q) (r .words) ⌝ }
+fn ended(accepting: &[u64], table: &[u16], w: u64, v: usize, o: u64, q: usize, into: &mut [u64])
+    requires { ⌜ (v < 16) × (v + 1 < length (now accepting)) × (q < 1024) × (16 * q + 16 ≤ length (now table)) × (w ≤ 1024) × (length (now into) ≡ 16) ⌝ }
+    ensures { λ _. ⌜ Gains (now (into .entry)) (endAt (now (accepting .entry)) (now (table .entry)) w v o q) (now (into .exit)) ⌝ }
 {
     let ends = Places(accepting[v + 1]);
     if ends.has(o) {
-        into.with_shifted(1, w * (table[16 * q + v] as u64))
-    } else {
-        into
+        add_shifted(into, 1, w * (table[16 * q + v] as u64));
     }
 }
 
 // Adds the states that the lists with the empty path lead to.
-fn passed(accepting: &[u64], table: &[u16], lists: usize, w: u64, q: usize, into: Wide) -> Wide
-    requires { ⌜ (lists ≤ 16) × (lists < length (now accepting)) × (q < 1024) × (16 * q + 16 ≤ length (now table)) × (w ≤ 1024) ⌝ }
-    ensures { λ r. ⌜ Passed lists (now (accepting .entry)) (now (table .entry)) w q (into .words) (r .words) ⌝ }
+fn passed(accepting: &[u64], table: &[u16], lists: usize, w: u64, q: usize, into: &mut [u64])
+    requires { ⌜ (lists ≤ 16) × (lists < length (now accepting)) × (q < 1024) × (16 * q + 16 ≤ length (now table)) × (w ≤ 1024) × (length (now into) ≡ 16) ⌝ }
+    ensures { λ _. ⌜ Passed lists (now (accepting .entry)) (now (table .entry)) w q (now (into .entry)) (now (into .exit)) ⌝ }
 {
-    let mut set = into;
     let mut v = 0;
     while v < lists {
-        set = ended(accepting, table, w, v, 0, q, set);
+        ended(accepting, table, w, v, 0, q, into);
         v += 1;
     }
-    set
 }
 
 // Adds the state that is reached where a path may end at the occurrence at the offset o.
@@ -159,22 +158,22 @@ fn finished(
     w: u64,
     o: u64,
     q: usize,
-    into: Wide,
-) -> Wide
-    requires { ⌜ Counted lists (now sizes) × (lists < length (now accepting)) × (q < 1024) × (16 * q + 16 ≤ length (now table)) × (w ≤ 1024) ⌝ }
-    ensures { λ r. ⌜ Finished lists (now (sizes .entry)) (now (accepting .entry)) (now (table .entry)) w o q (into .words) (r .words) ⌝ }
+    into: &mut [u64],
+)
+    requires { ⌜ Counted lists (now sizes) × (lists < length (now accepting)) × (q < 1024) × (16 * q + 16 ≤ length (now table)) × (w ≤ 1024) × (length (now into) ≡ 16) ⌝ }
+    ensures { λ _. ⌜ Finished lists (now (sizes .entry)) (now (accepting .entry)) (now (table .entry)) w o q (now (into .entry)) (now (into .exit)) ⌝ }
 {
     let mut rest = o;
     let mut v = 0;
     while v < lists {
         let size = sizes[v + 1];
         if rest <= size {
-            return ended(accepting, table, w, v, rest, q, into);
+            ended(accepting, table, w, v, rest, q, into);
+            return;
         }
         rest -= size;
         v += 1;
     }
-    into
 }
 
 // Adds the cover places that the place p reaches without reading a label.
@@ -186,21 +185,21 @@ fn ends(
     lists: usize,
     w: u64,
     p: u64,
-    into: Wide,
-) -> Wide
-    requires { ⌜ Ending states lists (now sizes) (now accepting) (now table) w × (p < states * w) ⌝ }
-    ensures { λ r. ⌜ Ends lists (now (sizes .entry)) (now (accepting .entry)) (now (table .entry)) p (into .words) (r .words) ⌝ }
+    into: &mut [u64],
+)
+    requires { ⌜ Ending states lists (now sizes) (now accepting) (now table) w × (p < states * w) × (length (now into) ≡ 16) ⌝ }
+    ensures { λ _. ⌜ Ends lists (now (sizes .entry)) (now (accepting .entry)) (now (table .entry)) p (now (into .entry)) (now (into .exit)) ⌝ }
 {
     let q = (p / w) as usize;
     let o = p % w;
     if o == 0 {
-        passed(accepting, table, lists, w, q, into)
+        passed(accepting, table, lists, w, q, into);
     } else {
-        finished(sizes, accepting, table, lists, w, o, q, into)
+        finished(sizes, accepting, table, lists, w, o, q, into);
     }
 }
 
-// A set with what its places reach without reading a label, one step far.
+// A set with what the places of `fresh` reach without reading a label, one step far.
 fn round(
     sizes: &[u64],
     accepting: &[u64],
@@ -208,24 +207,25 @@ fn round(
     states: u64,
     lists: usize,
     w: u64,
+    fresh: Wide,
     set: Wide,
 ) -> Wide
     requires { ⌜ Ending states lists (now sizes) (now accepting) (now table) w ⌝ }
-    ensures { λ r. ⌜ Round lists (now (sizes .entry)) (now (accepting .entry)) (now (table .entry)) (states * w) (set .words) (r .words) ⌝ }
+    ensures { λ r. ⌜ Round lists (now (sizes .entry)) (now (accepting .entry)) (now (table .entry)) (states * w) (fresh .words) (set .words) (r .words) ⌝ }
 {
     let count = states * w;
-    let mut next = set;
-    let mut p = 0;
+    let places = fresh.words;
+    let mut words = set.words;
+    let mut p = next_place(&places, 0);
     while p < count {
-        if set.has(p) {
-            next = ends(sizes, accepting, table, states, lists, w, p, next);
-        }
-        p += 1;
+        ends(sizes, accepting, table, states, lists, w, p, &mut words);
+        p = next_place(&places, p + 1);
     }
-    next
+    Wide { words }
 }
 
-// A set of cover places with all that is reached from it without reading a label: rounds until nothing is added.
+// A set of cover places with all that is reached from it without reading a label: rounds until nothing is added, each of which follows what
+// the one before it added.
 fn settled(
     sizes: &[u64],
     accepting: &[u64],
@@ -240,12 +240,14 @@ fn settled(
 {
     let count = states * w;
     let mut set = first;
+    let mut fresh = first;
     let mut rounds: u64 = 0;
     while rounds < count {
-        let next = round(sizes, accepting, table, states, lists, w, set);
+        let next = round(sizes, accepting, table, states, lists, w, fresh, set);
         if next.same(set) {
             return set;
         }
+        fresh = next.without(set);
         set = next;
         rounds += 1;
     }

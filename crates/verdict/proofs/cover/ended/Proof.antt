@@ -1,6 +1,5 @@
 -- The list may end at the place, or not.
-use Prim.Native.Nat.{_≤_}
-use Prim.Native.Nat.{_+_, _*_, _%_, _^_}
+use Prim.Native.Nat.{_+_, _*_, _%_, _^_, _≤_}
 use mathlib.Core.Path.{sym, ap, _∙_}
 use native.Mathlib.Nat.{one-mul, mul-le-mul}
 use lib.ListN.{getD}
@@ -24,43 +23,46 @@ shared-slice-read-t12 c = search needs
 has-requires : tie.Need-has-requires
 has-requires c κs = search needs
 
-mul-with-shifted : tie.Need-mul-with-shifted
-mul-with-shifted c = search needs
+mul-add-shifted : tie.Need-mul-add-shifted
+mul-add-shifted c = search needs
 
-add-with-shifted : tie.Need-add-with-shifted
-add-with-shifted c = search needs
+add-add-shifted : tie.Need-add-add-shifted
+add-add-shifted c = search needs
 
-mul-with-shifted-2 : tie.Need-mul-with-shifted-2
-mul-with-shifted-2 c = search needs
+mul-add-shifted-2 : tie.Need-mul-add-shifted-2
+mul-add-shifted-2 c = search needs
 
-shared-slice-read-with-shifted : tie.Need-shared-slice-read-with-shifted
-shared-slice-read-with-shifted c = search needs
+shared-slice-read-add-shifted : tie.Need-shared-slice-read-add-shifted
+shared-slice-read-add-shifted c = search needs
 
-cast-with-shifted : tie.Need-cast-with-shifted
-cast-with-shifted c = omega (arith, c .shared-slice-known4 .given (16 * c .before .before .before .before .before .before .args .q + c .before .before .before .before .before .before .args .v))
+cast-add-shifted : tie.Need-cast-add-shifted
+cast-add-shifted c = omega (arith, c .shared-slice-known4 .given (16 * c .before .before .before .before .before .before .before .before .args .q + c .before .before .before .before .before .before .before .before .args .v))
 
-mul-with-shifted-3 : tie.Need-mul-with-shifted-3
-mul-with-shifted-3 c =
-    let s = c .before .before .before .before .before .before in
+mul-add-shifted-3 : tie.Need-mul-add-shifted-3
+mul-add-shifted-3 c =
+    let s = c .before .before .before .before .before .before .before .before in
     let t = getD (s .args .table .now) (16 * s .args .q + s .args .v) 0 in
     let h : t ≤ 65535 = omega (arith, c .shared-slice-known4 .given (16 * s .args .q + s .args .v)) in
     omega (arith, mul-le-mul (s .pre .4) h)
 
-with-shifted-requires : tie.Need-with-shifted-requires
-with-shifted-requires c κs = search needs
+add-shifted-requires : tie.Need-add-shifted-requires
+add-shifted-requires c κs = c .before .before .before .before .before .before .before .before .pre .5
+
+same-length : tie.Need-same-length
+same-length c = c .before .before .add-shifted .kept .0
 
 returns : tie.Need-returns
 returns c =
-    let s = c .before .before .before .before .before .before .before in
+    let s = c .before .before .before .before .before .before .before .before .before .before .before in
     let x = one (s .args .w * getD (s .args .table .now) (16 * s .args .q + s .args .v) 0) in
-    c .with-shifted .ensures
-    ∙ ap (λ y. union (numberOf (s .args .into .words)) (y % 2 ^ 1024))
-    (one-mul x ∙ sym (ap (λ b. when b x) (sym (c .before .before .before .has .ensures) ∙ c .before .before .if1 .taken)))
+    c .before .before .add-shifted .ensures
+    ∙ ap (λ y. union (numberOf (s .args .into .now)) (y % 2 ^ 1024))
+    (one-mul x ∙ sym (ap (λ b. when b x) (sym (c .before .before .before .before .before .before .has .ensures) ∙ c .before .before .before .before .before .if1 .taken)))
 
 returns-2 : tie.Need-returns-2
 returns-2 c =
-    let s = c .before .before .before .before .before in
-    gains-none (s .args .into .words) (endAt (s .args .accepting .now) (s .args .table .now) (s .args .w) (s .args .v) (s .args .o) (s .args .q))
+    let s = c .before .before .before .before .before .before in
+    gains-none (s .args .into .now) (endAt (s .args .accepting .now) (s .args .table .now) (s .args .w) (s .args .v) (s .args .o) (s .args .q))
     (ap (λ b. when b (one (s .args .w * getD (s .args .table .now) (16 * s .args .q + s .args .v) 0))) (sym (c .before .has .ensures) ∙ c .if1 .left))
 
 pub ended-spec : {M : Type 1} → statement M
@@ -71,12 +73,13 @@ ended-spec =
     mul-t10
     shared-slice-read-t12
     has-requires
-    mul-with-shifted
-    add-with-shifted
-    mul-with-shifted-2
-    shared-slice-read-with-shifted
-    cast-with-shifted
-    mul-with-shifted-3
-    with-shifted-requires
+    mul-add-shifted
+    add-add-shifted
+    mul-add-shifted-2
+    shared-slice-read-add-shifted
+    cast-add-shifted
+    mul-add-shifted-3
+    add-shifted-requires
+    same-length
     returns
     returns-2)

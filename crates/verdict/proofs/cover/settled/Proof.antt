@@ -9,10 +9,10 @@ use Rattle.verdict.proofs.cover.settled.Statement.{statement}
 use Rattle.verdict.proofs.cover.settled.Tie as tie
 
 abbrev Inv-loop : tie.InvT-loop
-Inv-loop sizes accepting table states lists w count set₀ rounds₀ set rounds = (count ≡ states * w) × RoundsLeft states lists sizes accepting table w (set₀ .words) (set .words) rounds
+Inv-loop sizes accepting table states lists w count set₀ fresh₀ rounds₀ set fresh rounds = (count ≡ states * w) × RoundsLeft states lists sizes accepting table w (set₀ .words) (set .words) (fresh .words) rounds
 
 abbrev μ-loop : tie.MeasureT-loop
-μ-loop sizes accepting table states lists w count set₀ rounds₀ set rounds = count - rounds
+μ-loop sizes accepting table states lists w count set₀ fresh₀ rounds₀ set fresh rounds = count - rounds
 
 mul-count : tie.Need-mul-count Inv-loop μ-loop
 mul-count c = omega (arith, c .before .before .before .pre .few-places)
@@ -30,9 +30,12 @@ returns : tie.Need-returns Inv-loop μ-loop
 returns c =
     let s = c .before .before .before .before .before .before .before .before in
     let l = c .before .before .before .before .loop in
-    rounds-same (s .args .states) (s .args .lists) (s .args .sizes .now) (s .args .accepting .now) (s .args .table .now) (s .args .w) (s .pre) (s .args .first .words) (l .set .words) (c .before .before .round .result .words) (l .rounds)
+    rounds-same (s .args .states) (s .args .lists) (s .args .sizes .now) (s .args .accepting .now) (s .args .table .now) (s .args .w) (s .pre) (s .args .first .words) (l .set .words) (l .fresh .words) (c .before .before .round .result .words) (l .rounds)
     (omega (arith, l .inv .0, c .before .before .before .loop-test .taken)) (l .inv .1) (c .before .before .round .ensures)
     (eqb-true _ _ (sym (c .before .same .ensures) ∙ c .if1 .taken))
+
+without-requires : tie.Need-without-requires Inv-loop μ-loop
+without-requires c κs = search needs
 
 add-rounds : tie.Need-add-rounds Inv-loop μ-loop
 add-rounds c = search needs
@@ -42,19 +45,19 @@ loop-less c = search needs
 
 loop-again : tie.Need-loop-again Inv-loop μ-loop
 loop-again c =
-    let s = c .before .before .before .before .before .before .before .before in
-    let l = c .before .before .before .before .loop in (
+    let s = c .before .before .before .before .before .before .before .before .before in
+    let l = c .before .before .before .before .before .loop in (
       l .inv .0,
-      rounds-turn (s .args .states) (s .args .lists) (s .args .sizes .now) (s .args .accepting .now) (s .args .table .now) (s .args .w) (s .pre) (s .args .first .words) (l .set .words) (c .before .before .round .result .words) (l .rounds)
-          (omega (arith, l .inv .0, c .before .before .before .loop-test .taken)) (l .inv .1) (c .before .before .round .ensures)
-          (eqb-false _ _ (sym (c .before .same .ensures) ∙ c .if1 .left)),
+      rounds-turn (s .args .states) (s .args .lists) (s .args .sizes .now) (s .args .accepting .now) (s .args .table .now) (s .args .w) (s .pre) (s .args .first .words) (l .set .words) (l .fresh .words) (c .before .before .before .round .result .words) (c .without .result .words) (l .rounds)
+          (omega (arith, l .inv .0, c .before .before .before .before .loop-test .taken)) (l .inv .1) (c .before .before .before .round .ensures)
+          (eqb-false _ _ (sym (c .before .before .same .ensures) ∙ c .before .if1 .left)) (c .without .ensures),
     )
 
 returns-2 : tie.Need-returns-2 Inv-loop μ-loop
 returns-2 c =
     let s = c .before .before .before .before .before in
     let l = c .before .loop in
-    rounds-end (s .args .states) (s .args .lists) (s .args .sizes .now) (s .args .accepting .now) (s .args .table .now) (s .args .w) (s .pre) (s .args .first .words) (l .set .words) (l .rounds) (omega (arith, l .inv .0, c .loop-test .left)) (l .inv .1)
+    rounds-end (s .args .states) (s .args .lists) (s .args .sizes .now) (s .args .accepting .now) (s .args .table .now) (s .args .w) (s .pre) (s .args .first .words) (l .set .words) (l .fresh .words) (l .rounds) (omega (arith, l .inv .0, c .loop-test .left)) (l .inv .1)
 
 pub settled-spec : {M : Type 1} → statement M
 settled-spec =
@@ -67,6 +70,7 @@ settled-spec =
     round-requires
     same-requires
     returns
+    without-requires
     add-rounds
     loop-less
     loop-again
