@@ -16,6 +16,7 @@ pub mod ParserSound
 pub mod ParserComplete
 pub mod ParserLaws
 pub mod LimitsLaws
+pub mod NestingLaws
 pub mod CheckLaws
 pub mod TableLaws
 pub mod Verdict

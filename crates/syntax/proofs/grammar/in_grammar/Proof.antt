@@ -1,8 +1,9 @@
--- `in_grammar` meets its contract: the text has a tree where an alternative is read from its beginning to its end.
-use Prim.Native.Nat.{_-_, _≤_}
+-- `in_grammar` meets its contract: a text that nests too deep has no tree, and another has one where an alternative is
+-- read from its beginning to its end.
+use Prim.Native.Nat.{_-_, _/_, _≤_, _<_}
 use mathlib.Core.Bool.{false}
 use mathlib.Core.List.{[], _∷_}
-use mathlib.Core.Path.{_≡_}
+use mathlib.Core.Path.{_≡_, sym, ap}
 use native.Mathlib.Omega.{arith}
 use lib.Dec.{eqb}
 use lib.ListN.{length, drop, length-drop}
@@ -13,6 +14,9 @@ use Rattle.syntax.specs.declared.cursor.Moved.the-variants.{To, Failed}
 use Rattle.syntax.specs.Byte.{Bytes}
 use Rattle.syntax.specs.Grammar.{Tree}
 use Rattle.syntax.specs.Parser.{alternatives, parsed, calls, parse}
+use Rattle.syntax.specs.ParserLaws.{parse-none}
+use Rattle.syntax.specs.Limits.{nesting}
+use Rattle.syntax.specs.NestingLaws.{nesting-half}
 use Rattle.syntax.specs.Place.{Follows}
 use Rattle.syntax.specs.Some.{isSome}
 use Rattle.syntax.specs.Unread.{alternatives-unread}
@@ -37,6 +41,16 @@ read s c h =
     go t [] e l = rw (e, parse) (eq-eqb (c .at) (length s) (omega arith))
     go t (x ∷ v) e l = rw (e, parse) (ne-eqb (c .at) (length s) (omega arith))
 
+-- A text that nests deeper than half its bytes has no tree.
+too-deep : (s : Bytes) → length s / 2 < nesting 0 s → false ≡ isSome (parse s)
+too-deep s h = ap isSome (sym (parse-none s .1 (λ t d. omega (arith, h, nesting-half d))))
+
+nesting-requires : tie.Need-nesting-requires
+nesting-requires c κs = search needs
+
+returns : tie.Need-returns
+returns c = too-deep _ (omega (arith, c .if1 .taken, c .before .nesting .ensures))
+
 alternative-requires : tie.Need-alternative-requires
 alternative-requires c κs = search needs
 
@@ -46,12 +60,12 @@ enum-told c = search needs
 enum-known-c : tie.Need-enum-known-c
 enum-known-c c = search needs
 
-returns : tie.Need-returns
-returns c = not-read _ (rw (c .enum-told .given .1) at (c .before .before .alternative .ensures))
-
 returns-2 : tie.Need-returns-2
-returns-2 c = read _ _ (rw (c .before .before .c .given .1) at (c .before .before .before .before .alternative .ensures))
+returns-2 c = not-read _ (rw (c .enum-told .given .1) at (c .before .before .alternative .ensures))
+
+returns-3 : tie.Need-returns-3
+returns-3 c = read _ _ (rw (c .before .before .c .given .1) at (c .before .before .before .before .alternative .ensures))
 
 pub in-grammar-spec : {M : Type 1} → statement M
 in-grammar-spec =
-    tie.close (tie.spec alternative-requires enum-told enum-known-c returns returns-2)
+    tie.close (tie.spec nesting-requires returns alternative-requires enum-told enum-known-c returns-2 returns-3)

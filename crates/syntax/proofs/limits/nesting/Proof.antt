@@ -10,25 +10,13 @@ use lib.Dec.{eqb}
 use lib.ListN.{length, drop, getD, drop-of-length-le}
 use lib.Seq.{drop-cons}
 use borrow.Author.Needs.{needs}
-use borrow.Author.Tests.{ne-eqb}
 use Rattle.syntax.specs.Byte.{Bytes, opening, closing}
 use Rattle.syntax.specs.Limits.{nesting, balance}
+use Rattle.syntax.specs.NestingLaws.{opens, closes, keeps}
 use Rattle.syntax.proofs.limits.nesting.Statement.{statement}
 use Rattle.syntax.proofs.limits.nesting.Tie as tie
 
 module _ (n b : ℕ) where
-  opens : b ≡ opening → balance n b ≡ suc n
-  unfolding balance
-  opens e = ap (balance n) e
-
-  closes : b ≡ closing → balance n b ≡ pred n
-  unfolding balance
-  closes e = ap (balance n) e
-
-  keeps : (b ≡ opening → ⊥) → (b ≡ closing → ⊥) → balance n b ≡ n
-  unfolding balance
-  keeps f g = rw (ne-eqb b opening f, balance, ne-eqb b closing g, balance)
-
   one-more : balance n b ≤ suc n
   unfolding balance
   one-more = go (eqb b opening) refl (eqb b closing) refl

@@ -1,0 +1,90 @@
+-- Laws of nesting: in a text of the grammar every parenthesis is closed, so that they nest no deeper than half its bytes.
+use Prim.Native.Nat.{ℕ, zero, suc, pred, max, _+_, _≤_, _<_}
+use mathlib.Core.Bool.{Bool, true, false}
+use mathlib.Core.List.{List, [], _∷_, _++_, append-assoc, append-nil}
+use mathlib.Core.Path.{_≡_, refl, sym, ap}
+use native.Mathlib.Omega.{arith}
+use lib.Dec.{eqb}
+use lib.ListN.{length, length-append}
+use borrow.Author.Tests.{ne-eqb}
+use Rattle.syntax.specs.Byte.{Bytes, kind, NameByte, dot, bar, asterisk, question, opening, closing}
+use Rattle.syntax.specs.Name.{NameBytes, nothing, next, IsName}
+use Rattle.syntax.specs.Grammar.{Tree, Level, alternatives, Derives, one-sequence, more-sequences, one-factor, more-factors, name, unit, group, starred, optioned}
+use Rattle.syntax.specs.Limits.{balance, nesting}
+
+-- What one byte does to the number of open parentheses.
+module _ (n b : ℕ) where
+  pub opens : b ≡ opening → balance n b ≡ suc n
+  unfolding balance
+  opens e = ap (balance n) e
+
+  pub closes : b ≡ closing → balance n b ≡ pred n
+  unfolding balance
+  closes e = ap (balance n) e
+
+  pub keeps : (b ≡ opening → ⊥) → (b ≡ closing → ⊥) → balance n b ≡ n
+  unfolding balance
+  keeps f g = rw (ne-eqb b opening f, balance, ne-eqb b closing g, balance)
+
+-- A part that closes what it opens, and nests no deeper than half its bytes.
+record Balanced (u : Bytes) : Type 0 where
+  pub deep : ℕ
+  pub half : deep + deep ≤ length u
+  pub nests : (n : ℕ) (rest : Bytes) → nesting n (u ++ rest) ≤ max (n + deep) (nesting n rest)
+
+name-keeps : (n b : ℕ) → NameByte b → balance n b ≡ n
+unfolding kind
+name-keeps n b h = keeps n b (λ e. omega (arith, ap kind e)) (λ e. omega (arith, ap kind e))
+
+names-nest : {u : Bytes} → NameBytes u → (n : ℕ) (rest : Bytes) → nesting n (u ++ rest) ≤ max n (nesting n rest)
+unfolding nesting
+names-nest nothing n rest = omega arith
+names-nest (next {b} {s} h r) n rest = rw (name-keeps n b h) (omega (arith, names-nest r n rest))
+
+nothing-balanced : Balanced []
+nothing-balanced = record { deep = 0; half = omega arith; nests = λ n rest. omega arith }
+
+name-balanced : {s : Bytes} → IsName s → Balanced s
+unfolding kind
+name-balanced p =
+    let all : NameBytes (p .first ∷ p .others) = next {b = p .first} (omega (arith, p .begins)) (p .goes-on) in
+    rw (p .text) (record { deep = 0; half = omega arith; nests = λ n rest. omega (arith, names-nest all n rest) })
+
+-- Two parts with a byte between them that is no parenthesis.
+joined : {s : Bytes} (u : Bytes) (m : ℕ) (v : Bytes) → s ≡ u ++ (m ∷ v) → ((n : ℕ) → balance n m ≡ n) → Balanced u → Balanced v → Balanced s
+unfolding nesting
+joined u m v e k p q =
+    rw e
+    (record {
+      deep = max (p .deep) (q .deep);
+      half = omega (arith, p .half, q .half, length-append u (m ∷ v));
+      nests = λ n rest. rw (append-assoc u (m ∷ v) rest) (omega (arith, p .nests n (m ∷ (v ++ rest)), q .nests n rest, ap (λ x. nesting x (v ++ rest)) (k n)));
+    })
+
+grouped : {s : Bytes} (u : Bytes) → s ≡ opening ∷ (u ++ (closing ∷ [])) → Balanced u → Balanced s
+unfolding nesting balance
+grouped u e p =
+    rw e
+    (record {
+      deep = suc (p .deep);
+      half = omega (arith, p .half, length-append u (closing ∷ []));
+      nests = λ n rest. rw (append-assoc u (closing ∷ []) rest) (omega (arith, p .nests (suc n) (closing ∷ rest)));
+    })
+
+derived-balanced : {level : Level} {u : Bytes} {t : Tree} → Derives level u t → Balanced u
+unfolding balance
+derived-balanced (one-sequence d) = derived-balanced d
+derived-balanced (more-sequences u v e d c) = joined u bar v e (λ n. refl) (derived-balanced d) (derived-balanced c)
+derived-balanced (one-factor d) = derived-balanced d
+derived-balanced (more-factors u v e d c) = joined u dot v e (λ n. refl) (derived-balanced d) (derived-balanced c)
+derived-balanced (name n) = name-balanced n
+derived-balanced (unit e) = grouped [] e nothing-balanced
+derived-balanced (group u e d) = grouped u e (derived-balanced d)
+derived-balanced (starred u e d) = joined u asterisk [] e (λ n. refl) (derived-balanced d) nothing-balanced
+derived-balanced (optioned u e d) = joined u question [] e (λ n. refl) (derived-balanced d) nothing-balanced
+
+pub nesting-half : {s : Bytes} {t : Tree} → Derives alternatives s t → nesting 0 s + nesting 0 s ≤ length s
+unfolding nesting
+nesting-half {s} d =
+    let p = derived-balanced d in
+    omega (arith, p .half, rw (append-nil s) at (p .nests 0 []))
