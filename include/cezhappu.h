@@ -4,7 +4,7 @@
  * Each function takes any bytes: there is no job text on which it fails to return, reads outside the bytes it was lent, or writes
  * anything but what is said here. None keeps a pointer, allocates memory or uses global state, so calls may run in parallel.
  *
- * What a call needs is its stack, at most so much whatever it is given: CEZHAPPU_READ_STACK bytes, and CEZHAPPU_KEEP_STACK bytes. Half of it
+ * What a call needs is its stack, at most so much whatever it is given: CEZHAPPU_READ_STACK bytes, and CEZHAPPU_KEEP_STACK bytes. Most of it
  * goes into reading the deepest texts that 512 bytes allow, which are refused; these figures were measured and then rounded up.
  *
  * Undefined, as for any C function: a pointer that does not lead to that many bytes (a null pointer with a length above 0 too), and
@@ -21,7 +21,7 @@ extern "C" {
 #endif
 
 #define CEZHAPPU_READ_STACK (256 * 1024)
-#define CEZHAPPU_KEEP_STACK (384 * 1024)
+#define CEZHAPPU_KEEP_STACK (256 * 1024)
 
 /* The refusals. Reading a job text gives 1 to 7. */
 enum cezhappu_refusal {

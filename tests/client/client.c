@@ -77,6 +77,8 @@ static const struct deep deepest[] = {
     {"255 parentheses around ()", "(", "()", ")", 255, "", 7, 7, 0},
     {"512 opening parentheses", "(", "", "", 512, "", 5, 5, 0},
     {"511 opening parentheses and a name", "(", "a", "", 511, "", 5, 5, 0},
+    {"256 opening parentheses and 256 marks", "(", "", "*", 256, "", 5, 5, 0},
+    {"256 opening parentheses and 128 names in sequence", "((", "", "a.", 128, "", 5, 5, 0},
     {"511 marks", "", "a", "*", 511, "", 0, 0, 1},
     {"171 empty paths in sequence", "().", "()", "", 170, "", 0, 0, 1},
     {"171 empty paths in an alternative", "()|", "()", "", 170, "", 0, 0, 1},
