@@ -11,18 +11,11 @@ use Rattle.theory.specs.Expression.{Expression, empty}
 use Rattle.theory.specs.Job.{Job, WellFormed}
 use Rattle.theory.specs.Graph.{Table}
 use Rattle.theory.specs.Automaton.{Automaton, glushkov}
-use Rattle.theory.specs.ExplorationLaws.{explored}
 use Rattle.finding.specs.declared.answer.Finding.{Finding}
 use Rattle.finding.specs.declared.answer.FindAnswer.{FindAnswer}
-use Rattle.finding.specs.Standings.{values}
-use Rattle.finding.specs.Numbers.{length-values}
-use Rattle.finding.specs.ListImage.{imageTable}
-use Rattle.finding.specs.ImageTable.{length-imageTable}
-use Rattle.finding.specs.States.{states}
-use Rattle.finding.specs.StatesLaws.{state-tests}
 use Rattle.finding.specs.Find.{Rewriting, Found, found, find, findAutomata}
-use Rattle.finding.specs.FindLaws.{Course, course, find-finds, find-refusals}
-use Rattle.finding.specs.Padded.{length-rows}
+use Rattle.finding.specs.FoundSizes.{job-sizes}
+use Rattle.finding.specs.FindLaws.{find-finds, find-refusals}
 use Rattle.finding.specs.Outcome.{left, leftBy, written}
 use Rattle.finding.specs.StoredAutomata.{Stored}
 use Rattle.finding.specs.ListRows.{jobTables}
@@ -35,37 +28,6 @@ use Rattle.answering.specs.AnswerJob.{chosen}
 use Rattle.answering.specs.LinksOperation.{JobGiven}
 use Rattle.answering.specs.ListsCore.{ListsGiven}
 use Rattle.answering.specs.ListsOperation.{FoundGiven}
-
-clash : {A : Type 0} → _≡_ {A = ℕ} 0 1 → A
-clash z = absurd (omega arith)
-
--- The sizes of what Find gives.
-
-record FoundSizes (R : Rewriting) : Type 0 where
-  pub most : R .states ≤ 256
-  pub table-size : length (R .table) ≡ 16 * R .states
-  pub flags-size : length (R .flags) ≡ R .states
-
-same-answer : {f : Found} {Q R : Rewriting} → f ≡ found Q → f ≡ found R → Q ≡ R
-same-answer p q = cc
-
-found-sizes : (J : Job) → length (J .lists) ≤ 16 → (R : Rewriting) → find J ≡ found R → FoundSizes R
-unfolding find states
-found-sizes J few R e = go (course (glushkov (J .query)) (J .labels) (map glushkov (J .lists)) 64 256)
-  where
-    go : Course (glushkov (J .query)) (J .labels) (map glushkov (J .lists)) 64 256 → FoundSizes R
-    go (Course.standings-exceeded p q) = clash (cc)
-    go (Course.states-exceeded l p q r) = clash (cc)
-    go (Course.answered l r p q f) =
-        let A = glushkov (J .query) in
-        let lists = map glushkov (J .lists) in
-        let images = imageTable A (values l) (J .labels) lists in
-        let wide : length images ≤ 16 = omega (arith, length-imageTable A (values l) (J .labels) lists, length-map (J .lists) glushkov) in
-        subst FoundSizes (same-answer f e) (record {
-          most = explored (state-tests _ _) r q .1;
-          table-size = length-rows images (length (values l)) (values r) wide (values r) ∙ ap (λ n. 16 * n) (length-values r);
-          flags-size = length-map (values r) _ ∙ length-values r;
-        })
 
 -- What is written stands at its place.
 written-at : (n i : ℕ) (xs lent : List ℕ) → i < length xs → getD (written n xs lent) i 0 ≡ getD xs i 0
@@ -134,9 +96,9 @@ module _ (J : Job) (formed : WellFormed J) {follow enter sizes accepting : List 
                 let t : next ≡ written 4096 (R .table) next₀ = ap (λ o. o .table) s in
                 let f : flags ≡ written 256 (R .flags) flags₀ = ap (λ o. o .flags) s in
                 let k = g .lists-told in
-                let z = found-sizes J (omega arith) R e in
-                let table-size = z .table-size in
-                let flags-size = z .flags-size in
+                let z = job-sizes J R e in
+                let table-size = z .table (omega arith) in
+                let flags-size = z .flags in
                 let d = finds-decides J R (find-finds J formed (omega arith) R e) in (
                   ap (λ o. o .answer .finding) s,
                   record {
@@ -144,7 +106,7 @@ module _ (J : Job) (formed : WellFormed J) {follow enter sizes accepting : List 
                     few-lists = few;
                     same-states = refl;
                     some = d .some-state;
-                    most = z .most;
+                    most = z .few-states;
                     rows = subst (λ l. 16 * R .states ≤ length l) (sym t) (omega (arith, written-size 4096 (R .table) next₀));
                     same-next = λ q v h l.
                         sym (ap (λ l. getD l (16 * q + v) 0) t ∙ written-at 4096 (16 * q + v) (R .table) next₀ (omega arith));

@@ -24,7 +24,7 @@ use Rattle.reading.specs.Loading.{Loaded}
 use Rattle.finding.specs.declared.answer.FindAnswer.{FindAnswer}
 use Rattle.finding.specs.declared.answer.Finding.the-variants.{Found as Told, Refused as Unfound}
 use Rattle.finding.specs.Find.{Rewriting, Found, found, find, refused as unfound}
-use Rattle.finding.specs.FindSmall.{found-small}
+use Rattle.finding.specs.FoundSizes.{job-sizes}
 use Rattle.finding.specs.Outcome.{Outcome as Both, left as both, leftBy as bothBy, refusedWith}
 use Rattle.finding.specs.WrittenLaws.{written-read}
 use Rattle.finding.specs.Operation.{outcome as bothOf, leftByReading as bothByReading, reading-found}
@@ -90,7 +90,7 @@ module _ (text : Bytes) (T : Tables) (labels lists : ℕ) (before : Bytes) (plac
           let b : both f table′ flags′ ≡ bothBy (found R) table flags = job-left J p loaded ∙ ap (λ x. bothBy x table flags) q in
           let c : Told m n ≡ Told (R .standings) (R .states) = sym e ∙ ap (λ o. o .answer .finding) b in
           let s : R .states ≡ n = cc in
-          let few : R .states ≤ 256 = found-small _ _ _ _ _ R q .few-states in
+          let few : R .states ≤ 256 = job-sizes (jobOf J) R q .few-states in
           let rest : take (length (T .names) - 64) (drop 64 (T .names)) ≡ drop 64 (T .names) =
           ap (λ i. take i (drop 64 (T .names))) (sym (length-drop 64 (T .names))) ∙ take-length (drop 64 (T .names)) in
           let w = subst (λ l. Writes text l lists n table′ flags′ before told after) rest written-names in
@@ -170,7 +170,7 @@ keep-small text out a e = subst Small e (measured (ltb (length out) keptLength))
     given J p (unfound r) q = omega arith
     given J p (found R) q =
         kept-fits (J .listNames) R (read-facts text p .few-lists) (read-facts text p .short-list-names)
-        (found-small _ _ _ _ _ R q .few-states)
+        (job-sizes (jobOf J) R q .few-states)
 
     by-reading : (x : Reading) → read text ≡ x → Small (leftByReading x out .answer)
     by-reading (refused r n) p = read-line text r n p

@@ -28,7 +28,7 @@ use Rattle.output.specs.Decimal.{decimal}
 use Rattle.output.specs.Put.{Writing, puts, puts-then}
 use Rattle.printing.specs.Lines.{statesWord, refusalLine, countLine, sign, nexts, row, rows, firstLine, rewritingLines}
 use Rattle.printing.specs.Told.{wordTold, rewritingTold}
-use Rattle.printing.specs.FoundBounds.{Small, found-small}
+use Rattle.finding.specs.FoundSizes.{job-sizes}
 use Rattle.printing.specs.Printed.{printedAllowance, verdictLines, printedFound, printedReading, printed}
 use Rattle.printing.specs.Printing.{VerdictPut, JobPut}
 
@@ -140,7 +140,7 @@ module _ (text : Bytes) (table flags : List ℕ) (wide : length table ≡ 4096) 
           let i : m ≡ R .standings = cc in
           let s : n ≡ R .states = cc in
           let N : namesAt text listed ≡ J .listNames = ap (namesAt text) (l ∙ ap (take (2 * lists)) rest) ∙ g in
-          let lines = wrote few (omega (arith, found-small (jobOf J) R q .states)) in
+          let lines = wrote few (omega (arith, job-sizes (jobOf J) R q .few-states)) in
           let word : wordTold (a .first) ≡ R .first = ap (λ o. wordTold (o .answer .first)) b ∙ word-told (R .first) in
           let whole = ap (λ M. rewritingLines M (rewritingTold m n table′ flags′ (a .first))) N
           ∙ same-lines (J .listNames) m n table′ flags′ (a .first) R i s

@@ -4,7 +4,6 @@ pub mod Told
 pub mod ToldLaws
 pub mod Printed
 pub mod LineLengths
-pub mod FoundBounds
 pub mod PrintedFits
 pub mod Printing
 pub mod VerdictPutLaws

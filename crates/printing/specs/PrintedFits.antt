@@ -21,7 +21,7 @@ use Rattle.verdict.specs.VerdictJobLaws.{JobTold, judged, verdict-job}
 use Rattle.printing.specs.Lines.{statesWord, firstWord, emptyWord, missedWord, completeWord, pairsWord}
 use Rattle.printing.specs.Lines.{refusalLine, countLine, namedLine, rows, firstLine, rewritingLines}
 use Rattle.printing.specs.LineLengths.{refusal-length, count-length, named-length, rows-length}
-use Rattle.printing.specs.FoundBounds.{Small, found-small}
+use Rattle.finding.specs.FoundSizes.{Sizes, job-sizes}
 use Rattle.printing.specs.Printed.{printedAllowance, verdictLines, printedFound, printedReading, printed}
 
 -- Room for all that is printed.
@@ -34,10 +34,10 @@ unfolding firstLine
 first-length names short none h = omega arith
 first-length names short (some w) h = omega (arith, named-length names short firstWord w, h w refl)
 
-rewriting-length : (names : List Bytes) → ShortNames names → length names ≤ 16 → (R : Rewriting) → Small R
+rewriting-length : (names : List Bytes) → ShortNames names → length names ≤ 16 → (n : ℕ) (R : Rewriting) → Sizes n 64 256 R
     → length (rewritingLines names R) ≤ 22299
 unfolding rewritingLines
-rewriting-length names short few R small =
+rewriting-length names short few n R small =
     let all : Bytes = rows (R .table) (R .flags) (length names) (R .states) 0 in
     let ending : Bytes = firstLine names (R .first) in
     let counted : Bytes = countLine statesWord (R .states) in
@@ -46,11 +46,11 @@ rewriting-length names short few R small =
       length-append (countLine queryWord (R .standings)) (counted ++ (all ++ ending)),
       length-append counted (all ++ ending),
       length-append all ending,
-      count-length queryWord (R .standings) (omega (arith, small .standings)),
-      count-length statesWord (R .states) (omega (arith, small .states)),
-      rows-length (R .table) (R .flags) (λ i. omega (arith, small .entries i)) (length names) few (R .states) 0 (omega (arith, small .states)),
-      first-length names short (R .first) (small .word),
-      small .states,
+      count-length queryWord (R .standings) (omega (arith, small .few-standings)),
+      count-length statesWord (R .states) (omega (arith, small .few-states)),
+      rows-length (R .table) (R .flags) (λ i. omega (arith, small .entries i, small .few-states)) (length names) few (R .states) 0 (omega (arith, small .few-states)),
+      first-length names short (R .first) (λ w e. omega (arith, small .short w e, small .few-states)),
+      small .few-states,
     )
 
 -- A verdict has at most as many pairs as it is allowed, and its path fewer labels.
@@ -79,7 +79,7 @@ printed-fits text = by-reading (read text) refl
         omega (
           arith,
           length-append (rewritingLines (J .listNames) R) (verdictLines (J .labels) (verdictJob (jobOf J) printedAllowance)),
-          rewriting-length (J .listNames) (f .short-list-names) (f .few-lists) R (found-small (jobOf J) R q),
+          rewriting-length (J .listNames) (f .short-list-names) (f .few-lists) _ R (job-sizes (jobOf J) R q),
           verdict-length J (f .short-label-names) (verdictJob (jobOf J) printedAllowance)
               (verdict-job (jobOf J) (f .well-formed) (omega (arith, f .as-many, f .few-lists)) printedAllowance),
         )

@@ -13,7 +13,7 @@ use Rattle.theory.specs.Automaton.{Automaton, glushkov, first, follows}
 use Rattle.theory.specs.AutomatonLaws.{first-below, follows-below}
 use Rattle.finding.specs.Find.{Rewriting, found, find}
 use Rattle.finding.specs.ListWidth.{glushkov-width}
-use Rattle.finding.specs.FoundSizes.{Sizes, found-sizes}
+use Rattle.finding.specs.FoundSizes.{job-sizes}
 use Rattle.finding.specs.FindLaws.{find-finds}
 use Rattle.verdict.specs.Verdict.{verdict}
 use Rattle.verdict.specs.VerdictJob.{verdictFound, verdictJob}
@@ -64,13 +64,6 @@ module _ {J : Job} {follow enter sizes accepting : List ℕ} {labels lists : ℕ
       let e : suc (0 + i) ≡ suc i = omega arith in
       ap (automatonAt follow enter sizes accepting) e ∙ g .holding .listed i B (omega (arith, g .holding .size)) .same))
 
-  -- How much Find tells of the job.
-  pub given-sizes : (R : Rewriting) → find J ≡ found R → Sizes 256 R
-  unfolding find
-  given-sizes R e =
-      let wide : length (map glushkov (J .lists)) ≤ 16 = omega (arith, g .holding .size, g .few-lists) in
-      found-sizes (glushkov (J .query)) (J .labels) (map glushkov (J .lists)) 64 256 wide R e
-
   -- The row of a list.
 
   small : (v : ℕ) → v < lists → getD sizes (v + 1) 0 ≤ 63
@@ -105,14 +98,15 @@ module _ {J : Job} {follow enter sizes accepting : List ℕ} {labels lists : ℕ
     pub given-fit : length follow ≡ 1088 → length enter ≡ 544 → length sizes ≡ 17 → length accepting ≡ 17
         → Fit (lent states labels lists follow enter sizes accepting table) flags
     given-fit follow-long enter-long sizes-long accepting-long =
-        let sized = given-sizes R e in
+        let sized = job-sizes J R e in
+        let rows = sized .table (omega (arith, g .lists-told, g .few-lists)) in
         let decides = finds-decides J R (find-finds J (g .formed) (omega (arith, g .lists-told, g .few-lists)) R e) in
         record {
           counted = record { few = g .few-lists; room = omega (arith, g .few-lists); small = small };
           follow-room = omega (arith, g .few-lists);
           enter-room = omega (arith, g .few-lists);
           accepting-room = omega (arith, g .few-lists);
-          table-room = omega (arith, ap length t, sized .table);
+          table-room = omega (arith, ap length t, rows);
           flags-room = omega (arith, ap length f, sized .flags);
           few-labels = g .few-labels;
           query = g .holding .query .fits;

@@ -25,6 +25,7 @@ use Rattle.reading.specs.Loading.{Loaded}
 use Rattle.finding.specs.declared.answer.FindAnswer.{FindAnswer}
 use Rattle.finding.specs.declared.answer.Finding.the-variants.{Found as Finding, Refused as Unfound}
 use Rattle.finding.specs.Find.{Rewriting, Found, found, find, findAutomata, refused as unfound}
+use Rattle.finding.specs.FoundSizes.{job-sizes}
 use Rattle.finding.specs.Padded.{cleared-front, cleared-behind}
 use Rattle.finding.specs.Outcome.{cleared, written, left as findLeft, leftBy as findLeftBy}
 use Rattle.finding.specs.StatesPart.{Room}
@@ -42,7 +43,7 @@ use Rattle.verdict.specs.VerdictTold.{toldOf, PathAfter, VerdictTold}
 use Rattle.verdict.specs.Judging.{same-rest}
 use Rattle.verdict.specs.VerdictOperation.{Outcome, left, leftBy, leftByJob, leftByReading, allowed, enough, outcome}
 use Rattle.verdict.specs.VerdictOperation.{Sized, JobGiven, SomeJob, FoundTold, FindTold, Answered, AnsweredTold}
-use Rattle.verdict.specs.GivenTables.{given-sizes, given-verdict, given-fit}
+use Rattle.verdict.specs.GivenTables.{given-verdict, given-fit}
 
 clash : {A : Type 0} → _≡_ {A = ℕ} 0 1 → A
 clash z = absurd (omega arith)
@@ -91,9 +92,10 @@ module _ {J : Job} {follow enter sizes accepting : List ℕ} {labels lists : ℕ
           × (drop 256 (findLeftBy x table flags .flags) ≡ drop 256 flags)
       there (unfound r) e = (cleared-behind 4096 table, cleared-behind 256 flags)
       there (found R) e =
-          let s = given-sizes g R e in (
-            written-behind 4096 (R .table) table (omega (arith, s .table, s .few)),
-            written-behind 256 (R .flags) flags (omega (arith, s .flags, s .few)),
+          let s = job-sizes J R e in
+          let rows = s .table (omega (arith, g .lists-told, g .few-lists)) in (
+            written-behind 4096 (R .table) table (omega (arith, rows, s .few-states)),
+            written-behind 256 (R .flags) flags (omega (arith, s .flags, s .few-states)),
           )
 
 module _ {follow enter sizes accepting : List ℕ} {labels lists allowance : ℕ} {table flags path workspace : List ℕ}
@@ -135,7 +137,7 @@ module _ {follow enter sizes accepting : List ℕ} {labels lists allowance : ℕ
   pub few-states : SomeJob follow enter sizes accepting labels lists → {m n : ℕ} → f .finding ≡ Finding m n → n ≤ 256
   few-states S e =
       let (R, q, s) = found-states (S .given-job) (S .given) e in
-      omega (arith, given-sizes (S .given) R q .few)
+      omega (arith, job-sizes (S .given-job) R q .few-states)
 
   pub found-judged : {m n : ℕ} {r : Told} {path₁ workspace₁ : List ℕ} → f .finding ≡ Finding m n
       → FoundTold follow enter sizes accepting labels lists n table₁ flags₁ allowance path workspace r path₁ workspace₁
@@ -148,11 +150,12 @@ module _ {follow enter sizes accepting : List ℕ} {labels lists allowance : ℕ
           → (r ≡ toldOf (verdictJob J allowance)) × PathAfter path path₁ (verdictJob J allowance)
       judging J g =
           let (R, q, s) = found-states J g e in
-          let sized = given-sizes g R q in
+          let sized = job-sizes J R q in
+          let rows = sized .table (omega (arith, g .lists-told, g .few-lists)) in
           let (a, b) = buffers-left J g in
           t .told J R g q s
           (ap (take (16 * n)) (a ∙ ap (λ x. findLeftBy x table flags .table) q)
-          ∙ written-front 4096 (16 * n) (R .table) table (omega (arith, sized .table)))
+          ∙ written-front 4096 (16 * n) (R .table) table (omega (arith, rows)))
           (ap (take n) (b ∙ ap (λ x. findLeftBy x table flags .flags) q)
           ∙ written-front 256 n (R .flags) flags (omega (arith, sized .flags)))
 
