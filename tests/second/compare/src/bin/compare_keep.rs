@@ -9,10 +9,6 @@ use second::jobs::{from_the_end, many, text};
 use second::keep::KEPT_BYTES;
 use second::operations::keep;
 
-extern "C" {
-    fn cezhappu_keep(job: *const u8, length: usize, output: *mut u8, size: usize) -> u64;
-}
-
 /// The least of refusals 9 and 10 each.
 const LEAST_OF_A_KIND: usize = 300;
 
@@ -52,8 +48,7 @@ fn main() {
             Ok(length) => (length as u64) << 32,
             Err(refusal) => u64::from(refusal.number) | u64::from(refusal.line) << 8,
         };
-        // Both buffers are lent for the call alone, and do not overlap.
-        let number = unsafe { cezhappu_keep(text.as_ptr(), text.len(), theirs.as_mut_ptr(), theirs.len()) };
+        let number = compare::keep(&text, &mut theirs);
         if number != answer || ours != theirs {
             println!("difference after {inputs} equal answers: {}", text.escape_ascii());
             println!("cezhappu_keep: {number:#x}; second: {answer:#x}; same bytes: {}", ours == theirs);

@@ -5,10 +5,6 @@ use second::generate::{texts, Text};
 use second::read::{read_or_fault, Fault, Job};
 use second::tally::{Tally, LEAST_INPUTS};
 
-extern "C" {
-    fn cezhappu_read(job: *const u8, length: usize) -> u64;
-}
-
 /// Bytes put behind every text. They do not belong to it; a reader that looks
 /// beyond the length would find a closing byte and a query.
 const BEHIND: &[u8] = b"\nquery a\n";
@@ -46,9 +42,7 @@ fn argument(given: Option<String>, otherwise: u64) -> u64 {
 
 fn call(text: &[u8]) -> u64 {
     let lent = [text, BEHIND].concat();
-    // The first `text.len()` bytes of `lent` are the text, and stay lent
-    // during the call.
-    unsafe { cezhappu_read(lent.as_ptr(), text.len()) }
+    compare::read(&lent[..text.len()])
 }
 
 /// The answer as one number: bits 0 to 7 the refusal (0: none), bits 8 to 31

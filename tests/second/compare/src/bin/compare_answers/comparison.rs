@@ -7,35 +7,6 @@ use second::lent::{byte, word, Lent};
 use second::operations::{links, lists, WORDS_FOR_A_RECORDING_OF_LINKS, WORDS_FOR_A_RECORDING_OF_LISTS};
 use second::read::Refusal;
 
-extern "C" {
-    fn cezhappu_test_links(
-        job: *const u8,
-        job_bytes: usize,
-        recordings: u64,
-        chosen: u64,
-        table: *const u16,
-        table_numbers: usize,
-        start: u64,
-        marks: *mut u8,
-        mark_bytes: usize,
-        workspace: *mut u64,
-        workspace_words: usize,
-    ) -> u64;
-
-    fn cezhappu_test_lists(
-        job: *const u8,
-        job_bytes: usize,
-        recordings: u64,
-        table: *const u16,
-        table_numbers: usize,
-        start: u64,
-        marks: *mut u8,
-        mark_bytes: usize,
-        workspace: *mut u64,
-        workspace_words: usize,
-    ) -> u64;
-}
-
 /// A lent buffer is at most so much longer than it must be.
 pub const MOST_MORE: usize = 9;
 
@@ -137,37 +108,10 @@ impl Comparison {
         let text = [asked.text, b"\nquery a\n"].concat();
         let table = [asked.table, &[u16::MAX, 0, 0]].concat();
         let (marks, workspace) = (self.marks.theirs(), self.workspace.theirs());
-        // All is lent for the call alone, and nothing overlaps.
+        let (text, table) = (&text[..asked.text.len()], &table[..asked.table.len()]);
         match asked.chosen {
-            Some(chosen) => unsafe {
-                cezhappu_test_links(
-                    text.as_ptr(),
-                    asked.text.len(),
-                    asked.recordings,
-                    chosen,
-                    table.as_ptr(),
-                    asked.table.len(),
-                    asked.start,
-                    marks.as_mut_ptr(),
-                    marks.len(),
-                    workspace.as_mut_ptr(),
-                    workspace.len(),
-                )
-            },
-            None => unsafe {
-                cezhappu_test_lists(
-                    text.as_ptr(),
-                    asked.text.len(),
-                    asked.recordings,
-                    table.as_ptr(),
-                    asked.table.len(),
-                    asked.start,
-                    marks.as_mut_ptr(),
-                    marks.len(),
-                    workspace.as_mut_ptr(),
-                    workspace.len(),
-                )
-            },
+            Some(chosen) => compare::links(text, asked.recordings, chosen, table, asked.start, marks, workspace),
+            None => compare::lists(text, asked.recordings, table, asked.start, marks, workspace),
         }
     }
 

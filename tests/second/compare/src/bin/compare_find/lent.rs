@@ -2,19 +2,6 @@
 
 use second::operations::{find, FLAG_BYTES, TABLE_NUMBERS, TABLE_ROW};
 
-extern "C" {
-    fn cezhappu_test_find(
-        job: *const u8,
-        length: usize,
-        table: *mut u16,
-        numbers: usize,
-        flags: *mut u8,
-        bytes: usize,
-        word: *mut u8,
-        letters: usize,
-    ) -> u64;
-}
-
 /// The least length of the word that is lent to the library's function.
 pub const WORD_BYTES: usize = 256;
 
@@ -108,19 +95,7 @@ impl std::fmt::Display for Left {
 /// What the library tells and leaves.
 pub fn library(text: &[u8], shape: Shape) -> Left {
     let mut left = Left::lent(shape);
-    // The buffers do not overlap, and are lent for the call alone.
-    left.number = unsafe {
-        cezhappu_test_find(
-            text.as_ptr(),
-            text.len(),
-            left.table.as_mut_ptr(),
-            left.table.len(),
-            left.flags.as_mut_ptr(),
-            left.flags.len(),
-            left.word.as_mut_ptr(),
-            left.word.len(),
-        )
-    };
+    left.number = compare::find(text, &mut left.table, &mut left.flags, &mut left.word);
     left
 }
 

@@ -7,22 +7,6 @@ use second::operations::{verdict_by, VerdictTold, FLAG_BYTES, MOST_ALLOWANCE, TA
 use second::read::{Job, Refusal};
 use second::verdict::{verdict, Verdict};
 
-extern "C" {
-    fn cezhappu_test_verdict(
-        job: *const u8,
-        job_bytes: usize,
-        allowance: u64,
-        table: *mut u16,
-        table_numbers: usize,
-        flags: *mut u8,
-        flag_bytes: usize,
-        path: *mut u8,
-        path_bytes: usize,
-        workspace: *mut u64,
-        workspace_words: usize,
-    ) -> u64;
-}
-
 /// A lent buffer is at most so much longer than it must be.
 pub const MOST_MORE: usize = 9;
 
@@ -120,22 +104,7 @@ impl Comparison {
         let lent = [text, b"\nquery a\n"].concat();
         let (table, flags) = (self.table.theirs(), self.flags.theirs());
         let (path, workspace) = (self.path.theirs(), self.workspace.theirs());
-        // All is lent for the call alone, and nothing overlaps.
-        unsafe {
-            cezhappu_test_verdict(
-                lent.as_ptr(),
-                text.len(),
-                allowance,
-                table.as_mut_ptr(),
-                table.len(),
-                flags.as_mut_ptr(),
-                flags.len(),
-                path.as_mut_ptr(),
-                path.len(),
-                workspace.as_mut_ptr(),
-                workspace.len(),
-            )
-        }
+        compare::verdict(&lent[..text.len()], allowance, table, flags, path, workspace)
     }
 
     fn wrong_buffers(&self) -> Vec<String> {

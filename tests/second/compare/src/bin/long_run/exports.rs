@@ -1,7 +1,6 @@
 //! Find, Verdict and both answers, which libexports.a has.
 
 use crate::input::Input;
-use crate::library;
 use crate::operations::{filled_bytes, length, packed, Lent, Operation};
 use second::answer::MOST_RECORDINGS;
 use second::operations::{
@@ -46,7 +45,7 @@ const FIND: Operation = Operation {
     // Of the word's own buffer, only the told word means something.
     library: |input, lent| {
         let mut word = [0; WORD_BYTES];
-        let told = library::find(&input.job, &mut lent.numbers, &mut lent.bytes, &mut word);
+        let told = compare::find(&input.job, &mut lent.numbers, &mut lent.bytes, &mut word);
         let names = (told >> 52).saturating_sub(1) as usize;
         if told & 0xff == 0 && names <= WORD_BYTES {
             lent.more_bytes[..names].copy_from_slice(&word[..names]);
@@ -76,7 +75,7 @@ const VERDICT: Operation = Operation {
     },
     library: |input, lent| {
         let Lent { numbers, bytes, more_bytes, words } = lent;
-        library::verdict(&input.job, input.allowance, numbers, bytes, more_bytes, words)
+        compare::verdict(&input.job, input.allowance as u64, numbers, bytes, more_bytes, words)
     },
 };
 
@@ -92,9 +91,9 @@ const LINKS: Operation = Operation {
         packed(answer, |ones| (ones as u64) << 32)
     },
     library: |input, lent| {
-        library::links(
-            &input.job, input.recordings, input.chosen, &input.links, input.start, &mut lent.bytes, &mut lent.words,
-        )
+        let Lent { bytes, words, .. } = lent;
+        let (recordings, chosen, start) = (input.recordings as u64, input.chosen as u64, input.start as u64);
+        compare::links(&input.job, recordings, chosen, &input.links, start, bytes, words)
     },
 };
 
@@ -110,7 +109,7 @@ const LISTS: Operation = Operation {
     },
     library: |input, lent| {
         let Lent { bytes, words, .. } = lent;
-        library::lists(&input.job, input.recordings, &input.lists, input.start, bytes, words)
+        compare::lists(&input.job, input.recordings as u64, &input.lists, input.start as u64, bytes, words)
     },
 };
 

@@ -6,7 +6,6 @@
 
 mod exports;
 mod input;
-mod library;
 mod operations;
 mod tally;
 

@@ -3,7 +3,6 @@
 //! bits 0 to 7 and its line from bit 8 on, or what is told, from bit 32 on.
 
 use crate::input::Input;
-use crate::library;
 use second::keep::KEPT_BYTES;
 use second::operations::keep;
 use second::read::{read, Refusal};
@@ -79,7 +78,7 @@ const READ: Operation = Operation {
     has_missed: false,
     lend: |_| Lent::default(),
     second: |input, _| packed(read(&input.job), |job| (job.labels.len() as u64) << 32 | (job.lists.len() as u64) << 40),
-    library: |input, _| library::read(&input.job),
+    library: |input, _| compare::read(&input.job),
 };
 
 const KEEP: Operation = Operation {
@@ -88,5 +87,5 @@ const KEEP: Operation = Operation {
     has_missed: false,
     lend: |input| Lent { bytes: filled_bytes(length(KEPT_BYTES, input.spare[0])), ..Lent::default() },
     second: |input, lent| packed(keep(&input.job, &mut lent.bytes), |length| (length as u64) << 32),
-    library: |input, lent| library::keep(&input.job, &mut lent.bytes),
+    library: |input, lent| compare::keep(&input.job, &mut lent.bytes),
 };

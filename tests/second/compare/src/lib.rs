@@ -1,5 +1,5 @@
-//! The library's functions, on slices. Every slice is lent for the call alone,
-//! and no two of them overlap.
+//! The functions of libserver.a and libexports.a, on slices. Every slice is lent
+//! for the call alone, and no two of them overlap.
 
 extern "C" {
     fn cezhappu_read(job: *const u8, length: usize) -> u64;
@@ -14,8 +14,6 @@ pub fn keep(job: &[u8], output: &mut [u8]) -> u64 {
     let (out, size) = (output.as_mut_ptr(), output.len());
     unsafe { cezhappu_keep(job.as_ptr(), job.len(), out, size) }
 }
-
-// What libexports.a has.
 
 extern "C" {
     fn cezhappu_test_find(
@@ -85,7 +83,7 @@ pub fn find(job: &[u8], table: &mut [u16], flags: &mut [u8], word: &mut [u8]) ->
 
 pub fn verdict(
     job: &[u8],
-    allowance: usize,
+    allowance: u64,
     table: &mut [u16],
     flags: &mut [u8],
     path: &mut [u8],
@@ -95,7 +93,7 @@ pub fn verdict(
         cezhappu_test_verdict(
             job.as_ptr(),
             job.len(),
-            allowance as u64,
+            allowance,
             table.as_mut_ptr(),
             table.len(),
             flags.as_mut_ptr(),
@@ -110,10 +108,10 @@ pub fn verdict(
 
 pub fn links(
     job: &[u8],
-    recordings: usize,
-    chosen: usize,
+    recordings: u64,
+    chosen: u64,
     table: &[u16],
-    start: usize,
+    start: u64,
     marks: &mut [u8],
     workspace: &mut [u64],
 ) -> u64 {
@@ -121,11 +119,11 @@ pub fn links(
         cezhappu_test_links(
             job.as_ptr(),
             job.len(),
-            recordings as u64,
-            chosen as u64,
+            recordings,
+            chosen,
             table.as_ptr(),
             table.len(),
-            start as u64,
+            start,
             marks.as_mut_ptr(),
             marks.len(),
             workspace.as_mut_ptr(),
@@ -134,22 +132,15 @@ pub fn links(
     }
 }
 
-pub fn lists(
-    job: &[u8],
-    recordings: usize,
-    table: &[u16],
-    start: usize,
-    marks: &mut [u8],
-    workspace: &mut [u64],
-) -> u64 {
+pub fn lists(job: &[u8], recordings: u64, table: &[u16], start: u64, marks: &mut [u8], workspace: &mut [u64]) -> u64 {
     unsafe {
         cezhappu_test_lists(
             job.as_ptr(),
             job.len(),
-            recordings as u64,
+            recordings,
             table.as_ptr(),
             table.len(),
-            start as u64,
+            start,
             marks.as_mut_ptr(),
             marks.len(),
             workspace.as_mut_ptr(),
