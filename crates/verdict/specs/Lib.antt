@@ -31,6 +31,8 @@ pub mod CoverStepped
 pub mod PairTable
 pub mod PairTableLaws
 pub mod Workspace
+pub mod PairIndex
+pub mod PairIndexLaws
 pub mod PairsTold
 pub mod PairRows
 pub mod PathTold

@@ -1,11 +1,16 @@
 // Pairs (document 01, "Pair") by exploration over the labels, in a lent workspace.
 ghost use Prim.Native.Nat.{_+_, _*_, _≤_, _<_};
+ghost use mathlib.Core.Path.{_≡_};
 ghost use lib.ListN.{length};
-ghost use Rattle.verdict.specs.PairTable.{Stored, Compared, Seen};
+ghost use Rattle.verdict.specs.PairTable.{Stored};
 ghost use Rattle.verdict.specs.Workspace.{Put, pair};
+ghost use Rattle.verdict.specs.PairIndex.{bucketOf, Indexed, IndexedAll};
 ghost use Rattle.verdict.specs.PairsTold.{lent, QueryStep, RowTold, PairsTold};
 use crate::cover::cover_start;
 use crate::cover::cover_step;
+use crate::index::bucket;
+use crate::index::note;
+use crate::index::seen;
 use crate::workspace::load;
 use finding::step::step;
 use places::Places;
@@ -42,32 +47,24 @@ fn store(workspace: &mut [u64], m: usize, standing: u64, cover: Wide, link: u64)
     workspace[at + 17] = link;
 }
 
-// Whether the pair number i is the given one.
-fn is_pair(workspace: &[u64], i: usize, standing: u64, cover: Wide) -> bool
-    requires { ⌜ 18 * i + 18 ≤ length (now workspace) ⌝ }
-    ensures { λ r. ⌜ Compared (now (workspace .entry)) i (pair standing (cover .words)) r ⌝ }
+// Adds the pair number m, of the bucket `at`, to the workspace and to the index.
+fn add(
+    workspace: &mut [u64],
+    heads: &mut [u16; 1019],
+    nexts: &mut [u16; 4096],
+    at: usize,
+    m: usize,
+    standing: u64,
+    cover: Wide,
+    link: u64,
+)
+    requires { ⌜ (18 * m + 18 ≤ length (now workspace)) × (m < 4096) × (at ≡ bucketOf (pair standing (cover .words)))
+        × Indexed (now workspace) m (now heads) (now nexts) ⌝ }
+    ensures { λ _. ⌜ Stored (now (workspace .entry)) m standing (cover .words) link (now (workspace .exit))
+        × Indexed (now (workspace .exit)) (m + 1) (now (heads .exit)) (now (nexts .exit)) ⌝ }
 {
-    if workspace[18 * i] == standing {
-        let other = load(workspace, i);
-        other.same(cover)
-    } else {
-        false
-    }
-}
-
-// Whether the pair is among the first n.
-fn seen(workspace: &[u64], n: usize, standing: u64, cover: Wide) -> bool
-    requires { ⌜ 18 * n ≤ length (now workspace) ⌝ }
-    ensures { λ r. ⌜ Seen n (now (workspace .entry)) (pair standing (cover .words)) r ⌝ }
-{
-    let mut i = 0;
-    while i < n {
-        if is_pair(workspace, i, standing, cover) {
-            return true;
-        }
-        i += 1;
-    }
-    false
+    store(workspace, m, standing, cover, link);
+    note(heads, nexts, at, m);
 }
 
 // The step of the query's standing over the label a.
@@ -106,10 +103,14 @@ fn row(
     i: usize,
     n: usize,
     workspace: &mut [u64],
+    heads: &mut [u16; 1019],
+    nexts: &mut [u16; 4096],
 ) -> Explored
-    requires { ⌜ (i < n) × (n ≤ limit) × (limit ≤ 4096) × (labels ≤ 32) × (18 * limit ≤ length (now workspace)) ⌝ }
+    requires { ⌜ (i < n) × (n ≤ limit) × (limit ≤ 4096) × (labels ≤ 32) × (18 * limit ≤ length (now workspace))
+        × Indexed (now workspace) n (now heads) (now nexts) ⌝ }
     ensures { λ r. ⌜ RowTold (lent states labels lists (now (follow .entry)) (now (enter .entry)) (now (sizes .entry)) (now (accepting .entry)) (now (table .entry)))
         limit i n (now (workspace .entry)) r (now (workspace .exit)) ⌝ }
+    ensures indexed { λ r. ⌜ IndexedAll (now (workspace .exit)) (now (heads .exit)) (now (nexts .exit)) r ⌝ }
 {
     let from = workspace[18 * i];
     let set = load(workspace, i);
@@ -128,16 +129,68 @@ fn row(
             a,
             set,
         );
-        if !seen(workspace, m, standing, cover) {
+        let at = bucket(standing, cover);
+        if !seen(workspace, heads, nexts, at, m, standing, cover) {
             if m == limit {
                 return Explored::Over;
             }
-            store(workspace, m, standing, cover, (a * 8192 + i) as u64);
+            let link = (a * 8192 + i) as u64;
+            add(workspace, heads, nexts, at, m, standing, cover, link);
             m += 1;
         }
         a += 1;
     }
     Explored::All(m as u64)
+}
+
+// All pairs from the first on, as long as there are no more than the limit. The index takes about 10 KiB of the thread's stack.
+fn sweep(
+    states: u64,
+    table: &[u16],
+    follow: &[u64],
+    enter: &[u64],
+    sizes: &[u64],
+    accepting: &[u64],
+    lists: usize,
+    labels: usize,
+    limit: usize,
+    workspace: &mut [u64],
+) -> Explored
+    requires { ⌜ (0 < limit) × (limit ≤ 4096) × (labels ≤ 32) × (18 * limit ≤ length (now workspace)) ⌝ }
+    ensures { λ r. ⌜ PairsTold (lent states labels lists (now (follow .entry)) (now (enter .entry)) (now (sizes .entry)) (now (accepting .entry)) (now (table .entry)))
+        limit (now (workspace .entry)) r (now (workspace .exit)) ⌝ }
+{
+    let mut heads: [u16; 1019] = [0; 1019];
+    let mut nexts: [u16; 4096] = [0; 4096];
+    let first = cover_start(states, table, follow, enter, sizes, accepting, lists);
+    let at = bucket(1, first);
+    add(workspace, &mut heads, &mut nexts, at, 0, 1, first, 0);
+    let mut n: usize = 1;
+    let mut i = 0;
+    while i < n {
+        let found = row(
+            states,
+            table,
+            follow,
+            enter,
+            sizes,
+            accepting,
+            lists,
+            labels,
+            limit,
+            i,
+            n,
+            workspace,
+            &mut heads,
+            &mut nexts,
+        );
+        let Explored::All(m) = found else {
+            return Explored::Over;
+        };
+        n = m as usize;
+        i += 1;
+    }
+    Explored::All(n as u64)
 }
 
 // All pairs, as long as there are no more than the allowance, which is at most 4,096.
@@ -169,30 +222,16 @@ pub fn pairs(
     if workspace.len() < 18 * limit {
         return Explored::Over;
     }
-    let first = cover_start(states, table, follow, enter, sizes, accepting, lists);
-    store(workspace, 0, 1, first, 0);
-    let mut n: usize = 1;
-    let mut i = 0;
-    while i < n {
-        let found = row(
-            states,
-            table,
-            follow,
-            enter,
-            sizes,
-            accepting,
-            lists,
-            labels,
-            limit,
-            i,
-            n,
-            workspace,
-        );
-        let Explored::All(m) = found else {
-            return Explored::Over;
-        };
-        n = m as usize;
-        i += 1;
-    }
-    Explored::All(n as u64)
+    sweep(
+        states,
+        table,
+        follow,
+        enter,
+        sizes,
+        accepting,
+        lists,
+        labels,
+        limit,
+        workspace,
+    )
 }

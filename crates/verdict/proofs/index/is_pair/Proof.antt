@@ -4,8 +4,8 @@ use mathlib.Core.Path.{sym, _∙_}
 use borrow.Author.Tests.{eqb-true, eqb-false}
 use Rattle.verdict.specs.Workspace.{pair-same, standing-differs, cover-differs}
 use borrow.Author.Needs.{needs}
-use Rattle.verdict.proofs.pairs.is_pair.Statement.{statement}
-use Rattle.verdict.proofs.pairs.is_pair.Tie as tie
+use Rattle.verdict.proofs.index.is_pair.Statement.{statement}
+use Rattle.verdict.proofs.index.is_pair.Tie as tie
 
 mul-if1 : tie.Need-mul-if1
 mul-if1 c = search needs
