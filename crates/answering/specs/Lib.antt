@@ -12,10 +12,8 @@ pub mod LinkAnswers
 pub mod ListAnswers
 pub mod BothAnswers
 pub mod AnswerJobLaws
--- Demand 3 as a whole, and the cases P1 to P8.
+-- Demand 3 as a whole.
 pub mod Demand3
-pub mod Cases
-pub mod CasesHold
 -- What the code keeps and promises.
 pub mod TableSteps
 pub mod Cleared

@@ -28,10 +28,10 @@ use Rattle.verdict.specs.Cover
 use Rattle.verdict.specs.Pairs
 use Rattle.verdict.specs.Verdict
 use Rattle.verdict.specs.VerdictJob.{verdictJob}
 use Rattle.answering.specs.Table
 use Rattle.answering.specs.Product
 use Rattle.answering.specs.AnswerJob
-use Rattle.answering.specs.Cases.{Claim, standings, states, next-states, flags, first, complete, missed, pairs, refused, links, lists, Case, cases}
+use Rattle.listed.specs.Cases.{Claim, standings, states, next-states, flags, first, complete, missed, pairs, refused, links, lists, Case, cases}
 
 -- A part of what Find gives.
 abbrev told : {A : Type 0} → (Find.Rewriting → A) → Job → Option A
