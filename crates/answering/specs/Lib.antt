@@ -19,6 +19,7 @@ pub mod TableSteps
 pub mod Cleared
 pub mod Links
 pub mod Pairs
+pub mod NextState
 pub mod Search
 pub mod SearchLaws
 pub mod SearchSteps

@@ -366,14 +366,16 @@ listed-had {w} {s} {P} {x} {l} {n} v m h = record {
         let d : ¬ (j ≡ n) = λ p. omega arith in
         (j, omega arith, under j d ∙ r)
 
-pub listed-not : {w s : ℕ} {P : List ℕ} {x : ℕ} {l : List ℕ} {n : ℕ} → Listed w s P x l n → ¬ Has w P x s → Listed w (s + 1) P x l n
-listed-not {w} {s} {P} {x} {l} {n} v d = record {
+-- States that the recording does not have are listed by nothing.
+pub listed-skip : {w s r : ℕ} {P : List ℕ} {x : ℕ} {l : List ℕ} {n : ℕ} → s ≤ r → Listed w s P x l n
+    → ((t : ℕ) → s ≤ t → t < r → ¬ Has w P x t) → Listed w r P x l n
+listed-skip {w} {s} {r} {P} {x} {l} {n} h v d = record {
   fits = v .fits;
   below = λ j k. let q = v .below j k in omega arith;
   had = v .had;
-  listed = λ t k f. listed' t k f (ℕ-discrete t s);
+  listed = λ t k f. listed' t k f (decLt t s);
 }
   where
-    listed' : (t : ℕ) → t < s + 1 → Has w P x t → Dec (t ≡ s) → (j : ℕ) × (j < n) × (getD l j 0 ≡ t)
-    listed' t k f (yes e) = absurd (d (subst (Has w P x) e f))
-    listed' t k f (no e) = v .listed t (omega arith) f
+    listed' : (t : ℕ) → t < r → Has w P x t → Dec (t < s) → (j : ℕ) × (j < n) × (getD l j 0 ≡ t)
+    listed' t k f (yes e) = v .listed t e f
+    listed' t k f (no e) = absurd (d t (omega arith) k f)

@@ -3,6 +3,7 @@ ghost use mathlib.Core.Path.{_≡_};
 ghost use Prim.Native.Nat.{_+_, _*_, _≤_, _<_};
 ghost use lib.ListN.{length};
 ghost use Rattle.answering.specs.Pairs.{place, has, put};
+ghost use Rattle.answering.specs.NextState.{NextState};
 ghost use Rattle.answering.specs.Search.{AnyFrom, Zeroed, Listed};
 
 // Whether the recording y has the state s.
@@ -49,6 +50,26 @@ pub(super) fn zero_from(pairs: &mut [u64], base: usize, words: usize)
     }
 }
 
+// The least state of the recording x from `from` on, of those below `most`; `most` where there is none.
+fn next_state(pairs: &[u64], words: usize, x: usize, from: usize, most: usize) -> usize
+    requires { ⌜ (words * x + words ≤ length (now pairs)) × (most ≤ 64 * words) × (most ≤ 256) × (from ≤ most) ⌝ }
+    ensures { λ r. ⌜ NextState words (now (pairs .entry)) x from most r ⌝ }
+{
+    let mut s = from;
+    while s < most {
+        let word = pairs[words * x + s / 64] >> (s % 64);
+        if word != 0 {
+            let next = s + (u64::trailing_zeros(word) as usize);
+            if next < most {
+                return next;
+            }
+            return most;
+        }
+        s = 64 * (s / 64 + 1);
+    }
+    most
+}
+
 // The states of the recording x, of all states below `most`, are listed; how many there are is returned.
 pub(super) fn list_states(
     pairs: &[u64],
@@ -61,13 +82,11 @@ pub(super) fn list_states(
     ensures { λ r. ⌜ Listed words most (now (pairs .entry)) x (now (states .exit)) r ⌝ }
 {
     let mut n = 0;
-    let mut s = 0;
+    let mut s = next_state(pairs, words, x, 0, most);
     while s < most {
-        if has(pairs, words, x, s) {
-            states[n] = s as u16;
-            n += 1;
-        }
-        s += 1;
+        states[n] = s as u16;
+        n += 1;
+        s = next_state(pairs, words, x, s + 1, most);
     }
     n
 }

@@ -84,21 +84,21 @@ module _ (images : List (List ℕ)) (m limit accepting : ℕ) (l : List (Entry �
       }
 
 module _ (A : Automaton) (k : ℕ) (lists : List Automaton) (mostA mostB : ℕ) (R : Rewriting) (h : findAutomata A k lists mostA mostB ≡ found R)
-    where
-  found-sizes : Sizes (length lists) mostA mostB R
-  unfolding standings
-  found-sizes = side (course A k lists mostA mostB)
-    where
-      side : Course A k lists mostA mostB → Sizes (length lists) mostA mostB R
-      side (standings-exceeded e f) = absurd (let z : _≡_ {A = ℕ} 0 1 = cc in omega arith)
-      side (states-exceeded l e g f) = absurd (let z : _≡_ {A = ℕ} 0 1 = cc in omega arith)
-      side (answered l r e g f) =
-          let images = imageTable A (values l) k lists in
-          let same : rewriting images (length (values l)) (acceptingStandings A (values l)) r ≡ R = cc in
-          let few : length (values l) ≤ mostA = omega (arith, length-values l, explored (standing-tests A k) l e .1) in
-          subst (λ n. Sizes n mostA mostB R) (length-imageTable A (values l) k lists)
-          (subst (Sizes (length images) mostA mostB) same
-          (rewriting-sizes images (length (values l)) mostB (acceptingStandings A (values l)) r g mostA few))
+  where
+    found-sizes : Sizes (length lists) mostA mostB R
+    unfolding standings
+    found-sizes = side (course A k lists mostA mostB)
+      where
+        side : Course A k lists mostA mostB → Sizes (length lists) mostA mostB R
+        side (standings-exceeded e f) = absurd (let z : _≡_ {A = ℕ} 0 1 = cc in omega arith)
+        side (states-exceeded l e g f) = absurd (let z : _≡_ {A = ℕ} 0 1 = cc in omega arith)
+        side (answered l r e g f) =
+            let images = imageTable A (values l) k lists in
+            let same : rewriting images (length (values l)) (acceptingStandings A (values l)) r ≡ R = cc in
+            let few : length (values l) ≤ mostA = omega (arith, length-values l, explored (standing-tests A k) l e .1) in
+            subst (λ n. Sizes n mostA mostB R) (length-imageTable A (values l) k lists)
+            (subst (Sizes (length images) mostA mostB) same
+            (rewriting-sizes images (length (values l)) mostB (acceptingStandings A (values l)) r g mostA few))
 
 -- The same of a job.
 pub job-sizes : (J : Job) (R : Rewriting) → find J ≡ found R → Sizes (length (J .lists)) mostStandings mostStates R

@@ -1,12 +1,10 @@
--- `list_states` meets its contract. The loop's invariant: the states below s are listed.
+-- `list_states` meets its contract. The loop's invariant: the states below s are listed, and s is the next where it is below `most`.
 use Prim.Native.Nat.{_-_, _≤_, _<_}
-use mathlib.Core.Bool.{false≢true}
-use mathlib.Core.Logic.{⊎-elim}
-use mathlib.Core.Path.{_≡_, refl, sym, _∙_}
+use mathlib.Core.Path.{_≡_, refl}
 use lib.ListN.{length, length-set}
-use Rattle.answering.specs.Pairs.{has-test}
+use Rattle.answering.specs.Pairs.{Has}
 use Rattle.answering.specs.Search.{Listed}
-use Rattle.answering.specs.SearchLaws.{listed-none, listed-had, listed-not}
+use Rattle.answering.specs.SearchLaws.{listed-none, listed-had, listed-skip}
 use native.Mathlib.Omega.{arith}
 use borrow.Author.Needs.{needs}
 use Rattle.answering.proofs.pairs.list_states.Statement.{statement}
@@ -14,16 +12,18 @@ use Rattle.answering.proofs.pairs.list_states.Tie as tie
 
 abbrev Inv-loop : tie.InvT-loop
 Inv-loop pairs words x most states₀ n₀ s₀ states n s =
-    (s ≤ most) × (n ≤ s) × (length states ≡ length states₀) × Listed words s pairs x states n
+    (s ≤ most) × (n ≤ s) × (length states ≡ length states₀) × Listed words s pairs x states n × (s < most → Has words pairs x s)
 
 abbrev μ-loop : tie.MeasureT-loop
 μ-loop pairs words x most states₀ n₀ s₀ states n s = most - s
 
-loop-holds : tie.Need-loop-holds Inv-loop μ-loop
-loop-holds c = (omega arith, omega arith, refl, listed-none _ _ _ _)
+next-state-requires : tie.Need-next-state-requires Inv-loop μ-loop
+next-state-requires c κs = search needs
 
-has-requires : tie.Need-has-requires Inv-loop μ-loop
-has-requires c κs = omega arith
+loop-holds : tie.Need-loop-holds Inv-loop μ-loop
+loop-holds c =
+    let e = c .next-state .ensures in
+    (e .inside, omega arith, refl, listed-skip (omega arith) (listed-none _ _ _ _) (e .passed), e .had)
 
 cast-states : tie.Need-cast-states Inv-loop μ-loop
 cast-states c = search needs
@@ -37,42 +37,34 @@ slice-write-states c = search needs
 add-n : tie.Need-add-n Inv-loop μ-loop
 add-n c = search needs
 
-add-s : tie.Need-add-s Inv-loop μ-loop
-add-s c = search needs
+add-next-state : tie.Need-add-next-state Inv-loop μ-loop
+add-next-state c = search needs
+
+next-state-requires-2 : tie.Need-next-state-requires-2 Inv-loop μ-loop
+next-state-requires-2 c κs = search needs
 
 loop-less : tie.Need-loop-less Inv-loop μ-loop
-loop-less c = search needs
+loop-less c = omega (arith, c .next-state2 .ensures .onward)
 
 loop-again : tie.Need-loop-again Inv-loop μ-loop
 loop-again c =
-    let at-loop = c .before .before .before in
-    let at-start = at-loop .before .before .before in
-    let a = at-start .args in
+    let at-loop = c .before .before in
     let v = at-loop .loop .inv in
-    let h : at-loop .loop .n < length (at-loop .loop .states) = omega arith in
-    ⊎-elim
-    (λ u. rw (u .1, u .2) (
-      omega arith,
-      omega arith,
+    let e = c .next-state2 .ensures in
+    let h : at-loop .loop .n < length (at-loop .loop .states) = omega arith in (
+      e .inside,
+      omega (arith, e .onward),
       simp length-set (v .2),
-      listed-had (v .3)
-          (has-test (a .words) (a .pairs .now) (a .x) (at-loop .loop .s) .0 (sym (c .before .has .ensures) ∙ u .0 .taken)) h,
-    ))
-    (λ u. rw (u .1, u .2) (
-      omega arith,
-      omega arith,
-      v .2,
-      listed-not (v .3)
-          (λ m. false≢true (sym (u .0 .left) ∙ c .before .has .ensures ∙ has-test (a .words) (a .pairs .now) (a .x) (at-loop .loop .s) .1 m)),
-    ))
-    (c .if1 .came)
+      listed-skip (e .onward) (listed-had (v .3) (v .4 (omega arith)) h) (e .passed),
+      e .had,
+    )
 
 same-length : tie.Need-same-length Inv-loop μ-loop
 same-length c = search needs
 
 returns : tie.Need-returns Inv-loop μ-loop
 returns c =
-    let at-start = c .before .before .before .before in
+    let at-start = c .before .before .before .before .before in
     let e : c .before .loop .s ≡ at-start .args .most = omega arith in
     rw e at (c .before .loop .inv .3)
 
@@ -82,13 +74,14 @@ list-states-spec =
     (tie.spec
     Inv-loop
     μ-loop
+    next-state-requires
     loop-holds
-    has-requires
     cast-states
     mul-states
     slice-write-states
     add-n
-    add-s
+    add-next-state
+    next-state-requires-2
     loop-less
     loop-again
     same-length
