@@ -256,10 +256,16 @@ pub record Without (s t r : ℕ) : Type 0 where
   pub small : s < 2 ^ 64
   pub exactly : (x : ℕ) → Member x r ↔ (Member x s × ¬ Member x t)
 
--- The first standing with places that are not settled, or the count.
+-- The first standing from `from` on with places that are not settled, or the count.
+pub record WaitingFrom (from count : ℕ) (reached settled : List ℕ) (r : ℕ) : Type 0 where
+  pub inside : r ≤ count
+  pub before : (j : ℕ) → j < r → from ≤ j → getD reached j 0 ≡ getD settled j 0
+  pub waits : r < count → getD reached r 0 ≢ getD settled r 0
+
+-- A standing with places that are not settled, or the count where there is none.
 pub record Waiting (count : ℕ) (reached settled : List ℕ) (r : ℕ) : Type 0 where
   pub inside : r ≤ count
-  pub before : (j : ℕ) → j < r → getD reached j 0 ≡ getD settled j 0
+  pub none : r ≡ count → (j : ℕ) → j < count → getD reached j 0 ≡ getD settled j 0
   pub waits : r < count → getD reached r 0 ≢ getD settled r 0
 
 -- The image of the standing i, as a set of standings: those reached together with an accepting place.

@@ -7,7 +7,7 @@ ghost use lib.ListN.{length, getD};
 ghost use Rattle.theory.specs.Places.{collect};
 ghost use Rattle.theory.specs.Automaton.{accepts};
 ghost use Rattle.finding.specs.Plain.{plain};
-ghost use Rattle.finding.specs.ImageSearch.{tables, Fitting, Without, Waiting, Spread, ImageOf};
+ghost use Rattle.finding.specs.ImageSearch.{tables, Fitting, Without, WaitingFrom, Waiting, Spread, ImageOf};
 ghost use Rattle.finding.specs.ImagesTold.{ImagesTold};
 use crate::step::step;
 use places::Places;
@@ -19,12 +19,12 @@ fn without(s: u64, t: u64) -> Places
     Places(s ^ (s & t))
 }
 
-// The first standing with places that are reached and not settled; count where there is none.
-fn waiting(reached: &[u64; 64], settled: &[u64; 64], count: usize) -> usize
-    requires { ⌜ count ≤ 64 ⌝ }
-    ensures { λ r. ⌜ Waiting count (now (reached .entry)) (now (settled .entry)) r ⌝ }
+// The first standing from `from` on with places that are reached and not settled; count where there is none.
+fn waiting_from(reached: &[u64; 64], settled: &[u64; 64], from: usize, count: usize) -> usize
+    requires { ⌜ (from ≤ count) × (count ≤ 64) ⌝ }
+    ensures { λ r. ⌜ WaitingFrom from count (now (reached .entry)) (now (settled .entry)) r ⌝ }
 {
-    let mut j = 0;
+    let mut j = from;
     while j < count {
         if reached[j] != settled[j] {
             return j;
@@ -32,6 +32,18 @@ fn waiting(reached: &[u64; 64], settled: &[u64; 64], count: usize) -> usize
         j += 1;
     }
     j
+}
+
+// A standing with places that are reached and not settled, looked for from `from` on and then from the first; count where there is none.
+fn waiting(reached: &[u64; 64], settled: &[u64; 64], from: usize, count: usize) -> usize
+    requires { ⌜ (from ≤ count) × (count ≤ 64) ⌝ }
+    ensures { λ r. ⌜ Waiting count (now (reached .entry)) (now (settled .entry)) r ⌝ }
+{
+    let next = waiting_from(reached, settled, from, count);
+    if next < count {
+        return next;
+    }
+    waiting_from(reached, settled, 0, count)
 }
 
 // What the labels add from the standing j with the places `taken`.
@@ -91,9 +103,10 @@ fn image(
 {
     let mut reached = [0; 64];
     let mut settled = [0; 64];
+    let mut j = i;
     reached[i] = Places::START.0;
     loop {
-        let j = waiting(&reached, &settled, count);
+        j = waiting(&reached, &settled, j, count);
         if j == count {
             return accepted(&reached, count, accepting);
         }

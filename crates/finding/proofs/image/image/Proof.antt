@@ -1,6 +1,6 @@
 -- The loop's invariant: all that is reached is reached from the standing i, and what is settled has its labels followed (ImageSearch,
 -- Searching). Each turn settles more.
-use Prim.Native.Nat.{ℕ, _<_}
+use Prim.Native.Nat.{ℕ, _≤_, _<_}
 use mathlib.Core.Path.{_≡_, refl, _∙_}
 use lib.ListN.{length, length-set, getD, replicate}
 use Rattle.finding.specs.ImageSearch.{tables, Searching, searching-begins, searching-turn, searched}
@@ -11,11 +11,11 @@ use Rattle.finding.proofs.image.image.Statement.{statement}
 use Rattle.finding.proofs.image.image.Tie as tie
 
 abbrev Inv-loop : tie.InvT-loop
-Inv-loop moves count labels follow enter accepting i reached₀ settled₀ reached settled =
-    (length reached ≡ 64) × (length settled ≡ 64) × Searching (tables moves count labels follow enter) i reached settled
+Inv-loop moves count labels follow enter accepting i reached₀ settled₀ j₀ reached settled j =
+    (j ≤ count) × (length reached ≡ 64) × (length settled ≡ 64) × Searching (tables moves count labels follow enter) i reached settled
 
 abbrev μ-loop : tie.MeasureT-loop
-μ-loop moves count labels follow enter accepting i reached₀ settled₀ reached settled = unsettled settled
+μ-loop moves count labels follow enter accepting i reached₀ settled₀ j₀ reached settled j = unsettled settled
 
 mul-reached : tie.Need-mul-reached Inv-loop μ-loop
 mul-reached c = search needs
@@ -28,10 +28,10 @@ loop-holds c =
     let s = c .before .before in
     let x = s .args in
     let D = tables (x .moves .now) (x .count) (x .labels) (x .follow .now) (x .enter .now) in
-    (length-set {A = ℕ} (replicate 64 0) (x .i) 1, refl, searching-begins D (x .i) 64 (omega arith))
+    (omega arith, length-set {A = ℕ} (replicate 64 0) (x .i) 1, refl, searching-begins D (x .i) 64 (omega arith))
 
 waiting-requires : tie.Need-waiting-requires Inv-loop μ-loop
-waiting-requires c κs = c .before .before .before .before .before .pre .0 .standings
+waiting-requires c κs = (c .before .before .loop .inv .0, c .before .before .before .before .before .pre .0 .standings)
 
 accepted-requires : tie.Need-accepted-requires Inv-loop μ-loop
 accepted-requires c κs = c .before .before .before .before .before .before .before .before .pre .0 .standings
@@ -44,8 +44,8 @@ returns c =
     let D = tables (x .moves .now) (x .count) (x .labels) (x .follow .now) (x .enter .now) in
     record {
       reached = l .reached;
-      found = searched D (x .i) (l .reached) (l .settled) (s .pre .1) (l .inv .2)
-          (λ j h. c .before .before .before .waiting .ensures .before j (omega arith));
+      found = searched D (x .i) (l .reached) (l .settled) (s .pre .1) (l .inv .3)
+          (c .before .before .before .waiting .ensures .none (omega arith));
       image = c .accepted .ensures;
     }
 
@@ -87,7 +87,7 @@ loop-less c =
     let j = c .before .before .before .before .waiting .result in
     let h : j < x .count = omega arith in
     unsettled-less (l .settled) j (getD (l .reached) j 0) (omega arith)
-    (more-settled D (x .i) (l .reached) (l .settled) j (l .inv .2) (c .before .before .before .before .waiting .ensures .waits h))
+    (more-settled D (x .i) (l .reached) (l .settled) j (l .inv .3) (c .before .before .before .before .waiting .ensures .waits h))
     (c .before .before .without .ensures .small)
 
 loop-again : tie.Need-loop-again Inv-loop μ-loop
@@ -97,9 +97,10 @@ loop-again c =
     let D = tables (x .moves .now) (x .count) (x .labels) (x .follow .now) (x .enter .now) in
     let j = c .before .before .before .before .waiting .result in
     let after = c .spread .last .1 .1 .1 .1 .1 .1 .1 .0 in (
-      c .spread .ensures .size ∙ l .inv .0,
-      length-set (l .settled) j (getD (l .reached) j 0) ∙ l .inv .1,
-      searching-turn D (x .i) j (c .before .before .without .result .0) (l .reached) (l .settled) after (l .inv .2)
+      c .before .before .before .before .waiting .ensures .inside,
+      c .spread .ensures .size ∙ l .inv .1,
+      length-set (l .settled) j (getD (l .reached) j 0) ∙ l .inv .2,
+      searching-turn D (x .i) j (c .before .before .without .result .0) (l .reached) (l .settled) after (l .inv .3)
           (c .before .before .without .ensures .exactly) (c .spread .ensures) (omega arith),
     )
 

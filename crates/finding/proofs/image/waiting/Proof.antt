@@ -1,68 +1,24 @@
--- The loop's invariant: the standings passed have all their places settled.
-use Prim.Native.Nat.{ℕ, _-_, _≤_, _<_}
-use mathlib.Core.Path.{_≡_}
-use lib.ListN.{getD}
-use borrow.Author.Count.{below-more}
+-- `waiting` meets its contract: what is not found from a standing on is looked for from the first.
 use native.Mathlib.Omega.{arith}
 use borrow.Author.Needs.{needs}
 use Rattle.finding.proofs.image.waiting.Statement.{statement}
 use Rattle.finding.proofs.image.waiting.Tie as tie
 
-abbrev Inv-loop : tie.InvT-loop
-Inv-loop reached settled count j₀ j = (j ≤ count) × ((k : ℕ) → k < j → getD reached k 0 ≡ getD settled k 0)
+waiting-from-requires : tie.Need-waiting-from-requires
+waiting-from-requires c κs = search needs
 
-abbrev μ-loop : tie.MeasureT-loop
-μ-loop reached settled count j₀ j = count - j
-
-loop-holds : tie.Need-loop-holds Inv-loop μ-loop
-loop-holds c = search needs
-
-mul-if1 : tie.Need-mul-if1 Inv-loop μ-loop
-mul-if1 c = search needs
-
-element-copy-out-if1 : tie.Need-element-copy-out-if1 Inv-loop μ-loop
-element-copy-out-if1 c = search needs
-
-mul-if1-2 : tie.Need-mul-if1-2 Inv-loop μ-loop
-mul-if1-2 c = search needs
-
-element-copy-out-if1-2 : tie.Need-element-copy-out-if1-2 Inv-loop μ-loop
-element-copy-out-if1-2 c = search needs
-
-returns : tie.Need-returns Inv-loop μ-loop
+returns : tie.Need-returns
 returns c =
-    let l = c .before .before .before .before .loop in
-    record { inside = l .inv .0; before = l .inv .1; waits = λ h. c .if1 .taken }
+    let e = c .before .waiting-from .ensures in
+    record { inside = e .inside; none = λ h. absurd (omega (arith, c .if1 .taken)); waits = e .waits }
 
-add-j : tie.Need-add-j Inv-loop μ-loop
-add-j c = search needs
+waiting-from-requires-2 : tie.Need-waiting-from-requires-2
+waiting-from-requires-2 c κs = search needs
 
-loop-less : tie.Need-loop-less Inv-loop μ-loop
-loop-less c = search needs
-
-loop-again : tie.Need-loop-again Inv-loop μ-loop
-loop-again c =
-    let l = c .before .before .before .before .loop in
-    (omega arith, below-more _ _ (l .inv .1) (c .if1 .left))
-
-returns-2 : tie.Need-returns-2 Inv-loop μ-loop
+returns-2 : tie.Need-returns-2
 returns-2 c =
-    let l = c .before .loop in
-    record { inside = l .inv .0; before = l .inv .1; waits = λ h. absurd (omega arith) }
+    let e = c .waiting-from2 .ensures in
+    record { inside = e .inside; none = λ h j l. e .before j (omega arith) (omega arith); waits = e .waits }
 
 pub waiting-spec : {M : Type 1} → statement M
-waiting-spec =
-    tie.close
-    (tie.spec
-    Inv-loop
-    μ-loop
-    loop-holds
-    mul-if1
-    element-copy-out-if1
-    mul-if1-2
-    element-copy-out-if1-2
-    returns
-    add-j
-    loop-less
-    loop-again
-    returns-2)
+waiting-spec = tie.close (tie.spec waiting-from-requires returns waiting-from-requires-2 returns-2)
