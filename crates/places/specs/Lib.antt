@@ -3,3 +3,4 @@ pub mod Words
 pub mod WordsLaws
 pub mod WordsShift
 pub mod NextPlace
+pub mod LeastPlace

@@ -2,12 +2,12 @@
 use Prim.Native.Nat.{ℕ, _+_, _%_, _^_, _≤_, _<_}
 use mathlib.Core.List.{List}
 use mathlib.Core.Path.{_≡_, sym, ap, _∙_}
-use native.Mathlib.Decide.{decLt}
 use native.Mathlib.Numerals.{add-one}
 use native.Mathlib.Omega.{arith}
 use lib.Bits.{or-mod, or-zero-r}
 use Rattle.theory.specs.Places.{Member, union, when, unionOver}
-use Rattle.theory.specs.PlacesLaws.{member-test, member-unionOver, equal-members}
+use Rattle.theory.specs.PlacesLaws.{member-test}
+use Rattle.finding.specs.UnionSteps.{unionOver-skip}
 use Rattle.places.specs.UnionLaws.{union-assoc}
 use Rattle.places.specs.Words.{numberOf}
 use Rattle.places.specs.NextPlace.{NextPlace}
@@ -30,17 +30,6 @@ over-in next s start set set′ p m o g =
     ∙ ap (λ b. union (unionOver next p s) (when b (next p)) % 2 ^ 1024) (sym (member-test p s .1 m))
     ∙ ap (λ x. unionOver next x s % 2 ^ 1024) (sym (add-one p)))
 
--- Where s has no place from p on and below r, those below r lead where those below p do.
-union-skip : (next : ℕ → ℕ) (s p r : ℕ) → p ≤ r → ((i : ℕ) → p ≤ i → i < r → ¬ Member i s) → unionOver next p s ≡ unionOver next r s
-union-skip next s p r h none = equal-members (unionOver next p s) (unionOver next r s) λ y. (
-  λ m. let (x, l, a, b) = member-unionOver next p s y .0 m in member-unionOver next r s y .1 (x, omega arith, a, b),
-  λ m. let (x, l, a, b) = member-unionOver next r s y .0 m in member-unionOver next p s y .1 (x, low x l a (decLt x p), a, b),
-)
-  where
-    low : (x : ℕ) → x < r → Member x s → Dec (x < p) → x < p
-    low x l a (yes k) = k
-    low x l a (no k) = absurd (none x (omega arith) l a)
-
 -- The walk is at the place p of s: all places of s before it have been followed, and those from `count` on are not wanted.
 pub record Walk (next : ℕ → ℕ) (s start count : ℕ) (set : List ℕ) (p : ℕ) : Type 0 where
   pub over : Over next s start set p
@@ -50,7 +39,7 @@ pub record Walk (next : ℕ → ℕ) (s start count : ℕ) (set : List ℕ) (p :
 pub walk-start : (next : ℕ → ℕ) (s count : ℕ) (set : List ℕ) (p : ℕ) → NextPlace s 0 p → Walk next s (numberOf set) count set p
 walk-start next s count set p n =
     record {
-      over = over-start next s set ∙ ap (λ x. union (numberOf set) (x % 2 ^ 1024)) (union-skip next s 0 p (omega arith) (n .passed));
+      over = over-start next s set ∙ ap (λ x. union (numberOf set) (x % 2 ^ 1024)) (unionOver-skip next s 0 p (omega arith) (n .passed));
       here = n .here;
       beyond = λ i h. n .passed i (omega arith);
     }
@@ -61,11 +50,11 @@ walk-turn next s start count set set′ p r few h w g n =
     record {
       over =
           over-in next s start set set′ p (w .here (omega arith)) (w .over) g
-          ∙ ap (λ x. union start (x % 2 ^ 1024)) (union-skip next s (p + 1) r (n .onward (omega arith)) (n .passed));
+          ∙ ap (λ x. union start (x % 2 ^ 1024)) (unionOver-skip next s (p + 1) r (n .onward (omega arith)) (n .passed));
       here = n .here;
       beyond = λ i k. n .passed i (omega arith);
     }
 
 pub walk-end : (next : ℕ → ℕ) (s start count : ℕ) (set : List ℕ) (p : ℕ) → count ≤ p → Walk next s start count set p → Over next s start set count
 walk-end next s start count set p h w =
-    w .over ∙ ap (λ x. union start (x % 2 ^ 1024)) (sym (union-skip next s count p h (w .beyond)))
+    w .over ∙ ap (λ x. union start (x % 2 ^ 1024)) (sym (unionOver-skip next s count p h (w .beyond)))

@@ -1,8 +1,8 @@
 -- `next_state` meets its contract. The loop's invariant: no state from the given one on and before s is had.
-use Prim.Native.Nat.{_+_, _-_, _≤_, _<_}
+use Prim.Native.Nat.{_-_, _/_, _%_, _^_, _≤_}
 use lib.Count.{trailing-le}
 use Rattle.answering.specs.Pairs.{place}
-use Rattle.answering.specs.NextState.{Passed, rest, passed-word, next-found, next-over, next-none}
+use Rattle.answering.specs.NextState.{Passed, wordOf, passed-word, next-found, next-over, next-none}
 use native.Mathlib.Omega.{arith}
 use borrow.Author.Needs.{needs}
 use Rattle.answering.proofs.pairs.next_state.Statement.{statement}
@@ -36,26 +36,26 @@ cast-next : tie.Need-cast-next Inv-loop μ-loop
 cast-next c =
     let l = c .before .before .before .loop in
     let a = c .before .before .before .before .args in
-    omega (arith, trailing-le 64 (rest (a .words) (a .pairs .now) (a .x) (l .s)))
+    omega (arith, trailing-le 64 (wordOf (a .words) (a .pairs .now) (a .x) (l .s) / 2 ^ (l .s % 64)))
 
 add-next : tie.Need-add-next Inv-loop μ-loop
 add-next c =
     let l = c .before .before .before .loop in
     let a = c .before .before .before .before .args in
-    omega (arith, trailing-le 64 (rest (a .words) (a .pairs .now) (a .x) (l .s)))
+    omega (arith, trailing-le 64 (wordOf (a .words) (a .pairs .now) (a .x) (l .s) / 2 ^ (l .s % 64)))
 
 returns : tie.Need-returns Inv-loop μ-loop
 returns c =
     let l = c .before .before .before .before .loop in
     let a = c .before .before .before .before .before .args in
-    next-found (a .words) (a .pairs .now) (a .x) (l .s) (a .from) (l .inv .0) (l .inv .1)
-    (omega (arith, c .before .before .shared-slice-known .given (place (a .words) (a .x) (l .s)))) (c .before .if1 .taken) (a .most) (c .if2 .taken)
+    next-found (a .words) (a .pairs .now) (a .x) (l .s) (a .from) (l .inv .1)
+    (omega (arith, c .before .before .shared-slice-known .given (place (a .words) (a .x) (l .s)))) (c .before .if1 .taken) (a .most) (l .inv .0) (c .if2 .taken)
 
 returns-2 : tie.Need-returns-2 Inv-loop μ-loop
 returns-2 c =
     let l = c .before .before .before .before .loop in
     let a = c .before .before .before .before .before .args in
-    next-over (a .words) (a .pairs .now) (a .x) (l .s) (a .from) (l .inv .0) (l .inv .1)
+    next-over (a .words) (a .pairs .now) (a .x) (l .s) (a .from) (l .inv .1)
     (omega (arith, c .before .before .shared-slice-known .given (place (a .words) (a .x) (l .s)))) (c .before .if1 .taken) (a .most) (omega arith) (omega (arith, c .if2 .left))
 
 add-s : tie.Need-add-s Inv-loop μ-loop
@@ -71,7 +71,7 @@ loop-again : tie.Need-loop-again Inv-loop μ-loop
 loop-again c =
     let l = c .before .before .before .loop in
     let a = c .before .before .before .before .args in
-    (omega arith, passed-word (a .words) (a .pairs .now) (a .x) (l .s) (a .from) (l .inv .0) (l .inv .1) (c .if1 .left))
+    (omega arith, passed-word (a .words) (a .pairs .now) (a .x) (l .s) (a .from) (l .inv .1) (c .if1 .left))
 
 returns-3 : tie.Need-returns-3 Inv-loop μ-loop
 returns-3 c =
