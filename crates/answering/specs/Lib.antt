@@ -18,6 +18,9 @@ pub mod Demand3
 pub mod TableSteps
 pub mod Cleared
 pub mod Links
+pub mod LinkAt
+pub mod LinkReading
+pub mod LinkView
 pub mod Pairs
 pub mod NextState
 pub mod Search

@@ -1,6 +1,8 @@
 -- The steps of the search (Search): one state over one link, one link from all states taken, all links of a recording.
 use Prim.Native.Nat.{ℕ, suc, _+_, _*_, _/_, _≤_, _<_}
+use mathlib.Core.Bool.{true, false}
 use mathlib.Core.List.{List, _∷_}
+use mathlib.Core.Logic.{inl, inr}
 use mathlib.Core.Path.{_≡_, refl, sym, ap, _∙_, subst, subst₂}
 use native.Mathlib.Decide.{ℕ-discrete, decLt}
 use native.Mathlib.Numerals.{add-one, add-two}
@@ -9,7 +11,10 @@ use lib.ListN.{length, getD}
 use Rattle.theory.specs.Graph as G
 use Rattle.theory.specs.Graph.{Table, Linked}
 use Rattle.answering.specs.TableLaws.{linked-at}
-use Rattle.answering.specs.Links.{leaves, SortedByFrom, FirstLink}
+use Rattle.answering.specs.Links.{leaves, SortedByFrom}
+use Rattle.answering.specs.LinkAt.{linkAt, placeAfter, FirstLeaving}
+use Rattle.answering.specs.LinkReading.{Reading, Ended, first-place, next-place, reading-leaves, reading-ended}
+use Rattle.answering.specs.declared.links.Link.{Link}
 use Rattle.answering.specs.Pairs.{Has}
 use Rattle.answering.specs.Search.{Ready, Grown, Added, nextIn, ByState, StateFollowed, ByLink, Reached, LinkFollowed, ByLinks}
 use Rattle.answering.specs.Search.{LinksFollowed}
@@ -96,19 +101,19 @@ linked-triple t i h =
     subst₂ (λ m n. Linked t (getD t (3 * i) 0) (getD t m 0) (getD t n 0)) (sym (add-one (3 * i))) (sym (add-two (3 * i))) (linked-at t i h)
 
 module _ {w N : ℕ} {moves : List ℕ} {stride states : ℕ} {table : Table} {x : ℕ} {taken : List ℕ} {n : ℕ} {R P : List ℕ} {h : ℕ} where
-  pub links-none : {i : ℕ} {S : List ℕ} → Ready w N R P S h → FirstLink table x i
-      → LinksGoing w N moves stride states table x taken n i R P h R P S h
+  pub links-none : {link : Link} {S : List ℕ} → Ready w N R P S h → FirstLeaving table x link
+      → LinksGoing w N moves stride states table x taken n (link .at) R P h R P S h
   links-none r f = record {
     grown = grown-none (ByLinks moves stride states table N x taken n) r;
-    all = λ sorted k l e. absurd (omega (arith, f .before sorted k l));
+    all = λ sorted k l e. absurd (omega (arith, f .begins .before sorted k (omega (arith, l, first-place f))));
   }
 
-  pub links-next : {i a y : ℕ} {R' P' S' R'' P'' S'' : List ℕ} {h' h'' : ℕ} → i < length table / 3 → leaves table i ≡ x
+  link-followed : {i a y : ℕ} {R' P' S' R'' P'' S'' : List ℕ} {h' h'' : ℕ} → i < length table / 3 → leaves table i ≡ x
       → a ≡ getD table (3 * i + 1) 0 → y ≡ getD table (3 * i + 2) 0
       → LinksGoing w N moves stride states table x taken n i R P h R' P' S' h'
       → LinkFollowed w N moves stride states taken n a y R' P' h' R'' P'' S'' h''
       → LinksGoing w N moves stride states table x taken n (i + 1) R P h R'' P'' S'' h''
-  links-next {i} {a} {y} {R'} {P'} {S'} {R''} {P''} {S''} l e ea ey g f = record {
+  link-followed {i} {a} {y} {R'} {P'} {S'} {R''} {P''} {S''} l e ea ey g f = record {
     grown = grown-then (g .grown) (f .grown) (λ z t b. by z t b);
     all = λ sorted k b d c m. reach sorted k b (ℕ-discrete k i) d c m;
   }
@@ -131,8 +136,18 @@ module _ {w N : ℕ} {moves : List ℕ} {stride states : ℕ} {table : Table} {x
           (f .all (subst (λ a. a < stride) qa c) (subst (λ y. y < N) qy m))
       reach sorted k b (no q) d c m = λ j o u. f .grown .kept _ _ (g .all sorted k (omega arith) d c m j o u)
 
+  pub links-next : {link next : Link} {R' P' S' R'' P'' S'' : List ℕ} {h' h'' : ℕ} → Reading table x link → link .leaves ≡ true
+      → next ≡ linkAt table (placeAfter table (link .at)) x
+      → LinksGoing w N moves stride states table x taken n (link .at) R P h R' P' S' h'
+      → LinkFollowed w N moves stride states taken n (link .label) (link .end) R' P' h' R'' P'' S'' h''
+      → LinksGoing w N moves stride states table x taken n (next .at) R P h R'' P'' S'' h''
+  links-next {link} {next} {R'} {P'} {S'} {R''} {P''} {S''} {h'} {h''} r e read g f =
+      let l = reading-leaves r e in
+      subst (λ i. LinksGoing w N moves stride states table x taken n i R P h R'' P'' S'' h'') (sym (next-place r e read))
+      (link-followed (l .within) (l .from) (l .label) (l .end) g f)
+
   -- The links of x have come to an end: the table has, or the next link leaves a later recording.
-  pub links-done : {i : ℕ} {R' P' S' : List ℕ} {h' : ℕ}
+  links-done : {i : ℕ} {R' P' S' : List ℕ} {h' : ℕ}
       → (SortedByFrom table → (k : ℕ) → i ≤ k → 3 * k + 2 < length table → ¬ (leaves table k ≡ x))
       → LinksGoing w N moves stride states table x taken n i R P h R' P' S' h'
       → LinksFollowed w N moves stride states table x taken n R P h R' P' S' h'
@@ -150,13 +165,17 @@ module _ {w N : ℕ} {moves : List ℕ} {stride states : ℕ} {table : Table} {x
               (g .all sorted k b d (subst (λ a. a < stride) (sym ea) c) (subst (λ y. y < N) (sym ey) m))
           go (no b) = absurd (no-more sorted k (omega arith) l d)
 
-  pub links-ended : {i : ℕ} {R' P' S' : List ℕ} {h' : ℕ} → length table / 3 ≤ i
-      → LinksGoing w N moves stride states table x taken n i R P h R' P' S' h'
+  pub links-ended : {link : Link} {R' P' S' : List ℕ} {h' : ℕ} → Reading table x link → link .leaves ≡ false
+      → LinksGoing w N moves stride states table x taken n (link .at) R P h R' P' S' h'
       → LinksFollowed w N moves stride states table x taken n R P h R' P' S' h'
-  links-ended l = links-done (λ sorted k b d e. omega arith)
-
-  pub links-left : {r i : ℕ} {R' P' S' : List ℕ} {h' : ℕ} → FirstLink table x r → r ≤ i → i < length table / 3 → ¬ (leaves table i ≡ x)
-      → LinksGoing w N moves stride states table x taken n i R P h R' P' S' h'
-      → LinksFollowed w N moves stride states table x taken n R P h R' P' S' h'
-  links-left {r} {i} f b l d =
-      links-done (λ sorted k c m e. d (let p = f .from sorted i b l in let q = sorted i k c m in omega arith))
+  links-ended {link} {R'} {P'} {S'} {h'} r e = go (reading-ended r e)
+    where
+      go : Ended table x link → LinksGoing w N moves stride states table x taken n (link .at) R P h R' P' S' h'
+          → LinksFollowed w N moves stride states table x taken n R P h R' P' S' h'
+      go (inl b) = links-done (λ sorted k c m d. omega arith)
+      go (inr (l, d)) =
+          links-done (λ sorted k c m q. d (
+          let p = r .begins .from sorted (link .at) (r .onward) l in
+          let s = sorted (link .at) k c m in
+          omega arith
+          ))

@@ -1,6 +1,7 @@
 // Answers over lent tables: whether a table is one, where a recording's links begin, what a search reaches, and its marks; and both answers
 // on job texts.
 mod clear;
+mod link_view;
 mod links;
 mod links_core;
 mod links_operation;

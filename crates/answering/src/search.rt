@@ -1,11 +1,13 @@
 // What a machine reaches over a table, from one recording: all pairs of a recording and a state.
 use super::clear::clear_words;
-use super::links::first_link;
+use super::link_view::first_leaving;
+use super::link_view::next_leaving;
 use super::pairs::any_from;
 use super::pairs::has;
 use super::pairs::list_states;
 use super::pairs::put;
 use super::pairs::zero_from;
+use super::table::index;
 ghost use mathlib.Core.Path.{_≡_};
 ghost use Prim.Native.Nat.{_+_, _*_, _≤_, _<_};
 ghost use lib.ListN.{length};
@@ -20,13 +22,6 @@ struct Sizes {
     states: usize,
     words: usize,
     recordings: usize,
-}
-
-// A lent number as an index.
-fn index(number: u16) -> usize
-    ensures { λ r. ⌜ r ≡ number ⌝ }
-{
-    number as usize
 }
 
 // The pair of y and t is added to what is reached and to what is pending, unless it was reached before; and y to the stack, unless
@@ -137,17 +132,23 @@ fn follow_links(
         (now (table .entry)) x (now (taken .entry)) n
         (now (reached .entry)) (now (pending .entry)) height (now (reached .exit)) (now (pending .exit)) (now (stack .exit)) r ⌝ }
 {
-    let links = table.len() / 3;
+    let from = x as u64;
     let mut top = height;
-    let mut i = first_link(table, x as u64);
-    while i < links {
-        if index(table[3 * i]) != x {
-            return top;
-        }
-        let a = index(table[3 * i + 1]);
-        let y = index(table[3 * i + 2]);
-        top = follow_link(moves, sizes, taken, n, a, y, reached, pending, stack, top);
-        i += 1;
+    let mut link = first_leaving(table, from);
+    while link.leaves {
+        top = follow_link(
+            moves,
+            sizes,
+            taken,
+            n,
+            link.label,
+            link.end,
+            reached,
+            pending,
+            stack,
+            top,
+        );
+        link = next_leaving(table, link.at, from);
     }
     top
 }

@@ -15,6 +15,13 @@ pub(super) fn wide(number: u16) -> u64
     number as u64
 }
 
+// A lent number as an index.
+pub(super) fn index(number: u16) -> usize
+    ensures { λ r. ⌜ r ≡ number ⌝ }
+{
+    number as usize
+}
+
 // Whether the triple's ends are below the number of recordings and its label below the number of symbols.
 fn in_range(table: &[u16], i: usize, recordings: u64, symbols: u64) -> bool
     requires { ⌜ i + 2 < length (now table) ⌝ }

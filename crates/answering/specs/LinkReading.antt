@@ -1,0 +1,86 @@
+-- The links of a recording are read one after the other: the link read stands at the first triple that leaves the recording or a later one,
+-- or behind it.
+use Prim.Native.Nat.{ℕ, _*_, _+_, _/_, _≤_, _<_}
+use mathlib.Core.Bool.{true, false, false≢true}
+use mathlib.Core.Logic.{_⊎_, inl, inr}
+use mathlib.Core.Path.{_≡_, sym, ap, _∙_}
+use native.Mathlib.Decide.{ℕ-discrete, decLt}
+use native.Mathlib.Omega.{arith}
+use lib.ListN.{length, getD}
+use Rattle.theory.specs.Graph.{Table}
+use Rattle.answering.specs.Links.{leaves, FirstLink}
+use Rattle.answering.specs.LinkAt.{linkAt, placeAfter, FirstLeaving, place-next, link-place, link-there, link-beyond, link-other}
+use Rattle.answering.specs.declared.links.Link.{Link}
+
+pub record Reading (t : Table) (x : ℕ) (link : Link) : Type 0 where
+  pub first : ℕ
+  pub begins : FirstLink t x first
+  pub onward : first ≤ link .at
+  pub reads : link ≡ linkAt t (link .at) x
+
+-- A link of x stands at its place, and this is it.
+pub record Leaves (t : Table) (x : ℕ) (link : Link) : Type 0 where
+  pub within : link .at < length t / 3
+  pub from : leaves t (link .at) ≡ x
+  pub label : link .label ≡ getD t (3 * link .at + 1) 0
+  pub end : link .end ≡ getD t (3 * link .at + 2) 0
+
+-- No link of x stands at its place.
+abbrev pub Ended : Table → ℕ → Link → Type 0
+Ended t x link = (length t / 3 ≤ link .at) ⊎ ((link .at < length t / 3) × ¬ (leaves t (link .at) ≡ x))
+
+module _ {t : Table} {x : ℕ} {link : Link} where
+  pub first-place : (f : FirstLeaving t x link) → link .at ≡ f .first
+  first-place f = ap (λ l. l .at) (f .reads) ∙ link-place t (f .first) x
+
+  pub reading-first : FirstLeaving t x link → Reading t x link
+  reading-first f = record {
+    first = f .first;
+    begins = f .begins;
+    onward = omega (arith, first-place f);
+    reads = f .reads ∙ ap (λ i. linkAt t i x) (sym (first-place f));
+  }
+
+  module _ (r : Reading t x link) where
+    told-by : Leaves t x link ⊎ Ended t x link → (link .leaves ≡ true → Leaves t x link) × (link .leaves ≡ false → Ended t x link)
+    told-by (inl h) =
+        let same = r .reads ∙ link-there t (link .at) x (h .within) (h .from) in
+        (λ e. h, λ e. absurd (false≢true (sym e ∙ ap (λ l. l .leaves) same)))
+    told-by (inr (inl h)) =
+        let same = r .reads ∙ link-beyond t (link .at) x h in
+        (λ e. absurd (false≢true (sym (ap (λ l. l .leaves) same) ∙ e)), λ e. inl h)
+    told-by (inr (inr (h, d))) =
+        let same = r .reads ∙ link-other t (link .at) x h d in
+        (λ e. absurd (false≢true (sym (ap (λ l. l .leaves) same) ∙ e)), λ e. inr (h, d))
+
+    cases : Leaves t x link ⊎ Ended t x link
+    cases = go (decLt (link .at) (length t / 3)) (ℕ-discrete (leaves t (link .at)) x)
+      where
+        go : Dec (link .at < length t / 3) → Dec (leaves t (link .at) ≡ x) → Leaves t x link ⊎ Ended t x link
+        go (no h) d = inr (inl (omega arith))
+        go (yes h) (no d) = inr (inr (h, d))
+        go (yes h) (yes e) =
+            let same = r .reads ∙ link-there t (link .at) x h e in
+            inl (record { within = h; from = e; label = ap (λ l. l .label) same; end = ap (λ l. l .end) same })
+
+    pub reading-leaves : link .leaves ≡ true → Leaves t x link
+    reading-leaves = told-by cases .0
+
+    pub reading-ended : link .leaves ≡ false → Ended t x link
+    reading-ended = told-by cases .1
+
+    -- The next link is read one place further.
+    module _ {next : Link} (leaving : link .leaves ≡ true) (read : next ≡ linkAt t (placeAfter t (link .at)) x) where
+      one-further : placeAfter t (link .at) ≡ link .at + 1
+      one-further = place-next t (link .at) (reading-leaves leaving .within)
+
+      pub next-place : next .at ≡ link .at + 1
+      next-place = ap (λ l. l .at) read ∙ link-place t (placeAfter t (link .at)) x ∙ one-further
+
+      pub reading-next : Reading t x next
+      reading-next = record {
+        first = r .first;
+        begins = r .begins;
+        onward = omega (arith, r .onward, next-place);
+        reads = read ∙ ap (λ i. linkAt t i x) (one-further ∙ sym next-place);
+      }
