@@ -23,13 +23,12 @@ use Rattle.finding.specs.Find.{Rewriting, Found, found, find, rowWidth, refused
 use Rattle.finding.specs.Outcome.{left, leftBy}
 use Rattle.finding.specs.WrittenLaws.{written-read}
 use Rattle.finding.specs.Operation.{outcome, leftByReading, long-buffers}
-use Rattle.verdict.specs.VerdictJob.{verdictJob}
 use Rattle.output.specs.Decimal.{decimal}
 use Rattle.output.specs.Put.{Writing, puts, puts-then}
 use Rattle.printing.specs.Lines.{statesWord, refusalLine, countLine, sign, nexts, row, rows, firstLine, rewritingLines}
 use Rattle.printing.specs.Told.{wordTold, rewritingTold}
 use Rattle.finding.specs.FoundSizes.{job-sizes}
-use Rattle.printing.specs.Printed.{printedAllowance, verdictLines, printedFound, printedReading, printed}
+use Rattle.printing.specs.Printed.{judgedAt, verdictLines, printedFound, printedReading, printedAt}
 use Rattle.printing.specs.Printing.{VerdictPut, JobPut}
 
 clash : {A : Type 0} → _≡_ {A = ℕ} 0 1 → A
@@ -72,34 +71,35 @@ word-told (some w) = ap some (take-at w _ (length w) refl)
 
 module _ (text : Bytes) (table flags : List ℕ) (wide : length table ≡ 4096) (long : length flags ≡ 256) (a : FindAnswer)
     (table′ flags′ : List ℕ) (told : left a table′ flags′ ≡ outcome text table flags) (names : List ℕ) (places : length names ≡ 96)
-    (labels lists : ℕ) (w v : Writing) where
+    (labels lists allowance : ℕ) (w v : Writing) where
   -- What Find leaves for a job.
   job-left : (J : NamedJob) → read text ≡ job J → left a table′ flags′ ≡ leftBy (find (jobOf J)) table flags
   unfolding leftByReading
   job-left J e =
       told ∙ (long-buffers text table flags (omega arith) (omega arith) ∙ ap (λ x. leftByReading x table flags) e)
 
-  printed-job : (J : NamedJob) → read text ≡ job J → printed text ≡ printedFound J (find (jobOf J))
-  unfolding printed printedReading
-  printed-job J e = ap printedReading e
+  printed-job : (J : NamedJob) → read text ≡ job J → printedAt allowance text ≡ printedFound allowance J (find (jobOf J))
+  unfolding printedAt printedReading
+  printed-job J e = ap (printedReading allowance) e
 
   -- By what Find gives for the job.
   of-finding : ((J : NamedJob) → read text ≡ job J → namesAt text (take (2 * labels) names) ≡ J .labels
       → namesAt text (take (2 * lists) (drop listsFrom names)) ≡ J .listNames
-      → (x : Found) → find (jobOf J) ≡ x → left a table′ flags′ ≡ leftBy x table flags → v ≡ puts w (printedFound J x))
-      → JobPut text names labels lists w v
+      → (x : Found) → find (jobOf J) ≡ x → left a table′ flags′ ≡ leftBy x table flags → v ≡ puts w (printedFound allowance J x))
+      → JobPut text names labels lists allowance w v
   of-finding h =
       record {
         told = λ J e n k. h J e n k (find (jobOf J)) refl (job-left J e) ∙ ap (puts w) (sym (printed-job J e));
       }
 
-  pub unfound-put : (r : Refusal) (m : ℕ) → a .finding ≡ Unfound r m → v ≡ puts w (refusalLine r m) → JobPut text names labels lists w v
+  pub unfound-put : (r : Refusal) (m : ℕ) → a .finding ≡ Unfound r m → v ≡ puts w (refusalLine r m)
+      → JobPut text names labels lists allowance w v
   unfolding leftBy printedFound
   unfound-put r m e wrote = of-finding there
     where
       there : (J : NamedJob) → read text ≡ job J → namesAt text (take (2 * labels) names) ≡ J .labels
           → namesAt text (take (2 * lists) (drop listsFrom names)) ≡ J .listNames
-          → (x : Found) → find (jobOf J) ≡ x → left a table′ flags′ ≡ leftBy x table flags → v ≡ puts w (printedFound J x)
+          → (x : Found) → find (jobOf J) ≡ x → left a table′ flags′ ≡ leftBy x table flags → v ≡ puts w (printedFound allowance J x)
       there J p n k (found R) q b =
           let c : Unfound r m ≡ Told (R .standings) (R .states) = sym e ∙ ap (λ o. o .answer .finding) b in
           clash (cc)
@@ -113,7 +113,7 @@ module _ (text : Bytes) (table flags : List ℕ) (wide : length table ≡ 4096) 
   pub found-put : (m n : ℕ) {u : Writing} (listed labelled : List ℕ) → a .finding ≡ Told m n
       → listed ≡ take (2 * lists) (take (length names - listsFrom) (drop listsFrom names)) → labelled ≡ take (2 * labels) names
       → (length listed ≤ 32 → n ≤ 256 → u ≡ puts w (rewritingLines (namesAt text listed) (rewritingTold m n table′ flags′ (a .first))))
-      → VerdictPut text labelled u v → JobPut text names labels lists w v
+      → VerdictPut text labelled allowance u v → JobPut text names labels lists allowance w v
   unfolding leftBy printedFound rewritingLines
   found-put m n {u} listed labelled e l k wrote judged = of-finding there
     where
@@ -131,7 +131,7 @@ module _ (text : Bytes) (table flags : List ℕ) (wide : length table ≡ 4096) 
 
       there : (J : NamedJob) → read text ≡ job J → namesAt text (take (2 * labels) names) ≡ J .labels
           → namesAt text (take (2 * lists) (drop listsFrom names)) ≡ J .listNames
-          → (x : Found) → find (jobOf J) ≡ x → left a table′ flags′ ≡ leftBy x table flags → v ≡ puts w (printedFound J x)
+          → (x : Found) → find (jobOf J) ≡ x → left a table′ flags′ ≡ leftBy x table flags → v ≡ puts w (printedFound allowance J x)
       there J p f g (unfound r) q b =
           let c : Told m n ≡ Unfound r 0 = sym e ∙ ap (λ o. o .answer .finding) b in
           clash (cc)
@@ -146,5 +146,5 @@ module _ (text : Bytes) (table flags : List ℕ) (wide : length table ≡ 4096) 
           ∙ same-lines (J .listNames) m n table′ flags′ (a .first) R i s
           (λ j. ap (λ o. getD (o .table) j 0) b ∙ written-read 4096 (R .table) table j wide)
           (λ j. ap (λ o. getD (o .flags) j 0) b ∙ written-read 256 (R .flags) flags j long) word in
-          puts-then w (rewritingLines (J .listNames) R) (verdictLines (J .labels) (verdictJob (jobOf J) printedAllowance))
+          puts-then w (rewritingLines (J .listNames) R) (verdictLines (J .labels) (judgedAt allowance (jobOf J)))
           (lines ∙ ap (puts w) whole) (judged .told J p (ap (namesAt text) k ∙ f))

@@ -1,5 +1,5 @@
--- How long the lines of the printed form are, for numbers below a thousand and names of at most 16 bytes.
-use Prim.Native.Nat.{ℕ, zero, suc, _+_, _*_, _≤_, _<_}
+-- How long the lines of the printed form are, for names of at most 16 bytes.
+use Prim.Native.Nat.{ℕ, zero, suc, _+_, _*_, _^_, _≤_, _<_}
 use mathlib.Core.List.{List, [], _∷_, _++_}
 use mathlib.Core.Option.{Option, some, none}
 use mathlib.Core.Path.{_≡_, refl, ap}
@@ -42,9 +42,9 @@ refusal-length r m h =
       place-length m h,
     )
 
-pub count-length : (word : Bytes) (n : ℕ) → n < 1000 → length (countLine word n) ≤ length word + 4
+pub count-length : (k : ℕ) (word : Bytes) (n : ℕ) → n < 10 ^ suc k → length (countLine word n) ≤ length word + k + 2
 unfolding countLine
-count-length word n h = omega (arith, line-length (word ++ decimal n), length-append word (decimal n), decimal-length 2 n h)
+count-length k word n h = omega (arith, line-length (word ++ decimal n), length-append word (decimal n), decimal-length k n h)
 
 -- Names, each after a space.
 module _ (names : List Bytes) (short : ShortNames names) where

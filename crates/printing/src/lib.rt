@@ -7,3 +7,4 @@ mod printer;
 mod rows;
 
 pub use printer::print;
+pub use printer::print_at;

@@ -44,7 +44,7 @@ put-found-requires : tie.Need-put-found-requires
 put-found-requires c κs = search needs
 
 put-verdict-requires : tie.Need-put-verdict-requires
-put-verdict-requires c κs = search needs
+put-verdict-requires c κs = c .before .before .before .before .before .before .before .before .before .before .before .before .before .before .before .before .before .before .before .before .before .before .before .before .before .before .pre
 
 enum-known-finding-2 : tie.Need-enum-known-finding-2
 enum-known-finding-2 c = search needs
@@ -55,28 +55,34 @@ put-refusal-requires c κs = search needs
 same-length : tie.Need-same-length
 same-length c = search needs
 
+same-length-2 : tie.Need-same-length-2
+same-length-2 c = search needs
+
+same-length-3 : tie.Need-same-length-3
+same-length-3 c = search needs
+
 returns : tie.Need-returns
 returns c =
-    let named = c .before .before .before .before .before .before .before .before .before .before in
+    let named = c .before .before .before .before .before .before .before .before .before .before .before .before .before .before .before .before in
     let matched = named .before .before .before .before in
     let found = matched .before .before .before .before .before in
     let f = found .find in
-    let a = found .before .before .before .before .before .before .args in
+    let a = found .before .before .before .before .before .before .before .before .args in
     found-put (a .text .now) _ _ refl refl (f .result) (f .last .1 .0) (f .last .1 .1 .0) (f .ensures) (a .names .now) (omega (arith, found .before .before .before .all .given .0))
-    (a .labels) (a .lists) (writing (a .out .now) 0) _ _ _ _ _ (matched .finding .given .1) (named .before .first-names .ensures) (named .first-names2 .ensures)
-    (c .before .before .before .before .before .before .put-found .ensures) (c .before .before .put-verdict .ensures)
+    (a .labels) (a .lists) (a .allowance) (writing (a .out .now) 0) _ _ _ _ _ (matched .finding .given .1) (named .before .first-names .ensures) (named .first-names2 .ensures)
+    (c .before .before .before .before .before .before .before .before .before .before .before .before .put-found .ensures) (c .before .before .before .before .before .before .put-verdict .ensures)
 
-same-length-2 : tie.Need-same-length-2
-same-length-2 c = search needs
+same-length-4 : tie.Need-same-length-4
+same-length-4 c = search needs
 
 returns-2 : tie.Need-returns-2
 returns-2 c =
     let matched = c .before .before .before .before .before in
     let found = matched .before .before .before .before .before in
     let f = found .find in
-    let a = found .before .before .before .before .before .before .args in
+    let a = found .before .before .before .before .before .before .before .before .args in
     unfound-put (a .text .now) _ _ refl refl (f .result) (f .last .1 .0) (f .last .1 .1 .0) (f .ensures) (a .names .now) (omega (arith, found .before .before .before .all .given .0))
-    (a .labels) (a .lists) (writing (a .out .now) 0) _ _ _ (matched .finding2 .given .1) (c .before .before .put-refusal .ensures)
+    (a .labels) (a .lists) (a .allowance) (writing (a .out .now) 0) _ _ _ (matched .finding2 .given .1) (c .before .before .put-refusal .ensures)
 
 pub put-job-spec : {M : Type 1} → statement M
 put-job-spec =
@@ -98,6 +104,8 @@ put-job-spec =
     enum-known-finding-2
     put-refusal-requires
     same-length
-    returns
     same-length-2
+    same-length-3
+    returns
+    same-length-4
     returns-2)
