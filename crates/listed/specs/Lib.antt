@@ -1,2 +1,6 @@
+-- P1 to P8.
 pub mod Cases
 pub mod CasesHold
+-- The texts of all listed cases.
+pub mod Texts
+pub mod TextsLaws

@@ -43,6 +43,12 @@ unfolding puts put
 length-puts w [] = refl
 length-puts w (b ∷ t) = length-puts (put w b) t ∙ length-set (w .out) (w .at) b
 
+-- No write moves the place past the buffer's end.
+pub puts-within : (w : Writing) (bytes : List ℕ) → w .at ≤ length (w .out) → puts w bytes .at ≤ length (puts w bytes .out)
+unfolding puts put
+puts-within w [] h = h
+puts-within w (b ∷ t) h = puts-within (put w b) t (omega (arith, length-set (w .out) (w .at) b))
+
 -- Where there is room, all bytes are stored, one by one.
 puts-sets : (out : List ℕ) (at : ℕ) (bytes : List ℕ) → at + length bytes ≤ length out
     → puts (writing out at) bytes ≡ writing (sets out at bytes) (at + length bytes)
