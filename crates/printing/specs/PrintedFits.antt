@@ -100,7 +100,7 @@ printed-fits allowance text = by-reading (read text) refl
         omega (
           arith,
           length-append (rewritingLines (J .listNames) R) (verdictLines (J .labels) (judgedAt allowance (jobOf J))),
-          rewriting-length (J .listNames) (f .short-list-names) (f .few-lists) R (found-small (jobOf J) R q),
+          rewriting-length (J .listNames) (f .short-list-names) (f .few-lists) _ R (job-sizes (jobOf J) R q),
           judged-length allowance J f,
         )
 
