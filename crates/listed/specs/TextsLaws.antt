@@ -5,7 +5,7 @@ use mathlib.Core.Path.{_≡_, refl, sym, ap, _∙_}
 use native.Mathlib.Omega.{arith}
 use lib.ListN.{length}
 use Rattle.syntax.specs.Byte.{Bytes}
-use Rattle.output.specs.Put.{Writing, puts, puts-then, puts-append}
+use Rattle.output.specs.Put.{Writing, puts, puts-then}
 use Rattle.listed.specs.declared.texts.Listed.{Listed}
 use Rattle.listed.specs.Cases.{Case, p7, cases}
 use Rattle.listed.specs.Texts.{textAt, provedText, repeated, letter, dotLetter, sequenceOf, sequenceText, optionalText, textOf}

@@ -49,6 +49,11 @@ unfolding puts put
 puts-within w [] h = h
 puts-within w (b ∷ t) h = puts-within (put w b) t (omega (arith, length-set (w .out) (w .at) b))
 
+pub ends-within : (w : Writing) (bytes : List ℕ) {out : List ℕ} {at : ℕ} → w .at ≤ length (w .out) → writing out at ≡ puts w bytes
+    → at ≤ length out
+ends-within w bytes h e =
+    omega (arith, puts-within w bytes h, ap (λ (u : Writing). u .at) e, ap (λ (u : Writing). length (u .out)) e)
+
 -- Where there is room, all bytes are stored, one by one.
 puts-sets : (out : List ℕ) (at : ℕ) (bytes : List ℕ) → at + length bytes ≤ length out
     → puts (writing out at) bytes ≡ writing (sets out at bytes) (at + length bytes)

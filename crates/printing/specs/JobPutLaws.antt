@@ -3,7 +3,7 @@
 use Prim.Native.Nat.{ℕ, zero, suc, _+_, _*_, _-_, _≤_}
 use mathlib.Core.List.{List, [], _∷_, _++_}
 use mathlib.Core.Option.{Option, some, none}
-use mathlib.Core.Path.{_≡_, refl, sym, ap, ap₂, _∙_, subst}
+use mathlib.Core.Path.{_≡_, refl, sym, ap, ap₂, _∙_}
 use native.Mathlib.Omega.{arith}
 use lib.ListN.{length, getD, take, drop, length-take, length-drop}
 use lib.Seq.{take-at, take-length}
@@ -13,7 +13,7 @@ use Rattle.syntax.specs.Byte.{Bytes}
 use Rattle.syntax.specs.Resolve.{namesAt}
 use Rattle.reading.specs.Text.{space, queryWord, line}
 use Rattle.reading.specs.JobText.{NamedJob, jobOf}
-use Rattle.reading.specs.Read.{Reading, job, refused, read}
+use Rattle.reading.specs.Read.{job, read}
 use Rattle.reading.specs.Tables.{listsFrom}
 use Rattle.finding.specs.declared.answer.FindAnswer.{FindAnswer}
 use Rattle.finding.specs.declared.answer.Finding.the-variants.{Found as Told, Refused as Unfound}

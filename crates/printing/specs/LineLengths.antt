@@ -1,23 +1,21 @@
 -- How long the lines of the printed form are, for names of at most 16 bytes.
 use Prim.Native.Nat.{ℕ, zero, suc, _+_, _*_, _^_, _≤_, _<_}
 use mathlib.Core.List.{List, [], _∷_, _++_}
-use mathlib.Core.Option.{Option, some, none}
-use mathlib.Core.Path.{_≡_, refl, ap}
+use mathlib.Core.Path.{_≡_, ap}
 use native.Mathlib.Decide.{decLt}
 use native.Mathlib.Omega.{arith}
 use lib.ListN.{length, getD, length-append, List·getD-eq-default}
-use Rattle.theory.specs.Word.{Word}
 use Rattle.syntax.specs.declared.refusal.Refusal.{Refusal}
 use Rattle.syntax.specs.Byte.{Bytes}
 use Rattle.syntax.specs.Number.{number}
-use Rattle.reading.specs.Text.{newline, space, queryWord, line}
+use Rattle.reading.specs.Text.{newline, space, line}
 use Rattle.reading.specs.ReadFacts.{ShortNames}
 use Rattle.syntax.specs.NumberLaws.{number-few}
-use Rattle.finding.specs.Find.{Rewriting, rowWidth}
+use Rattle.finding.specs.Find.{rowWidth}
 use Rattle.output.specs.Decimal.{decimal}
 use Rattle.output.specs.DecimalLaws.{decimal-length}
-use Rattle.printing.specs.Lines.{statesWord, firstWord, emptyWord, refusedWord, lineWord, inLine, refusalLine, countLine}
-use Rattle.printing.specs.Lines.{spelled, namedLine, sign, nexts, row, rows, firstLine, rewritingLines}
+use Rattle.printing.specs.Lines.{refusedWord, lineWord, inLine, refusalLine, countLine}
+use Rattle.printing.specs.Lines.{spelled, namedLine, sign, nexts, row, rows}
 
 pub line-length : (s : Bytes) → length (line s) ≡ suc (length s)
 line-length s = omega (arith, length-append s (newline ∷ []))

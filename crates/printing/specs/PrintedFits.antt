@@ -4,7 +4,7 @@ use Prim.Native.Nat.{ℕ, _+_, _*_, _≤_, _<_, min}
 use mathlib.Core.Bool.{Bool, true, false, and-eq-true-iff}
 use mathlib.Core.List.{List, [], _∷_, _++_}
 use mathlib.Core.Option.{Option, some, none}
-use mathlib.Core.Path.{_≡_, refl, subst}
+use mathlib.Core.Path.{_≡_, refl}
 use native.Mathlib.Omega.{arith}
 use borrow.Author.Tests.{leb-true}
 use lib.Dec.{leb}
@@ -23,7 +23,7 @@ use Rattle.verdict.specs.VerdictJob.{verdictJob}
 use Rattle.verdict.specs.VerdictJobLaws.{FewPairs, job-few}
 use Rattle.verdict.specs.VerdictOperation.{allowed}
 use Rattle.printing.specs.Lines.{statesWord, firstWord, emptyWord, missedWord, completeWord, pairsWord}
-use Rattle.printing.specs.Lines.{refusalLine, countLine, namedLine, rows, firstLine, rewritingLines}
+use Rattle.printing.specs.Lines.{countLine, namedLine, rows, firstLine, rewritingLines}
 use Rattle.printing.specs.LineLengths.{refusal-length, count-length, named-length, rows-length}
 use Rattle.finding.specs.FoundSizes.{Sizes, job-sizes}
 use Rattle.printing.specs.Printed.{judgedBy, judgedAt, verdictLines, printedFound, printedReading, printedAt}
