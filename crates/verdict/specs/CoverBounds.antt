@@ -38,7 +38,7 @@ module _ (R : Rewritten) (lists : List Automaton) (w : ℕ) (wide : width lists 
   ends-inside p d = rw (wide, ends, ne-eqb (p % w) 0 d) (rw wide)
 
 -- The places of a state, below those of all states.
-state-places : (w s q : ℕ) → q < s → w + w * q ≤ s * w
+pub state-places : (w s q : ℕ) → q < s → w + w * q ≤ s * w
 state-places w s q h = omega (arith, mul-le-mul-right w h, mul-comm (suc q) w, mul-suc w q)
 
 pub state-of-place : (w s p : ℕ) → 0 < w → p < s * w → p / w < s

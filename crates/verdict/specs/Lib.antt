@@ -25,6 +25,10 @@ pub mod CoverTold
 pub mod CoverLoops
 pub mod CoverBounds
 pub mod CoverWalk
+pub mod Rows
+pub mod RowsLaws
+pub mod RowsTurns
+pub mod RowSteps
 pub mod Frontier
 pub mod CoverRounds
 pub mod CoverStepped

@@ -4,23 +4,16 @@ ghost use Prim.Native.Nat.{_+_, _*_, _≤_, _<_};
 ghost use mathlib.Core.Path.{_≡_};
 ghost use lib.ListN.{length};
 ghost use Rattle.verdict.specs.Tables.{Counted};
-ghost use Rattle.verdict.specs.CoverSteps.{stepAt};
 ghost use Rattle.verdict.specs.CoverLoops.{endAt};
 ghost use Rattle.verdict.specs.CoverTold.{Gains, Moving, Entered, MovedWithin, Moves, Moved, Ending, Passed, Finished, Ends, Round, Settled};
 ghost use Rattle.verdict.specs.CoverTold.{WidthTold, ReadyTold, StartTold, StepTold};
+use crate::rows::all_steps;
+use crate::rows::moved_rows;
+use crate::rows::step_at;
 use places::Places;
 use places::wide::Wide;
 use places::words::add_shifted;
 use places::words::next_place;
-
-// The places that the label a leads to from the place o of the list v.
-fn step_at(follow: &[u64], enter: &[u64], v: usize, o: usize, a: usize) -> u64
-    requires { ⌜ (v < 16) × (o < 64) × (a < 32) × (64 * v + 128 ≤ length (now follow)) × (32 * v + 64 ≤ length (now enter)) ⌝ }
-    ensures { λ r. ⌜ r ≡ stepAt (now (follow .entry)) (now (enter .entry)) v o a ⌝ }
-{
-    let x = v + 1;
-    follow[64 * x + o] & enter[32 * x + a]
-}
 
 // Adds the places that the label a enters, from the start of each list, behind the place `from` of a state alone.
 fn entered(
@@ -103,7 +96,7 @@ fn moves(
 }
 
 // The cover places that the label a leads to from the first `count` places, those that are in the set.
-fn moved(
+fn moved_by_places(
     follow: &[u64],
     enter: &[u64],
     sizes: &[u64],
@@ -124,6 +117,32 @@ fn moved(
         p = next_place(&places, p + 1);
     }
     Wide { words }
+}
+
+// The cover places that the label a leads to from the places of a set: by rows where the offsets and the steps from them are of one word.
+fn moved(
+    follow: &[u64],
+    enter: &[u64],
+    sizes: &[u64],
+    lists: usize,
+    a: usize,
+    w: u64,
+    states: u64,
+    set: Wide,
+) -> Wide
+    requires { ⌜ Moving lists a (now follow) (now enter) (now sizes) w × (states * w ≤ 1024) ⌝ }
+    ensures { λ r. ⌜ Moved lists a (now (follow .entry)) (now (enter .entry)) (now (sizes .entry)) (states * w) (set .words) (r .words) ⌝ }
+{
+    if w <= 64 {
+        let mut steps = [0; 64];
+        if all_steps(follow, enter, sizes, lists, a, w, &mut steps) {
+            let places = set.words;
+            let mut words = [0; 16];
+            moved_rows(&steps, &places, w, states, &mut words);
+            return Wide { words };
+        }
+    }
+    moved_by_places(follow, enter, sizes, lists, a, w, states * w, set)
 }
 
 // Adds the state that is reached from the state q where a path of the list v may end at its place o.
@@ -355,6 +374,6 @@ pub fn cover_step(
     if a >= 32 {
         return Wide::EMPTY;
     }
-    let next = moved(follow, enter, sizes, lists, a, w, states * w, set);
+    let next = moved(follow, enter, sizes, lists, a, w, states, set);
     settled(sizes, accepting, table, states, lists, w, next)
 }

@@ -5,5 +5,6 @@ mod index;
 pub mod operation;
 pub mod pairs;
 pub mod path;
+mod rows;
 pub mod verdict;
 pub mod workspace;
