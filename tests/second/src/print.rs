@@ -1,4 +1,4 @@
-//! The printed form: Find, then Verdict with allowance 128.
+//! The printed form: Find, then Verdict, which the program allows 128 pairs.
 
 use crate::find::find_by;
 use crate::read::{read, Refusal};
@@ -13,8 +13,13 @@ pub fn printed(text: &[u8]) -> String {
 }
 
 pub fn printed_by(turn: Turn, text: &[u8]) -> String {
+    printed_at(turn, text, PRINTED_ALLOWANCE)
+}
+
+/// As `printed_by`, with another allowance.
+pub fn printed_at(turn: Turn, text: &[u8], allowance: usize) -> String {
     let mut out = String::new();
-    if let Err(refusal) = print(turn, text, &mut out) {
+    if let Err(refusal) = print(turn, text, allowance, &mut out) {
         match refusal.line {
             0 => out += &format!("refused {}\n", refusal.number),
             line => out += &format!("refused {} line {line}\n", refusal.number),
@@ -23,7 +28,7 @@ pub fn printed_by(turn: Turn, text: &[u8]) -> String {
     out
 }
 
-fn print(turn: Turn, text: &[u8], out: &mut String) -> Result<(), Refusal> {
+fn print(turn: Turn, text: &[u8], allowance: usize, out: &mut String) -> Result<(), Refusal> {
     let refusal = |number| Refusal { number, line: 0 };
     let job = read(text)?;
     let found = find_by(turn, &job).map_err(refusal)?;
@@ -41,7 +46,7 @@ fn print(turn: Turn, text: &[u8], out: &mut String) -> Result<(), Refusal> {
         Some(word) => *out += &named("first", word, |list| &job.lists[list].name),
         None => *out += "empty\n",
     }
-    let verdict = verdict_by(turn, &job, PRINTED_ALLOWANCE).map_err(refusal)?;
+    let verdict = verdict_by(turn, &job, allowance).map_err(refusal)?;
     match &verdict.missed {
         Some(path) => *out += &named("missed", path, |label| &job.labels[label]),
         None => *out += "complete\n",
