@@ -29,6 +29,9 @@ pub mod Rows
 pub mod RowsLaws
 pub mod RowsTurns
 pub mod RowSteps
+pub mod RowEnds
+pub mod RowEndsLaws
+pub mod RowEndsTurns
 pub mod Frontier
 pub mod CoverRounds
 pub mod CoverStepped

@@ -7,6 +7,8 @@ ghost use Rattle.verdict.specs.Tables.{Counted};
 ghost use Rattle.verdict.specs.CoverLoops.{endAt};
 ghost use Rattle.verdict.specs.CoverTold.{Gains, Moving, Entered, MovedWithin, Moves, Moved, Ending, Passed, Finished, Ends, Round, Settled};
 ghost use Rattle.verdict.specs.CoverTold.{WidthTold, ReadyTold, StartTold, StepTold};
+use crate::row_ends::all_ends;
+use crate::row_ends::ended_rows;
 use crate::rows::all_steps;
 use crate::rows::moved_rows;
 use crate::rows::step_at;
@@ -218,8 +220,8 @@ fn ends(
     }
 }
 
-// A set with what the places of `fresh` reach without reading a label, one step far.
-fn round(
+// A set with what the places of `fresh` reach without reading a label, one step far, place by place.
+fn round_by_places(
     sizes: &[u64],
     accepting: &[u64],
     table: &[u16],
@@ -241,6 +243,31 @@ fn round(
         p = next_place(&places, p + 1);
     }
     Wide { words }
+}
+
+// A set with what the places of `fresh` reach without reading a label, one step far: by rows where the offsets are of one word.
+fn round(
+    sizes: &[u64],
+    accepting: &[u64],
+    table: &[u16],
+    states: u64,
+    lists: usize,
+    w: u64,
+    fresh: Wide,
+    set: Wide,
+) -> Wide
+    requires { ⌜ Ending states lists (now sizes) (now accepting) (now table) w ⌝ }
+    ensures { λ r. ⌜ Round lists (now (sizes .entry)) (now (accepting .entry)) (now (table .entry)) (states * w) (fresh .words) (set .words) (r .words) ⌝ }
+{
+    if w <= 64 {
+        let mut ends = [0; 16];
+        all_ends(sizes, accepting, lists, w, &mut ends);
+        let places = fresh.words;
+        let mut words = set.words;
+        ended_rows(&ends, table, states, lists, w, &places, &mut words);
+        return Wide { words };
+    }
+    round_by_places(sizes, accepting, table, states, lists, w, fresh, set)
 }
 
 // A set of cover places with all that is reached from it without reading a label: rounds until nothing is added, each of which follows what

@@ -5,6 +5,7 @@ mod index;
 pub mod operation;
 pub mod pairs;
 pub mod path;
+mod row_ends;
 mod rows;
 pub mod verdict;
 pub mod workspace;

@@ -28,7 +28,7 @@ fn lowest(word: u64, w: u64) -> u64
 }
 
 // The w places of a set from `at` on, as a word.
-fn row_at(words: &[u64], at: u64, w: u64) -> u64
+pub fn row_at(words: &[u64], at: u64, w: u64) -> u64
     requires { ⌜ (length (now words) ≡ 16) × (0 < w) × (w ≤ 64) × (at + w ≤ 1024) ⌝ }
     ensures { λ r. ⌜ r ≡ rowOf (numberOf (now (words .entry))) at w ⌝ }
 {
