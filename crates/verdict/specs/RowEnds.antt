@@ -5,7 +5,7 @@ use mathlib.Core.List.{List}
 use mathlib.Core.Logic.{_↔_, _⊎_}
 use mathlib.Core.Path.{_≡_}
 use lib.Dec.{eqb}
-use lib.ListN.{length, getD}
+use lib.ListN.{getD}
 use Rattle.theory.specs.Places.{Member, none, one, union, intersection, when, unionOver}
 use Rattle.places.specs.Words.{numberOf}
 use Rattle.verdict.specs.Tables.{occupied}
@@ -32,8 +32,11 @@ rowEnds ends table w q row zero = none
 rowEnds ends table w q row (suc v) =
     union (rowEnds ends table w q row v) (reachedIf (intersection row (getD ends v 0)) (w * getD table (16 * q + v) 0))
 
+-- What the places of a state lead to, by `next`, is what its row reaches.
+abbrev pub ByRows : ℕ → List ℕ → List ℕ → ℕ → ℕ → (ℕ → ℕ) → Type 0
+ByRows n ends table w s next =
+    (q : ℕ) → unionOver (λ o. next (w * q + o)) 64 (rowOf s (w * q) w) ≡ rowEnds ends table w q (rowOf s (w * q) w) n
+
 -- `set` becomes `set′`: it gains what the rows of the states reach.
 pub record RowsEnded (n : ℕ) (ends table : List ℕ) (w states : ℕ) (places set set′ : List ℕ) : Type 0 where
-  pub gains : (next : ℕ → ℕ)
-      → ((q : ℕ) → unionOver (λ o. next (w * q + o)) 64 (rowOf (numberOf places) (w * q) w) ≡ rowEnds ends table w q (rowOf (numberOf places) (w * q) w) n)
-      → Gains set (unionOver next (states * w) (numberOf places)) set′
+  pub gains : (next : ℕ → ℕ) → ByRows n ends table w (numberOf places) next → Gains set (unionOver next (states * w) (numberOf places)) set′

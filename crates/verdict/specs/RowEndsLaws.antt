@@ -1,18 +1,18 @@
 -- The laws of ends by rows (RowEnds): the lists that end at an offset are those that the cover's definitions tell.
 use Prim.Native.Nat.{ℕ, zero, suc, _+_, _*_, _-_, _/_, _%_, _^_, _≤_, _<_}
-use mathlib.Core.Bool.{Bool, not, true, false}
+use mathlib.Core.Bool.{Bool, not, true}
 use mathlib.Core.List.{List}
-use mathlib.Core.Logic.{_↔_, _≢_, _⊎_, inl, inr}
+use mathlib.Core.Logic.{_↔_, _⊎_, inl, inr}
 use mathlib.Core.Path.{_≡_, refl, sym, ap, ap₂, _∙_, subst}
-use native.Mathlib.Decide.{decLe, decLt, ℕ-discrete}
+use native.Mathlib.Decide.{decLe, ℕ-discrete}
 use native.Mathlib.Nat.{one-mul, mod-lt}
 use native.Mathlib.Numerals.{add-one}
 use native.Mathlib.Omega.{arith}
-use lib.Bits.{bitAnd, and-mask, and-zero-l, or-zero-r}
+use lib.Bits.{bitAnd, and-mask}
 use lib.Dec.{eqb, lit<}
 use lib.ListN.{length, getD}
 use lib.Pow.{pow-pos, shl-lt, shl-exact}
-use borrow.Author.Tests.{eq-eqb, ne-eqb, eqb-false, not-true}
+use borrow.Author.Tests.{ne-eqb, eqb-false, not-true}
 use Rattle.theory.specs.Automaton.{Automaton}
 use Rattle.theory.specs.Places.{Member, member, one, union, intersection, when, unionOver}
 use Rattle.theory.specs.PlacesLaws.{member-none, member-one, member-test, member-union, member-intersection, member-when, member-unionOver}
@@ -62,7 +62,8 @@ mask size base h = shl-exact 1 size 64 (lit< tt) (omega arith) ∙ one-mul (2 ^ 
 pub offsets-exactly : (accepting size base : ℕ) → base + size < 64
     → OffsetsOf accepting size base
     (union (bitAnd accepting 1) (((bitAnd (accepting / 2) ((1 * 2 ^ size) % 2 ^ 64 - 1) * 2 ^ base) % 2 ^ 64 * 2) % 2 ^ 64))
-offsets-exactly accepting size base h = record { told = λ o. (λ m. there o (member-union o low high .0 m), λ e. member-union o low high .1 (back o e)) }
+offsets-exactly accepting size base h =
+    record { told = λ o. (λ m. there o (member-union o low high .0 m), λ e. member-union o low high .1 (back o e)) }
   where
     low : ℕ
     low = bitAnd accepting 1
@@ -96,13 +97,15 @@ offsets-exactly accepting size base h = record { told = λ o. (λ m. there o (me
 
     back : (o : ℕ) → EndsAt accepting size base o → Member o low ⊎ Member o high
     back o (inl (e, m)) =
-        inl (subst (Member o) (sym (and-mask accepting 1)) (member-cut 1 o accepting .1 (omega arith, subst (λ z. Member z accepting) (sym e) m)))
+        inl (subst (Member o) (sym (and-mask accepting 1))
+        (member-cut 1 o accepting .1 (omega arith, subst (λ z. Member z accepting) (sym e) m)))
     back o (inr (x, p, k, e, m)) =
         let f : x ≡ 1 + (x - 1) = omega arith in
         inr (subst (Member o) (sym high-moved) (member-moved (1 + base) o inner .1 (
           x - 1,
           omega arith,
-          subst (Member (x - 1)) (sym inner-row) (member-row accepting 1 size (x - 1) .1 (omega arith, subst (λ z. Member z accepting) f m)),
+          subst (Member (x - 1)) (sym inner-row)
+              (member-row accepting 1 size (x - 1) .1 (omega arith, subst (λ z. Member z accepting) f m)),
         )))
 
 -- The state that a list leads to where it ends.
@@ -112,7 +115,8 @@ when-one b p y = (
   λ (t, e). member-when b y (one p) .1 (t, member-one y p .1 e),
 )
 
-module _ (follow enter sizes accepting : List ℕ) (n : ℕ) (counted : Counted n sizes) (room : 64 * n + 64 ≤ length follow) (R : Rewritten) (w q y : ℕ) where
+module _ (follow enter sizes accepting : List ℕ) (n : ℕ) (counted : Counted n sizes) (room : 64 * n + 64 ≤ length follow)
+    (R : Rewritten) (w q y : ℕ) where
   -- The lists with the empty path.
   abbrev Passes : ℕ → ℕ → ℕ → Type 0
   Passes u m v = (u ≤ v) × (v < u + m) × Member 0 (getD accepting (v + 1) 0) × (y ≡ w * nextState R q v)
@@ -129,7 +133,8 @@ module _ (follow enter sizes accepting : List ℕ) (n : ℕ) (counted : Counted 
       here = when (member 0 (getD accepting (u + 1) 0)) (one (w * nextState R q u))
 
       side : (Member y (passed R w (automataFrom follow enter sizes accepting (u + 1) m) (u + 1) q) → (v : ℕ) × Passes (u + 1) m v)
-          → Member y here ⊎ Member y (passed R w (automataFrom follow enter sizes accepting (u + 1) m) (u + 1) q) → (v : ℕ) × Passes u (suc m) v
+          → Member y here ⊎ Member y (passed R w (automataFrom follow enter sizes accepting (u + 1) m) (u + 1) q)
+          → (v : ℕ) × Passes u (suc m) v
       side ih (inl k) =
           let (t, e) = when-one (member 0 (getD accepting (u + 1) 0)) (w * nextState R q u) y .0 k in
           (u, (omega arith, omega arith, member-test 0 (getD accepting (u + 1) 0) .0 t, e))
@@ -139,7 +144,8 @@ module _ (follow enter sizes accepting : List ℕ) (n : ℕ) (counted : Counted 
   passed-back u zero v r = let (a, b, c, d) = r in absurd (omega arith)
   passed-back u (suc m) v r =
       subst (Member y) (sym (passed-next follow enter sizes accepting R w u m q))
-      (member-union y here (passed R w (automataFrom follow enter sizes accepting (u + 1) m) (u + 1) q) .1 (side (ℕ-discrete v u) (passed-back (u + 1) m v)))
+      (member-union y here (passed R w (automataFrom follow enter sizes accepting (u + 1) m) (u + 1) q) .1
+      (side (ℕ-discrete v u) (passed-back (u + 1) m v)))
     where
       here : ℕ
       here = when (member 0 (getD accepting (u + 1) 0)) (one (w * nextState R q u))
@@ -148,8 +154,11 @@ module _ (follow enter sizes accepting : List ℕ) (n : ℕ) (counted : Counted 
           → Member y here ⊎ Member y (passed R w (automataFrom follow enter sizes accepting (u + 1) m) (u + 1) q)
       side (yes e) ih =
           let (a, b, c, d) = r in
-          inl (when-one (member 0 (getD accepting (u + 1) 0)) (w * nextState R q u) y .1
-          (member-test 0 (getD accepting (u + 1) 0) .1 (subst (λ z. Member 0 (getD accepting (z + 1) 0)) e c), d ∙ ap (λ z. w * nextState R q z) e))
+          inl (when-one (member 0 (getD accepting (u + 1) 0)) (w * nextState R q u) y .1 (
+            member-test 0 (getD accepting (u + 1) 0) .1 (subst (λ z. Member 0 (getD accepting (z + 1) 0)) e c),
+            d
+                ∙ ap (λ z. w * nextState R q z) e,
+          ))
       side (no e) ih = let (a, b, c, d) = r in inr (ih (omega arith, omega arith, c, d))
 
   -- The list that ends at an occurrence, o being counted from the list u.
@@ -179,7 +188,8 @@ module _ (follow enter sizes accepting : List ℕ) (n : ℕ) (counted : Counted 
           (subst (Member y) (finished-next follow enter sizes accepting n counted room R w u m o q (omega arith) (omega arith)) h) in
           (v, x, (omega arith, omega arith, c, d, omega (arith, occupied-more sizes u), f, g))
 
-  finished-back : (u m o v x : ℕ) → u + m ≤ n → Finishes u m o v x → Member y (finished R w (automataFrom follow enter sizes accepting u m) u o q)
+  finished-back : (u m o v x : ℕ) → u + m ≤ n → Finishes u m o v x
+      → Member y (finished R w (automataFrom follow enter sizes accepting u m) u o q)
   finished-back u zero o v x l r = let (a, b, c, d, e, f, g) = r in absurd (omega arith)
   finished-back u (suc m) o v x l r =
       side (ℕ-discrete v u) (finished-back (u + 1) m (o - getD sizes (u + 1) 0) v x (omega arith))
@@ -195,7 +205,8 @@ module _ (follow enter sizes accepting : List ℕ) (n : ℕ) (counted : Counted 
           let k : o ≤ getD sizes (u + 1) 0 = subst (λ t. o ≤ getD sizes (t + 1) 0) s (omega arith) in
           subst (Member y) (sym (finished-here follow enter sizes accepting n counted room R w u m o q (omega arith) k))
           (when-one (member o (getD accepting (u + 1) 0)) (w * nextState R q u) y .1 (
-            member-test o (getD accepting (u + 1) 0) .1 (subst (λ t. Member o (getD accepting (t + 1) 0)) s (subst (λ t. Member t (getD accepting (v + 1) 0)) z f)),
+            member-test o (getD accepting (u + 1) 0) .1
+                (subst (λ t. Member o (getD accepting (t + 1) 0)) s (subst (λ t. Member t (getD accepting (v + 1) 0)) z f)),
             g ∙ ap (λ t. w * nextState R q t) s,
           ))
       side (no s) ih =
@@ -225,7 +236,8 @@ module _ (follow enter sizes accepting : List ℕ) (n : ℕ) (counted : Counted 
           ends-inside R lists w wide (w * q + o) (λ e. d (sym (offset-of w q o h) ∙ e))
           ∙ ap₂ (finished R w lists 0) (offset-of w q o h) (state-of w q o h)
 
-      start : (v : ℕ) → o ≡ 0 → EndsAt (getD accepting (v + 1) 0) (getD sizes (v + 1) 0) (occupied sizes 0 v) o → Member 0 (getD accepting (v + 1) 0)
+      start : (v : ℕ) → o ≡ 0 → EndsAt (getD accepting (v + 1) 0) (getD sizes (v + 1) 0) (occupied sizes 0 v) o
+          → Member 0 (getD accepting (v + 1) 0)
       start v e (inl (z, m)) = m
       start v e (inr (x, p, k, f, m)) = absurd (omega arith)
 
@@ -286,11 +298,15 @@ module _ (ends table : List ℕ) (w q row y : ℕ) where
       last : ℕ
       last = reachedIf (intersection row (getD ends n 0)) (w * getD table (16 * q + n) 0)
 
-      side : Dec (v ≡ n) → (Reaches n v o → Member y (rowEnds ends table w q row n)) → Member y (rowEnds ends table w q row n) ⊎ Member y last
+      side : Dec (v ≡ n) → (Reaches n v o → Member y (rowEnds ends table w q row n))
+          → Member y (rowEnds ends table w q row n) ⊎ Member y last
       side (yes e) ih =
           let (a, b, c, d) = r in
-          inr (when-one (not (eqb (intersection row (getD ends n 0)) 0)) (w * getD table (16 * q + n) 0) y .1
-          (some-offset row (getD ends n 0) .1 (o, b, subst (λ z. Member o (getD ends z 0)) e c), d ∙ ap (λ z. w * getD table (16 * q + z) 0) e))
+          inr (when-one (not (eqb (intersection row (getD ends n 0)) 0)) (w * getD table (16 * q + n) 0) y .1 (
+            some-offset row (getD ends n 0) .1 (o, b, subst (λ z. Member o (getD ends z 0)) e c),
+            d
+                ∙ ap (λ z. w * getD table (16 * q + z) 0) e,
+          ))
       side (no e) ih = let (a, b, c, d) = r in inl (ih (omega arith, b, c, d))
 
 -- Row by row the cover's definition is met.

@@ -8,7 +8,6 @@ use native.Mathlib.Nat.{mul-comm}
 use native.Mathlib.Numerals.{add-one}
 use native.Mathlib.Omega.{arith}
 use lib.Bits.{and-zero-l, or-zero-r}
-use lib.Dec.{eqb}
 use lib.ListN.{length, getD, set}
 use lib.Seq.{getD-set-same, getD-set-other}
 use borrow.Author.Tests.{eq-eqb}
@@ -22,7 +21,7 @@ use Rattle.verdict.specs.CoverWalk.{Over}
 use Rattle.verdict.specs.CoverLoops.{gains-none}
 use Rattle.verdict.specs.Rows.{rowOf}
 use Rattle.verdict.specs.RowsTurns.{over-row}
-use Rattle.verdict.specs.RowEnds.{OffsetsOf, AllEnds, reachedIf, rowEnds, RowsEnded}
+use Rattle.verdict.specs.RowEnds.{OffsetsOf, AllEnds, reachedIf, rowEnds, ByRows, RowsEnded}
 use Rattle.verdict.specs.RowEndsLaws.{occupied-more, occupied-grows, rows-exactly}
 
 -- The offsets of the lists before v stand.
@@ -52,7 +51,8 @@ ends-turn n sizes accepting ends base v x h k s t =
       done = record { told = λ u l. at u l (ℕ-discrete u v) };
     }
   where
-    at : (u : ℕ) → u < v + 1 → Dec (u ≡ v) → OffsetsOf (getD accepting (u + 1) 0) (getD sizes (u + 1) 0) (occupied sizes 0 u) (getD (set ends v x) u 0)
+    at : (u : ℕ) → u < v + 1 → Dec (u ≡ v)
+        → OffsetsOf (getD accepting (u + 1) 0) (getD sizes (u + 1) 0) (occupied sizes 0 u) (getD (set ends v x) u 0)
     at u l (yes e) =
         rw e (subst (OffsetsOf (getD accepting (v + 1) 0) (getD sizes (v + 1) 0) (occupied sizes 0 v)) (sym (getD-set-same ends v x 0 k))
         (subst (λ z. OffsetsOf (getD accepting (v + 1) 0) (getD sizes (v + 1) 0) z x) (s .level) t))
@@ -60,7 +60,8 @@ ends-turn n sizes accepting ends base v x h k s t =
         subst (OffsetsOf (getD accepting (u + 1) 0) (getD sizes (u + 1) 0) (occupied sizes 0 u)) (sym (getD-set-other ends v u x 0 e))
         (s .done .told u (omega arith))
 
-pub ends-end : (n : ℕ) (sizes accepting ends : List ℕ) (base v : ℕ) → n ≤ v → EndsLeft n sizes accepting ends base v → AllEnds n sizes accepting ends
+pub ends-end : (n : ℕ) (sizes accepting ends : List ℕ) (base v : ℕ) → n ≤ v → EndsLeft n sizes accepting ends base v
+    → AllEnds n sizes accepting ends
 ends-end n sizes accepting ends base v h s = record { told = λ u l. s .done .told u (omega arith) }
 
 -- The lists before v have been followed from the row of the state q.
@@ -93,8 +94,7 @@ row-empty ends table w q row n set e = gains-none set (rowEnds ends table w q ro
 -- The rows of the states before q have been followed.
 
 pub record EndedLeft (n : ℕ) (ends table : List ℕ) (w : ℕ) (places set₀ set : List ℕ) (q : ℕ) : Type 0 where
-  pub over : (next : ℕ → ℕ)
-      → ((q : ℕ) → unionOver (λ o. next (w * q + o)) 64 (rowOf (numberOf places) (w * q) w) ≡ rowEnds ends table w q (rowOf (numberOf places) (w * q) w) n)
+  pub over : (next : ℕ → ℕ) → ByRows n ends table w (numberOf places) next
       → Over next (numberOf places) (numberOf set₀) set (w * q)
 
 pub ended-start : (n : ℕ) (ends table : List ℕ) (w : ℕ) (places set : List ℕ) → EndedLeft n ends table w places set set 0
@@ -106,7 +106,8 @@ ended-start n ends table w places set =
           sym (ap (λ p. union (numberOf set) (unionOver next p (numberOf places) % 2 ^ 1024)) e ∙ or-zero-r (numberOf set));
     }
 
-pub ended-turn : (n : ℕ) (ends table : List ℕ) (w : ℕ) (places set₀ set set′ : List ℕ) (q : ℕ) → w ≤ 64 → EndedLeft n ends table w places set₀ set q
+pub ended-turn : (n : ℕ) (ends table : List ℕ) (w : ℕ) (places set₀ set set′ : List ℕ) (q : ℕ) → w ≤ 64
+    → EndedLeft n ends table w places set₀ set q
     → Gains set (rowEnds ends table w q (rowOf (numberOf places) (w * q) w) n) set′ → EndedLeft n ends table w places set₀ set′ (q + 1)
 ended-turn n ends table w places set₀ set set′ q h s g =
     record {
@@ -114,7 +115,8 @@ ended-turn n ends table w places set₀ set set′ q h s g =
           (g ∙ ap (λ x. union (numberOf set) (x % 2 ^ 1024)) (sym (law q)));
     }
 
-pub ended-end : (n : ℕ) (ends table : List ℕ) (w states : ℕ) (places set₀ set : List ℕ) (q : ℕ) → q ≡ states → EndedLeft n ends table w places set₀ set q
+pub ended-end : (n : ℕ) (ends table : List ℕ) (w states : ℕ) (places set₀ set : List ℕ) (q : ℕ) → q ≡ states
+    → EndedLeft n ends table w places set₀ set q
     → RowsEnded n ends table w states places set₀ set
 ended-end n ends table w states places set₀ set q e s =
     record {
@@ -124,12 +126,14 @@ ended-end n ends table w states places set₀ set q e s =
     }
 
 -- What is gained by rows is what the places of the set reach.
-pub rows-round : (states n : ℕ) (sizes accepting table : List ℕ) (w : ℕ) (ends fresh set set′ : List ℕ) → Ending states n sizes accepting table w
+pub rows-round : (states n : ℕ) (sizes accepting table : List ℕ) (w : ℕ) (ends fresh set set′ : List ℕ)
+    → Ending states n sizes accepting table w
     → w ≤ 64 → AllEnds n sizes accepting ends → RowsEnded n ends table w states fresh set set′
     → Round n sizes accepting table (states * w) fresh set set′
 rows-round states n sizes accepting table w ends fresh set set′ p h all r =
     record {
       gains = λ any flags follow enter room.
-          r .gains _ (λ q. rows-exactly follow enter sizes accepting ends table n (rewritten any table flags) w q (numberOf fresh) (p .counted) room
+          r .gains _ (λ q. rows-exactly follow enter sizes accepting ends table n (rewritten any table flags) w q (numberOf fresh)
+          (p .counted) room
           (ending-width states n sizes accepting table w p follow enter room) refl h all);
     }

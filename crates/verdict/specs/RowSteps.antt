@@ -2,7 +2,7 @@
 use Prim.Native.Nat.{ℕ, suc, _+_, _*_, _-_, _%_, _^_, _≤_, _<_}
 use mathlib.Core.Bool.{Bool, true, false, false≢true}
 use mathlib.Core.List.{List, []}
-use mathlib.Core.Path.{_≡_, refl, sym, ap, ap₂, _∙_, subst}
+use mathlib.Core.Path.{_≡_, refl, sym, ap, ap₂, _∙_}
 use native.Mathlib.Decide.{decLe, ℕ-discrete}
 use native.Mathlib.Omega.{arith}
 use lib.Bits.{or-zero-l, or-zero-r}
@@ -73,10 +73,13 @@ pub record StepsLeft (n a : ℕ) (follow enter sizes steps : List ℕ) (first ba
   pub inside : v ≤ n
   pub low : base + occupied sizes v (n - v) ≡ occupied sizes 0 n
   pub enters : (accepting : List ℕ)
-      → union first (entered (automataFrom follow enter sizes accepting v (n - v)) base a) ≡ entered (automataOf follow enter sizes accepting n) 0 a
-  pub done : (accepting : List ℕ) (o : ℕ) → 0 < o → o ≤ base → getD steps o 0 ≡ movedWithin (automataOf follow enter sizes accepting n) 0 o a
+      → union first (entered (automataFrom follow enter sizes accepting v (n - v)) base a)
+      ≡ entered (automataOf follow enter sizes accepting n) 0 a
+  pub done : (accepting : List ℕ) (o : ℕ) → 0 < o → o ≤ base
+      → getD steps o 0 ≡ movedWithin (automataOf follow enter sizes accepting n) 0 o a
   pub left : (accepting : List ℕ) (o : ℕ) → 0 < o
-      → movedWithin (automataFrom follow enter sizes accepting v (n - v)) base o a ≡ movedWithin (automataOf follow enter sizes accepting n) 0 (base + o) a
+      → movedWithin (automataFrom follow enter sizes accepting v (n - v)) base o a
+      ≡ movedWithin (automataOf follow enter sizes accepting n) 0 (base + o) a
 
 pub steps-start : (n a : ℕ) (follow enter sizes steps : List ℕ) → StepsLeft n a follow enter sizes steps 0 0 0
 steps-start n a follow enter sizes steps =
@@ -93,7 +96,8 @@ steps-start n a follow enter sizes steps =
     }
 
 -- The occurrences of the list v are among those left.
-pub steps-room : (n a : ℕ) (follow enter sizes steps : List ℕ) (first base v : ℕ) → v < n → StepsLeft n a follow enter sizes steps first base v
+pub steps-room : (n a : ℕ) (follow enter sizes steps : List ℕ) (first base v : ℕ) → v < n
+    → StepsLeft n a follow enter sizes steps first base v
     → base + getD sizes (v + 1) 0 + occupied sizes (v + 1) (n - (v + 1)) ≡ occupied sizes 0 n
 unfolding occupied
 steps-room n a follow enter sizes steps first base v h s =
@@ -102,7 +106,8 @@ steps-room n a follow enter sizes steps first base v h s =
     omega (arith, s .low)
 
 pub steps-turn : (n a : ℕ) (follow enter sizes : List ℕ) (w : ℕ) (steps steps′ : List ℕ) (first base v x : ℕ)
-    → Moving n a follow enter sizes w → v < n → StepsLeft n a follow enter sizes steps first base v → x ≡ stepAt follow enter v 0 a * 2 ^ base
+    → Moving n a follow enter sizes w → v < n → StepsLeft n a follow enter sizes steps first base v
+    → x ≡ stepAt follow enter v 0 a * 2 ^ base
     → ListSteps a v (getD sizes (v + 1) 0) base follow enter steps steps′ true
     → StepsLeft n a follow enter sizes steps′ (union first x) (base + getD sizes (v + 1) 0) (v + 1)
 steps-turn n a follow enter sizes w steps steps′ first base v x p h s e t =
@@ -111,7 +116,8 @@ steps-turn n a follow enter sizes w steps steps′ first base v x p h s e t =
       low = steps-room n a follow enter sizes steps first base v h s;
       enters = λ accepting.
           union-assoc first x (entered (automataFrom follow enter sizes accepting (v + 1) (n - (v + 1))) (base + size) a)
-          ∙ ap (union first) (ap (λ y. union y (entered (automataFrom follow enter sizes accepting (v + 1) (n - (v + 1))) (base + size) a)) e
+          ∙ ap (union first) (ap
+          (λ y. union y (entered (automataFrom follow enter sizes accepting (v + 1) (n - (v + 1))) (base + size) a)) e
           ∙ sym (entered-next follow enter sizes accepting n (p .counted) (p .follow-room) v (n - (v + 1)) base a h (p .label))
           ∙ ap (λ k. entered (automataFrom follow enter sizes accepting v k) base a) m)
           ∙ s .enters accepting;
@@ -138,7 +144,8 @@ steps-turn n a follow enter sizes w steps steps′ first base v x p h s e t =
     at accepting o q l (no k) =
         let f : o ≡ base + (o - base) = omega arith in
         ap (λ y. getD steps′ y 0) f ∙ t .done refl (o - base) (omega arith) (omega arith)
-        ∙ sym (moved-here follow enter sizes accepting n (p .counted) (p .follow-room) v (n - (v + 1)) base (o - base) a h (p .label) (omega arith))
+        ∙ sym (moved-here follow enter sizes accepting n (p .counted) (p .follow-room) v (n - (v + 1)) base (o - base) a h (p .label)
+        (omega arith))
         ∙ ap (λ k. movedWithin (automataFrom follow enter sizes accepting v k) base (o - base) a) m
         ∙ s .left accepting (o - base) (omega arith)
         ∙ ap (λ y. movedWithin (automataOf follow enter sizes accepting n) 0 y a) (sym f)
@@ -162,8 +169,10 @@ pub steps-none : (n a : ℕ) (follow enter sizes steps : List ℕ) → AllSteps 
 steps-none n a follow enter sizes steps = record { told = λ t. absurd (false≢true t) }
 
 -- The steps are those of every state's offsets.
-steps-moves : (n a : ℕ) (follow enter sizes : List ℕ) (w : ℕ) (steps : List ℕ) → Moving n a follow enter sizes w → Steps n a follow enter sizes steps
-    → (accepting : List ℕ) (q o : ℕ) → o < w → moves (automataOf follow enter sizes accepting n) a (w * q + o) ≡ getD steps o 0 * 2 ^ (w * q)
+steps-moves : (n a : ℕ) (follow enter sizes : List ℕ) (w : ℕ) (steps : List ℕ) → Moving n a follow enter sizes w
+    → Steps n a follow enter sizes steps
+    → (accepting : List ℕ) (q o : ℕ) → o < w
+    → moves (automataOf follow enter sizes accepting n) a (w * q + o) ≡ getD steps o 0 * 2 ^ (w * q)
 steps-moves n a follow enter sizes w steps p s accepting q o h = go (ℕ-discrete o 0)
   where
     lists : List Automaton
@@ -175,7 +184,8 @@ steps-moves n a follow enter sizes w steps p s accepting q o h = go (ℕ-discret
         ∙ ap (λ z. entered lists 0 a * 2 ^ (w * z)) (state-of w q o h)
         ∙ ap (λ x. x * 2 ^ (w * q)) (sym (s .first accepting) ∙ ap (λ z. getD steps z 0) (sym e))
     go (no d) =
-        moves-inside (rewritten 0 [] []) lists w (moving-width n a follow enter sizes w p accepting) a (w * q + o) (λ z. d (sym (offset-of w q o h) ∙ z))
+        moves-inside (rewritten 0 [] []) lists w (moving-width n a follow enter sizes w p accepting) a (w * q + o)
+        (λ z. d (sym (offset-of w q o h) ∙ z))
         ∙ ap₂ (λ y z. movedWithin lists 0 y a * 2 ^ (w * z)) (offset-of w q o h) (state-of w q o h)
         ∙ ap (λ x. x * 2 ^ (w * q)) (sym (s .inner accepting o (omega arith) (omega (arith, p .wide))))
 
@@ -186,6 +196,7 @@ pub rows-moved : (n a : ℕ) (follow enter sizes : List ℕ) (w states : ℕ) (s
 unfolding numberOf
 rows-moved n a follow enter sizes w states steps places set′ p s r =
     record {
-      told = λ accepting. r .gains (moves (automataOf follow enter sizes accepting n) a) (steps-moves n a follow enter sizes w steps p s accepting)
+      told = λ accepting. r .gains (moves (automataOf follow enter sizes accepting n) a)
+          (steps-moves n a follow enter sizes w steps p s accepting)
           ∙ or-zero-l (unionOver (moves (automataOf follow enter sizes accepting n) a) (states * w) (numberOf places) % 2 ^ 1024);
     }

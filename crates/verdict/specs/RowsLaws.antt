@@ -2,7 +2,7 @@
 use Prim.Native.Nat.{ℕ, zero, suc, _+_, _*_, _-_, _/_, _%_, _^_, _≤_, _<_}
 use mathlib.Core.List.{List}
 use mathlib.Core.Logic.{_↔_, _≢_, _⊎_, inl, inr}
-use mathlib.Core.Path.{_≡_, refl, sym, ap, ap₂, _∙_, subst}
+use mathlib.Core.Path.{_≡_, refl, sym, ap, _∙_, subst}
 use native.Mathlib.Decide.{decLt, ℕ-discrete}
 use native.Mathlib.Nat.{pow-suc, mod-lt}
 use native.Mathlib.Omega.{arith}
@@ -13,7 +13,8 @@ use lib.Dec.{eqb}
 use lib.Pow.{pow-pos, field, shl-shr, shl-exact}
 use borrow.Author.Tests.{eqb-true}
 use Rattle.theory.specs.Places.{Member, union, unionOver}
-use Rattle.theory.specs.PlacesLaws.{member-zero, member-suc, member-none, member-below, member-union, member-unionOver, equal-members, no-members}
+use Rattle.theory.specs.PlacesLaws.{member-zero, member-suc, member-none, member-below, member-union, member-unionOver}
+use Rattle.theory.specs.PlacesLaws.{equal-members, no-members}
 use Rattle.theory.specs.PlacesShift.{member-down, member-moved, member-cut}
 use Rattle.places.specs.UnionLaws.{union-assoc}
 use Rattle.places.specs.Words.{numberOf, Words}
@@ -34,7 +35,8 @@ fits-exactly s base h =
       exact = λ t.
           let e : 64 ≡ (64 - base) + base = omega arith in
           let back : s % 2 ^ (64 - base) ≡ s =
-          sym (ap (λ z. (s * 2 ^ base) % 2 ^ z / 2 ^ base) e ∙ field (s * 2 ^ base) (64 - base) base ∙ ap (λ z. z % 2 ^ (64 - base)) (shl-shr s base))
+          sym (ap (λ z. (s * 2 ^ base) % 2 ^ z / 2 ^ base) e ∙ field (s * 2 ^ base) (64 - base) base
+          ∙ ap (λ z. z % 2 ^ (64 - base)) (shl-shr s base))
           ∙ eqb-true _ _ t in
           shl-exact (64 - base) base 64 (subst (λ z. z < 2 ^ (64 - base)) back (mod-lt s (pow-pos (64 - base)))) (omega arith);
     }
@@ -70,9 +72,12 @@ module _ (l : List ℕ) (words : Words l) (at w : ℕ) (small : w ≤ 64) where
   )
 
   pub row-across : 64 < at % 64 + w
-      → union (getD l (at / 64) 0 / 2 ^ (at % 64)) ((getD l (at / 64 + 1) 0 * 2 ^ (64 - at % 64)) % 2 ^ 64) % 2 ^ w ≡ rowOf (numberOf l) at w
+      → union (getD l (at / 64) 0 / 2 ^ (at % 64)) ((getD l (at / 64 + 1) 0 * 2 ^ (64 - at % 64)) % 2 ^ 64) % 2 ^ w
+      ≡ rowOf (numberOf l) at w
   row-across h = equal-members (union low high % 2 ^ w) (rowOf (numberOf l) at w) λ i. (
-    λ m. let (k, u) = member-cut w i (union low high) .0 m in member-row (numberOf l) at w i .1 (k, there i k (member-union i low high .0 u)),
+    λ m.
+        let (k, u) = member-cut w i (union low high) .0 m in
+        member-row (numberOf l) at w i .1 (k, there i k (member-union i low high .0 u)),
     λ m.
         let (k, u) = member-row (numberOf l) at w i .0 m in
         member-cut w i (union low high) .1 (k, member-union i low high .1 (back i k u (decLt (at % 64 + i) 64))),
@@ -89,7 +94,8 @@ module _ (l : List ℕ) (words : Words l) (at w : ℕ) (small : w ≤ 64) where
           let u = member-down (at % 64) i (getD l (at / 64) 0) .0 m in
           near i (member-below 64 (getD l (at / 64) 0) (at % 64 + i) (words (at / 64)) u) .1 u
       there i k (inr m) =
-          let (x, e, u) = member-moved (64 - at % 64) i (getD l (at / 64 + 1) 0) .0 (member-cut 64 i (getD l (at / 64 + 1) 0 * 2 ^ (64 - at % 64)) .0 m .1) in
+          let t = member-cut 64 i (getD l (at / 64 + 1) 0 * 2 ^ (64 - at % 64)) .0 m .1 in
+          let (x, e, u) = member-moved (64 - at % 64) i (getD l (at / 64 + 1) 0) .0 t in
           let f : x ≡ at % 64 + i - 64 = omega arith in
           far i (omega arith) (omega arith) .1 (subst (λ z. Member z (getD l (at / 64 + 1) 0)) f u)
 
@@ -98,7 +104,8 @@ module _ (l : List ℕ) (words : Words l) (at w : ℕ) (small : w ≤ 64) where
       back i k m (no d) =
           inr (member-cut 64 i (getD l (at / 64 + 1) 0 * 2 ^ (64 - at % 64)) .1 (
             omega arith,
-            member-moved (64 - at % 64) i (getD l (at / 64 + 1) 0) .1 (at % 64 + i - 64, omega arith, far i (omega arith) (omega arith) .0 m),
+            member-moved (64 - at % 64) i (getD l (at / 64 + 1) 0) .1
+                (at % 64 + i - 64, omega arith, far i (omega arith) (omega arith) .0 m),
           ))
 
 -- The places of a word but the least.
@@ -119,7 +126,8 @@ least-left (suc k) n d h i =
     )
     go zero e (suc j) ih =
         let p : (n - 1) / 2 ≡ n / 2 - 1 = omega arith in
-        let half : bitAnd n (n - 1) / 2 ≡ bitAnd (n / 2) (n / 2 - 1) = rw p at (let q : bitAnd n (n - 1) / 2 ≡ bitAnd (n / 2) ((n - 1) / 2) = omega (arith, and-step n (n - 1)) in q) in (
+        let q : bitAnd (n / 2) ((n - 1) / 2) ≡ bitAnd (n / 2) (n / 2 - 1) = ap (bitAnd (n / 2)) p in
+        let half : bitAnd n (n - 1) / 2 ≡ bitAnd (n / 2) (n / 2 - 1) = omega (arith, and-step n (n - 1)) in (
           λ m.
               let r = ih e j .0 (subst (Member j) half (member-suc j (bitAnd n (n - 1)) .0 m)) in
               (member-suc j n .1 (r .0), λ z. r .1 (omega arith)),

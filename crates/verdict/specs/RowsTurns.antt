@@ -1,5 +1,5 @@
 -- A loop over the rows of a set (Rows): one row follows what its places do, one by one.
-use Prim.Native.Nat.{ℕ, zero, suc, _+_, _*_, _-_, _%_, _^_, _≤_, _<_}
+use Prim.Native.Nat.{ℕ, _+_, _*_, _-_, _%_, _^_, _≤_, _<_}
 use mathlib.Core.List.{List}
 use mathlib.Core.Logic.{_⊎_, inl, inr}
 use mathlib.Core.Path.{_≡_, sym, ap, _∙_, subst}
@@ -55,17 +55,20 @@ row-next next s at w h = equal-members (union before here) (unionOver next (at +
 -- Where each offset leads to its own offsets moved up, the row leads to theirs moved up.
 row-up : (next step : ℕ → ℕ) (s at w : ℕ) → ((o : ℕ) → o < w → next (at + o) ≡ step o * 2 ^ at)
     → unionOver (λ o. next (at + o)) 64 (rowOf s at w) ≡ unionOver step 64 (rowOf s at w) * 2 ^ at
-row-up next step s at w law = equal-members (unionOver (λ o. next (at + o)) 64 (rowOf s at w)) (unionOver step 64 (rowOf s at w) * 2 ^ at) λ y. (
+row-up next step s at w law = equal-members (unionOver (λ o. next (at + o)) 64 row) (unionOver step 64 row * 2 ^ at) λ y. (
   λ m.
-      let (o, l, a, b) = member-unionOver (λ o. next (at + o)) 64 (rowOf s at w) y .0 m in
+      let (o, l, a, b) = member-unionOver (λ o. next (at + o)) 64 row y .0 m in
       let (x, e, u) = member-moved at y (step o) .0 (subst (Member y) (law o (member-row s at w o .0 a .0)) b) in
-      member-moved at y (unionOver step 64 (rowOf s at w)) .1 (x, e, member-unionOver step 64 (rowOf s at w) x .1 (o, l, a, u)),
+      member-moved at y (unionOver step 64 row) .1 (x, e, member-unionOver step 64 row x .1 (o, l, a, u)),
   λ m.
-      let (x, e, u) = member-moved at y (unionOver step 64 (rowOf s at w)) .0 m in
-      let (o, l, a, b) = member-unionOver step 64 (rowOf s at w) x .0 u in
-      member-unionOver (λ o. next (at + o)) 64 (rowOf s at w) y .1
+      let (x, e, u) = member-moved at y (unionOver step 64 row) .0 m in
+      let (o, l, a, b) = member-unionOver step 64 row x .0 u in
+      member-unionOver (λ o. next (at + o)) 64 row y .1
       (o, l, a, subst (Member y) (sym (law o (member-row s at w o .0 a .0))) (member-moved at y (step o) .1 (x, e, b))),
 )
+  where
+    row : ℕ
+    row = rowOf s at w
 
 -- One turn of a loop over rows.
 pub over-row : (next : ℕ → ℕ) (s start : ℕ) (set set′ : List ℕ) (w q : ℕ) → w ≤ 64 → Over next s start set (w * q)
