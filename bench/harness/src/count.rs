@@ -1,0 +1,29 @@
+//! Every counted case once, ours and then the peer's, for callgrind: it counts
+//! inside the measured functions and writes a part at each end of a case.
+
+use crate::input::Case;
+use crate::lent::Lent;
+use crate::ours::measured_ours;
+use crate::tuned::measured_peer;
+
+#[no_mangle]
+#[inline(never)]
+pub extern "Rust" fn case_ended(number: usize) {
+    std::hint::black_box(number);
+}
+
+/// The case of that name alone, or all that are counted.
+pub fn count(cases: &[Case], name: Option<&str>) {
+    let mut number = 0;
+    for case in cases.iter().filter(|case| name.map_or(case.counted, |name| name == case.name)) {
+        for (who, function) in [("ours", measured_ours as extern "Rust" fn(&_, &mut _) -> u64), ("peer", measured_peer)]
+        {
+            for input in &case.inputs {
+                std::hint::black_box(function(input, &mut Lent::new(input)));
+            }
+            number += 1;
+            case_ended(number);
+            println!("{number}\t{}\t{who}", case.name);
+        }
+    }
+}

@@ -1,0 +1,116 @@
+//! The states of the rewriting, by exploration over the lists.
+
+use crate::bits::Bits;
+use crate::images::images;
+use crate::job::Job;
+use crate::refusal::{refuse, Result};
+use crate::standings::Standings;
+
+const MOST: usize = 256;
+const SLOTS: usize = 1024;
+
+pub struct Rewriting {
+    pub lists: usize,
+    /// The set of standings of each state.
+    pub sets: Vec<u64>,
+    /// The next state at lists × state + list.
+    pub next: Vec<u8>,
+    /// The state and the list that a state was first reached by.
+    reached: Vec<(u8, u8)>,
+    /// The query standings that accept.
+    accepting: u64,
+}
+
+struct Met {
+    sets: Vec<u64>,
+    slots: [u16; SLOTS],
+}
+
+impl Met {
+    /// The state's number, and whether it is new.
+    #[inline(always)]
+    fn number(&mut self, set: u64) -> Option<(usize, bool)> {
+        let mut at = (set.wrapping_mul(0x9e37_79b9_7f4a_7c15) >> 54) as usize;
+        loop {
+            match self.slots[at] as usize {
+                0 => break,
+                number if self.sets[number - 1] == set => return Some((number - 1, false)),
+                _ => at = (at + 1) % SLOTS,
+            }
+        }
+        if self.sets.len() == MOST {
+            return None;
+        }
+        self.sets.push(set);
+        self.slots[at] = self.sets.len() as u16;
+        Some((self.sets.len() - 1, true))
+    }
+}
+
+/// All states; 10 where there are more than 256.
+pub fn rewriting(job: &Job, query: &Standings) -> Result<Rewriting> {
+    let images: Vec<[u64; 64]> = job.lists().iter().map(|list| images(query, list)).collect();
+    let mut met = Met { sets: Vec::with_capacity(32), slots: [0; SLOTS] };
+    met.number(1);
+    let (mut next, mut reached) = (Vec::with_capacity(64), vec![(0, 0)]);
+    let mut state = 0;
+    while state < met.sets.len() {
+        let set = met.sets[state];
+        for (list, image) in images.iter().enumerate() {
+            let to = Bits(set).fold(0, |all, standing| all | image[standing]);
+            let Some((number, new)) = met.number(to) else { return refuse(10) };
+            next.push(number as u8);
+            if new {
+                reached.push((state as u8, list as u8));
+            }
+        }
+        state += 1;
+    }
+    Ok(Rewriting { lists: images.len(), sets: met.sets, next, reached, accepting: query.accepting })
+}
+
+impl Rewriting {
+    pub fn count(&self) -> usize {
+        self.sets.len()
+    }
+
+    #[inline(always)]
+    pub fn accepts(&self, state: usize) -> bool {
+        self.sets[state] & !self.accepting == 0
+    }
+
+    /// The accepting states, as a set.
+    pub fn accepting(&self) -> [u64; 4] {
+        let mut set = [0; 4];
+        for state in 0..self.count() {
+            set[state / 64] |= (self.accepts(state) as u64) << (state % 64);
+        }
+        set
+    }
+
+    /// Writes Find's table and flags.
+    pub fn write(&self, table: &mut [u16], flags: &mut [u8]) {
+        table[..4096].fill(0);
+        flags[..256].fill(0);
+        for state in 0..self.count() {
+            let row = &self.next[self.lists * state..][..self.lists];
+            for (number, &next) in table[16 * state..].iter_mut().zip(row) {
+                *number = next as u16;
+            }
+            flags[state] = self.accepts(state) as u8;
+        }
+    }
+
+    /// The first accepted word, put into the lent letters; its length.
+    pub fn first(&self, letters: &mut [u8]) -> Option<usize> {
+        let first = (0..self.count()).find(|&state| self.accepts(state))?;
+        let (mut state, mut length) = (first, 0);
+        while state != 0 {
+            let (before, list) = self.reached[state];
+            letters[length] = list;
+            (state, length) = (before as usize, length + 1);
+        }
+        letters[..length].reverse();
+        Some(length)
+    }
+}
