@@ -35,8 +35,6 @@ fn heaviest() -> Vec<Case> {
     cases
 }
 
-const JOBS_OF_A_KIND: usize = 20;
-
 /// Find and Verdict on random jobs that Verdict answers.
 fn random_jobs(folder: &Path) -> Vec<Case> {
     let mut cases = Vec::new();

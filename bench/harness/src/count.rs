@@ -12,10 +12,9 @@ pub extern "Rust" fn case_ended(number: usize) {
     std::hint::black_box(number);
 }
 
-/// The case of that name alone, or all that are counted.
-pub fn count(cases: &[Case], name: Option<&str>) {
+pub fn count(cases: &[Case]) {
     let mut number = 0;
-    for case in cases.iter().filter(|case| name.map_or(case.counted, |name| name == case.name)) {
+    for case in cases.iter().filter(|case| case.counted) {
         for (who, function) in [("ours", measured_ours as extern "Rust" fn(&_, &mut _) -> u64), ("peer", measured_peer)]
         {
             for input in &case.inputs {

@@ -36,6 +36,21 @@ impl Input {
     }
 }
 
+impl Input {
+    fn lines<'a>(&'a self, word: &'a str) -> impl Iterator<Item = &'a str> {
+        let text = std::str::from_utf8(&self.job).expect("a job in ASCII");
+        text.lines().filter_map(move |line| line.strip_prefix(word))
+    }
+
+    pub fn lists(&self) -> usize {
+        self.lines("list ").count()
+    }
+
+    pub fn query(&self) -> &str {
+        self.lines("query ").next().expect("a job with a query")
+    }
+}
+
 /// One line of the table: the inputs are run one after the other.
 pub struct Case {
     /// For files: letters, digits and hyphens.
@@ -55,6 +70,15 @@ impl Case {
     pub fn new(name: &str, title: &str, inputs: Vec<Input>) -> Case {
         let (name, title) = (name.to_string(), title.to_string());
         Case { name, title, inputs, counted: false, foma: false, sqlite: false, rdflib: false }
+    }
+
+    /// The other peers that run it, by name; with `counted` behind each where
+    /// instructions are counted.
+    pub fn peers(&self) -> String {
+        let names = [("foma", self.foma), ("sqlite", self.sqlite), ("rdflib", self.rdflib)];
+        let counted = if self.counted { " counted" } else { "" };
+        let runs = names.iter().filter(|(_, runs)| *runs);
+        runs.map(|(name, _)| format!("{name}{counted}")).collect::<Vec<_>>().join(" ")
     }
 
     pub fn operation(&self) -> Operation {

@@ -44,10 +44,15 @@ pub fn from_the_end() -> String {
     text(&["a", "b"], &query, &owned(&["a", "b"]))
 }
 
-/// The job of 4,041 pairs, as far as `factors` of its query's five.
+/// The job of 4,041 pairs.
 pub fn pairs() -> String {
     let lists = ["((b)*)*", "b", "(((a|a)|(b|b))|(b|(b|a)))", "(b.b|b).b.b.(a|a)"];
     text(&["a", "b"], "(a.b.b.b.((a|b)|(a|a)))*", &owned(&lists))
+}
+
+/// Any path is asked for; the pairs double with each of the list's last factors.
+pub fn doubling(count: usize) -> String {
+    text(&["a", "b"], "(a|b)*", &[format!("(a|b)*.a{}", ".(a|b)".repeat(count))])
 }
 
 /// Document 001's example 2: 6 states.

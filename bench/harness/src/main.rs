@@ -4,34 +4,62 @@ mod cases;
 mod compare;
 mod count;
 mod graphs;
+mod growth;
 mod input;
 mod jobs;
 mod lent;
+mod moves;
 mod ours;
 mod random;
 mod random_jobs;
 mod time;
 mod tuned;
+mod write;
 
+use input::Case;
 use std::path::Path;
 
-const USAGE: &str = "harness prepare|times|count FOLDER [CASE]";
+const USAGE: &str = "harness prepare|times|count FOLDER [CASE|growth]";
 
 fn main() {
     let words: Vec<String> = std::env::args().skip(1).collect();
     let folder = Path::new(words.get(1).expect(USAGE));
     match words[0].as_str() {
-        "prepare" => random_jobs::draw(folder),
-        "times" => times(&cases::all(folder)),
-        "count" => count::count(&cases::all(folder), words.get(2).map(String::as_str)),
+        "prepare" => prepare(folder),
+        "times" => times(&chosen(folder, words.get(2))),
+        "count" => count::count(&chosen(folder, words.get(2))),
         _ => panic!("{USAGE}"),
     }
 }
 
-fn times(cases: &[input::Case]) {
+/// The growing cases, the case of that name, or all but the growing ones.
+fn chosen(folder: &Path, name: Option<&String>) -> Vec<Case> {
+    if name.is_some_and(|name| name == "growth") {
+        return growth::all();
+    }
+    let mut cases = cases::all(folder);
+    cases.retain(|case| name.is_none_or(|name| *name == case.name));
+    cases
+}
+
+/// Compares ours with the peer on every case, and writes what the other peers
+/// need.
+fn prepare(folder: &Path) {
+    random_jobs::draw(folder);
+    for case in growth::all() {
+        compare::compare(&case);
+    }
+    for case in cases::all(folder) {
+        let answers = compare::compare(&case);
+        write::write(folder, &case, &answers);
+        println!("{}\t{}\t{}\t{}", case.name, case.operation().words(), case.title, case.peers());
+    }
+}
+
+fn times(cases: &[Case]) {
     for case in cases {
-        let told = compare::compare(case);
-        let [ours, peer] = time::time(case);
-        println!("{:28} {:12.2} {:12.2} {:8.2}  {:x}", case.name, ours * 1e6, peer * 1e6, peer / ours, told[0].0 >> 32);
+        let ([ours, peer], runs) = time::time(case);
+        println!("{}\tours\t{ours:.9}\t{runs}", case.name);
+        println!("{}\tpeer\t{peer:.9}\t{runs}", case.name);
     }
 }

@@ -42,7 +42,6 @@ fn answered(random: &mut Random, lists: usize, occurrences: usize) -> String {
     }
 }
 
-/// Whether Verdict refuses nothing.
 fn answers(input: &Input) -> bool {
     let Lent { mut table, mut flags, mut path, mut workspace, .. } = Lent::new(input);
     peer::verdict(&input.job, input.allowance, &mut table, &mut flags, &mut path, &mut workspace) & 0xff == 0

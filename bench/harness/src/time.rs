@@ -30,8 +30,8 @@ fn median(mut times: Vec<Duration>) -> f64 {
     times[times.len() / 2].as_secs_f64()
 }
 
-/// The medians of ours and of the peer, in seconds.
-pub fn time(case: &Case) -> [f64; 2] {
+/// The medians of ours and of the peer in seconds, and the number of runs.
+pub fn time(case: &Case) -> ([f64; 2], usize) {
     let mut lent: Vec<Lent> = case.inputs.iter().map(Lent::new).collect();
     let functions: [Measured; 2] = [measured_ours, measured_peer];
     let mut times = [Vec::new(), Vec::new()];
@@ -41,5 +41,6 @@ pub fn time(case: &Case) -> [f64; 2] {
             times.push(once(*function, case, &mut lent));
         }
     }
-    times.map(median)
+    let runs = times[0].len();
+    (times.map(median), runs)
 }

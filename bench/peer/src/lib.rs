@@ -19,4 +19,4 @@ mod states;
 mod table;
 mod verdict;
 
-pub use operations::{find, links, lists, verdict};
+pub use operations::{find, links, lists, query_automaton, verdict};

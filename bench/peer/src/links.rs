@@ -9,25 +9,22 @@ use crate::table::Table;
 /// Writes the marks, and tells how many are 1. The words begin as zeros.
 pub fn mark(automaton: &Automaton, table: &Table, start: usize, marks: &mut [u8], reached: &mut [u64]) -> usize {
     let mut pending = vec![0u64; marks.len()];
-    let mut stack = vec![start];
-    reached[start] = 1;
-    pending[start] = 1;
-    while let Some(recording) = stack.pop() {
+    // A recording stands on the stack once at most; the last place is written and never read.
+    let mut stack = vec![0u16; marks.len() + 1];
+    let mut height = 1;
+    (stack[0], reached[start], pending[start]) = (start as u16, 1, 1);
+    while height > 0 {
+        height -= 1;
+        let recording = stack[height] as usize;
         let places = std::mem::take(&mut pending[recording]);
         let followed = Bits(places).fold(0, |all, place| all | automaton.follow[place]);
-        if followed == 0 {
-            continue;
-        }
         for link in table.leaving(recording) {
             let to = link[2] as usize;
-            let new = followed & automaton.enter[link[1] as usize] & !reached[to];
-            if new != 0 {
-                reached[to] |= new;
-                if pending[to] == 0 {
-                    stack.push(to);
-                }
-                pending[to] |= new;
-            }
+            let new = followed & automaton.enter[link[1] as usize & 31] & !reached[to];
+            reached[to] |= new;
+            stack[height] = to as u16;
+            height += (new != 0 && pending[to] == 0) as usize;
+            pending[to] |= new;
         }
     }
     let mut ones = 0;

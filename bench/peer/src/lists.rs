@@ -1,22 +1,68 @@
 //! Answer from lists: a search over recordings with the set of the rewriting's
-//! states that each is reached in, S words of them.
+//! states that each is reached in, S words of them. States from which no
+//! accepting one is reached are left out.
 
 use crate::bits::for_each;
 use crate::states::Rewriting;
 use crate::table::Table;
 
+/// The states of a rewriting that lead to an accepting one, numbered anew.
+struct Useful {
+    lists: usize,
+    count: usize,
+    /// The next state at lists × state + list, 256 for one that is left out.
+    next: Vec<u16>,
+    accepting: [u64; 4],
+}
+
+const LEFT_OUT: u16 = 256;
+
 /// Writes the marks, and tells how many are 1. The words begin as zeros.
 pub fn mark(found: &Rewriting, table: &Table, start: usize, marks: &mut [u8], reached: &mut [u64]) -> usize {
-    match found.count().div_ceil(64) {
-        1 => search::<1>(found, table, start, marks, reached),
-        2 => search::<2>(found, table, start, marks, reached),
-        3 => search::<3>(found, table, start, marks, reached),
-        _ => search::<4>(found, table, start, marks, reached),
+    let useful = useful(found);
+    match useful.count.div_ceil(64) {
+        0 => 0,
+        1 => search::<1>(&useful, table, start, marks, reached),
+        2 => search::<2>(&useful, table, start, marks, reached),
+        3 => search::<3>(&useful, table, start, marks, reached),
+        _ => search::<4>(&useful, table, start, marks, reached),
     }
 }
 
+/// State 0 keeps its number where it is useful; where it is not, none is.
+fn useful(found: &Rewriting) -> Useful {
+    let kept = leading(found);
+    let states: Vec<usize> = (0..found.count()).filter(|&state| kept[state]).collect();
+    let mut numbers = vec![LEFT_OUT; found.count()];
+    let mut accepting = [0; 4];
+    for (number, &state) in states.iter().enumerate() {
+        numbers[state] = number as u16;
+        accepting[number / 64] |= (found.accepts(state) as u64) << (number % 64);
+    }
+    let rows = states.iter().flat_map(|&state| &found.next[found.lists * state..][..found.lists]);
+    let next = rows.map(|&state| numbers[state as usize]).collect();
+    Useful { lists: found.lists, count: states.len(), next, accepting }
+}
+
+/// Which states lead to an accepting one.
+fn leading(found: &Rewriting) -> Vec<bool> {
+    let mut kept: Vec<bool> = (0..found.count()).map(|state| found.accepts(state)).collect();
+    let mut changed = true;
+    while changed {
+        changed = false;
+        for state in (0..found.count()).rev().filter(|_| found.lists > 0) {
+            let row = &found.next[found.lists * state..][..found.lists];
+            if !kept[state] && row.iter().any(|&next| kept[next as usize]) {
+                kept[state] = true;
+                changed = true;
+            }
+        }
+    }
+    kept
+}
+
 fn search<const S: usize>(
-    found: &Rewriting,
+    useful: &Useful,
     table: &Table,
     start: usize,
     marks: &mut [u8],
@@ -24,49 +70,50 @@ fn search<const S: usize>(
 ) -> usize {
     let (reached, _) = reached.as_chunks_mut::<S>();
     let mut pending = vec![[0u64; S]; marks.len()];
-    let mut stack = vec![start];
-    reached[start][0] = 1;
-    pending[start][0] = 1;
-    while let Some(recording) = stack.pop() {
+    let mut stack = vec![0u16; marks.len() + 1];
+    let mut height = 1;
+    (stack[0], reached[start][0], pending[start][0]) = (start as u16, 1, 1);
+    while height > 0 {
+        height -= 1;
+        let recording = stack[height] as usize;
         let states = std::mem::replace(&mut pending[recording], [0; S]);
         let (mut list, mut after) = (usize::MAX, [0; S]);
         for link in table.leaving(recording) {
             if link[1] as usize != list {
                 list = link[1] as usize;
-                after = next(found, &states, list);
+                after = next(useful, &states, list);
             }
             let to = link[2] as usize;
-            let new: [u64; S] = std::array::from_fn(|word| after[word] & !reached[to][word]);
-            if new != [0; S] {
-                if pending[to] == [0; S] {
-                    stack.push(to);
-                }
-                for word in 0..S {
-                    reached[to][word] |= new[word];
-                    pending[to][word] |= new[word];
-                }
+            let (reached, pending) = (&mut reached[to], &mut pending[to]);
+            let new: [u64; S] = std::array::from_fn(|word| after[word] & !reached[word]);
+            stack[height] = to as u16;
+            height += (new != [0; S] && *pending == [0; S]) as usize;
+            for word in 0..S {
+                reached[word] |= new[word];
+                pending[word] |= new[word];
             }
         }
     }
-    count::<S>(found, marks, reached)
+    count(useful, marks, reached)
 }
 
 /// The states that the list leads to.
 #[inline(always)]
-fn next<const S: usize>(found: &Rewriting, states: &[u64; S], list: usize) -> [u64; S] {
+fn next<const S: usize>(useful: &Useful, states: &[u64; S], list: usize) -> [u64; S] {
     let mut after = [0; S];
     for_each(states, |state| {
-        let to = found.next[found.lists * state + list] as usize;
-        after[to / 64] |= 1 << (to % 64);
+        let to = useful.next[useful.lists * state + list];
+        if to != LEFT_OUT {
+            after[to as usize / 64] |= 1 << (to % 64);
+        }
     });
     after
 }
 
-fn count<const S: usize>(found: &Rewriting, marks: &mut [u8], reached: &[[u64; S]]) -> usize {
-    let accepting = found.accepting();
+fn count<const S: usize>(useful: &Useful, marks: &mut [u8], reached: &[[u64; S]]) -> usize {
     let mut ones = 0;
     for (mark, states) in marks.iter_mut().zip(reached) {
-        *mark = (0..S).any(|word| states[word] & accepting[word] != 0) as u8;
+        *mark = (0..S).any(|word| states[word] & useful.accepting[word] != 0) as u8;
         ones += *mark as usize;
     }
     ones

@@ -160,3 +160,11 @@ fn lent(recordings: u64, words: u64, marks: &[u8], workspace: &[u64]) -> Result<
     }
     Ok(recordings as usize)
 }
+
+/// The number of labels, the next standings and the accepting ones of a query,
+/// for peers that take an automaton.
+pub fn query_automaton(job: &[u8]) -> Option<(usize, Vec<u8>, u64)> {
+    let job = read(job).ok()?;
+    let query = standings(job.query(), job.labels).ok()?;
+    Some((query.labels, query.next, query.accepting))
+}

@@ -10,27 +10,30 @@ pub struct Table<'a> {
     begin: Vec<u32>,
 }
 
-/// The index of a table; 15 where the numbers are none.
+/// The index of a table; 15 where the numbers are none. The pass over the
+/// numbers has no branch.
 pub fn table(numbers: &[u16], recordings: usize, symbols: usize) -> Result<Table<'_>> {
     if numbers.len() % 3 != 0 || numbers.len() > 3 * MOST_LINKS {
         return refuse(15);
     }
     let mut begin = vec![0u32; recordings + 1];
-    let mut before = None;
-    let mut next = 0;
+    let (mut before, mut bad) = (0, false);
     for (place, link) in numbers.chunks_exact(3).enumerate() {
         let (from, symbol, to) = (link[0] as usize, link[1] as usize, link[2] as usize);
-        let number = (from as u64) << 32 | (symbol as u64) << 16 | to as u64;
-        if from >= recordings || symbol >= symbols || to >= recordings || before >= Some(number) {
-            return refuse(15);
-        }
-        before = Some(number);
-        while next <= from {
-            begin[next] = 3 * place as u32;
-            next += 1;
-        }
+        // One more, so that the first link comes after nothing.
+        let number = 1 + ((from as u64) << 32 | (symbol as u64) << 16 | to as u64);
+        bad |= (from >= recordings) | (symbol >= symbols) | (to >= recordings) | (number <= before);
+        before = number;
+        begin[recordings.min(from + 1)] = 3 * (place as u32 + 1);
     }
-    begin[next..].fill(numbers.len() as u32);
+    if bad {
+        return refuse(15);
+    }
+    let mut most = 0;
+    for place in &mut begin {
+        most = most.max(*place);
+        *place = most;
+    }
     Ok(Table { numbers, begin })
 }
 

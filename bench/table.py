@@ -1,0 +1,104 @@
+"""Prints the table of ratios, in Markdown, from the files of a run: table.py FOLDER."""
+
+import math
+import os
+import sys
+
+WORDS = {"ours": "ours", "peer": "tuned peer", "foma": "foma", "sqlite": "SQLite", "rdflib": "rdflib"}
+HEAD = """Ours is the proved code, called from Rust. A time is the median of several runs, warm, in microseconds; behind it stands how many
+times as long as ours it is, so above 1 ours is faster. Instructions are callgrind's, of one run. Buffers are not cleared first: every
+lent buffer is filled with a pattern before each call, outside of what is measured, and the operations write what they promise.
+Random jobs are measured together, 20 to a line. A dash: not run, or not counted.
+"""
+
+
+def rows(folder, name):
+    path = os.path.join(folder, name)
+    if not os.path.exists(path):
+        return []
+    return [line.rstrip("\n").split("\t") for line in open(path, encoding="utf-8")]
+
+
+def numbers(folder, name):
+    """By case and by who: the times or counts."""
+    return {(row[0], row[1]): float(row[2]) for row in rows(folder, name) if row[2]}
+
+
+def amount(number):
+    """Three figures, with commas."""
+    if number >= 100:
+        return f"{number:,.0f}"
+    return f"{number:.3g}"
+
+
+def cell(values, case, who, scale):
+    value, ours = values.get((case, who)), values.get((case, "ours"))
+    if value is None:
+        return "–"
+    text = amount(value * scale)
+    return text if who == "ours" else f"{text} ({amount(value / ours)})"
+
+
+def table(cases, others, times, counts):
+    people = ["ours", "peer"] + others
+    counted = ["ours", "peer"] + [who for who in others if who != "rdflib"]
+    names = [f"{WORDS[who]}, µs" for who in people] + [f"{WORDS[who]}, instructions" for who in counted]
+    print("| operation | input | " + " | ".join(names) + " |")
+    print("|---|---|" + "---:|" * len(names))
+    for case, operation, title, *_ in cases:
+        cells = [cell(times, case, who, 1e6) for who in people] + [cell(counts, case, who, 1) for who in counted]
+        print(f"| {operation} | {title} | " + " | ".join(cells) + " |")
+    print()
+
+
+def least(values, cases, who):
+    """The least ratio to ours, and where."""
+    ratios = [(values[case, who] / values[case, "ours"], title) for case, _, title, *_ in cases if (case, who) in values]
+    return min(ratios) if ratios else None
+
+
+def reach(what, wanted, cases, who, times, counts):
+    line = f"| {what} against {WORDS[who]} | {wanted} |"
+    for values in (times, counts):
+        found = least(values, cases, who)
+        line += f" {amount(found[0])} ({found[1]}) |" if found else " – |"
+    met = least(times, cases, who)
+    print(line, "–" if met is None else "yes" if met[0] >= wanted else "no", "|")
+
+
+def slope(points):
+    """The exponent of growth: the slope of the logarithms, by least squares."""
+    logs = [(math.log(x), math.log(y)) for x, y in points]
+    x, y = (sum(column) / len(logs) for column in zip(*logs))
+    return sum((u - x) * (v - y) for u, v in logs) / sum((u - x) ** 2 for u, _ in logs)
+
+
+def growth(folder):
+    print("| series | who | exponent by time | exponent by instructions |")
+    print("|---|---|---:|---:|")
+    for series in ("links-example", "links-standings", "states", "pairs"):
+        for who in ("ours", "peer"):
+            line = f"| {series} | {WORDS[who]} |"
+            for name in ("growth-times.tsv", "growth-counts.tsv"):
+                found = [row for row in rows(folder, name) if row[0] == series and row[2] == who]
+                points = [(float(row[1]), float(row[3])) for row in found]
+                line += f" {slope(points):.2f} |" if points else " – |"
+            print(line)
+
+
+def main():
+    folder = sys.argv[1]
+    cases, times, counts = rows(folder, "cases.tsv"), numbers(folder, "times.tsv"), numbers(folder, "counts.tsv")
+    kinds = {kind: [case for case in cases if case[1].startswith(kind)] for kind in ("Find", "Verdict", "Answer")}
+    print(HEAD)
+    table(kinds["Find"] + kinds["Verdict"], ["foma"], times, counts)
+    table(kinds["Answer"], ["sqlite", "rdflib"], times, counts)
+    print("| reach | wanted | least ratio by time | least ratio by instructions | reached |\n|---|---:|---:|---:|---|")
+    for kind, other, wanted in (("Find", "foma", 20), ("Verdict", "foma", 20), ("Answer", "sqlite", 100)):
+        reach(kind, wanted, kinds[kind], other, times, counts)
+        reach(kind, 1, kinds[kind], "peer", times, counts)
+    print()
+    growth(folder)
+
+
+main()
