@@ -1,15 +1,19 @@
 """Prints the table of ratios, in Markdown, from the files of a run: table.py FOLDER."""
 
-import math
 import os
 import sys
 
 WORDS = {"ours": "ours", "peer": "tuned peer", "foma": "foma", "sqlite": "SQLite", "rdflib": "rdflib"}
-HEAD = """Ours is the proved code, called from Rust. A time is the median of several runs, warm, in microseconds; behind it stands how many
-times as long as ours it is, so above 1 ours is faster. Instructions are callgrind's, of one run. Buffers are not cleared first: every
+HEAD = """Ours is the proved code, called from Rust. A time is the median of several runs, warm, in microseconds, each the lesser of
+the time that passed and of processor time; behind it stands how many times as long as ours it is, so above 1 ours is faster. Instructions are callgrind's, of one run. Buffers are not cleared first: every
 lent buffer is filled with a pattern before each call, outside of what is measured, and the operations write what they promise.
 Random jobs are measured together, 20 to a line. A dash: not run, or not counted.
 """
+
+
+def plain(text):
+    """A bar would end a cell."""
+    return text.replace("|", "\\|")
 
 
 def rows(folder, name):
@@ -47,7 +51,7 @@ def table(cases, others, times, counts):
     print("|---|---|" + "---:|" * len(names))
     for case, operation, title, *_ in cases:
         cells = [cell(times, case, who, 1e6) for who in people] + [cell(counts, case, who, 1) for who in counted]
-        print(f"| {operation} | {title} | " + " | ".join(cells) + " |")
+        print(f"| {operation} | {plain(title)} | " + " | ".join(cells) + " |")
     print()
 
 
@@ -61,29 +65,36 @@ def reach(what, wanted, cases, who, times, counts):
     line = f"| {what} against {WORDS[who]} | {wanted} |"
     for values in (times, counts):
         found = least(values, cases, who)
-        line += f" {amount(found[0])} ({found[1]}) |" if found else " – |"
+        line += f" {amount(found[0])} ({plain(found[1])}) |" if found else " – |"
     met = least(times, cases, who)
     print(line, "–" if met is None else "yes" if met[0] >= wanted else "no", "|")
 
 
-def slope(points):
-    """The exponent of growth: the slope of the logarithms, by least squares."""
-    logs = [(math.log(x), math.log(y)) for x, y in points]
-    x, y = (sum(column) / len(logs) for column in zip(*logs))
-    return sum((u - x) * (v - y) for u, v in logs) / sum((u - x) ** 2 for u, _ in logs)
+def bend(points):
+    """What a unit more costs in the upper half of a series, over what it costs in the lower half: 1 where growth is linear."""
+    (x, y), (u, v), (p, q) = points[0], points[len(points) // 2], points[-1]
+    return (q - v) / (p - u) / ((v - y) / (u - x))
+
+
+SERIES = {
+    "links-example": "links, `a.(b.a\\|c)*`",
+    "links-standings": "links, 33 standings",
+    "states": "states",
+    "pairs": "pairs",
+}
 
 
 def growth(folder):
-    print("| series | who | exponent by time | exponent by instructions |")
-    print("|---|---|---:|---:|")
-    for series in ("links-example", "links-standings", "states", "pairs"):
+    print("| growth in | who | by time | by instructions |\n|---|---|---:|---:|")
+    for series, title in SERIES.items():
         for who in ("ours", "peer"):
-            line = f"| {series} | {WORDS[who]} |"
+            line = f"| {title} | {WORDS[who]} |"
             for name in ("growth-times.tsv", "growth-counts.tsv"):
                 found = [row for row in rows(folder, name) if row[0] == series and row[2] == who]
                 points = [(float(row[1]), float(row[3])) for row in found]
-                line += f" {slope(points):.2f} |" if points else " – |"
+                line += f" {bend(points):.2f} |" if points else " – |"
             print(line)
+    print("\nGrowth: what one more costs in the upper half of the series, over what it costs in the lower half. 1 is linear.")
 
 
 def main():

@@ -5,10 +5,28 @@
 #include <stdlib.h>
 #include <time.h>
 
-static inline double now(void) {
+static inline double clock_of(clockid_t clock) {
     struct timespec time;
-    clock_gettime(CLOCK_MONOTONIC, &time);
+    clock_gettime(clock, &time);
     return (double)time.tv_sec + 1e-9 * (double)time.tv_nsec;
+}
+
+static inline double now(void) { return clock_of(CLOCK_MONOTONIC); }
+
+/* A moment by both clocks: the time that passes, and the thread's processor time. */
+struct moment {
+    double passed, used;
+};
+
+static inline struct moment moment(void) {
+    return (struct moment){now(), clock_of(CLOCK_THREAD_CPUTIME_ID)};
+}
+
+/* The lesser of both times since the moment, so that other work on the machine is not charged to a call that it interrupts. */
+static inline double since(struct moment begin) {
+    struct moment end = moment();
+    double passed = end.passed - begin.passed, used = end.used - begin.used;
+    return passed < used ? passed : used;
 }
 
 static inline int by_size(const void *one, const void *two) {

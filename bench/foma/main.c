@@ -48,9 +48,9 @@ void measured_foma(const struct job *job, int verdict) {
 }
 
 static double run(const struct job *jobs, int count, int verdict) {
-    double begin = now();
+    struct moment begin = moment();
     for (int number = 0; number < count; number++) measured_foma(&jobs[number], verdict);
-    return now() - begin;
+    return since(begin);
 }
 
 int main(int count, char **words) {

@@ -56,9 +56,9 @@ def main():
     prepared = prepareQuery(f"SELECT DISTINCT ?y WHERE {{ <{recording(start)}> {property_path(query)} ?y }}")
     times, begin = [], time.perf_counter()
     while not times or time.perf_counter() - begin < seconds:
-        before = time.perf_counter()
+        before = time.perf_counter(), time.thread_time()
         found = list(graph.query(prepared))
-        times.append(time.perf_counter() - before)
+        times.append(min(time.perf_counter() - before[0], time.thread_time() - before[1]))
         if {int(row[0].rsplit("/", 1)[1]) for row in found} != marked:
             sys.exit(f"rdflib: other marks than the proved operation's at {case}")
     print(f"{case}\trdflib\t{statistics.median(times):.9f}\t{len(times)}")

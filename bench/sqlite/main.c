@@ -61,12 +61,12 @@ static int fill(sqlite3 *base, FILE *file) {
 
 /* What is timed: the query, from the start to the last marked recording. */
 double measured_sqlite(sqlite3 *base, sqlite3_stmt *statement, int start) {
-    double begin = now();
+    struct moment begin = moment();
     sqlite3_bind_int(statement, 1, start);
     int code;
     while ((code = sqlite3_step(statement)) == SQLITE_ROW) marked[sqlite3_column_int(statement, 0)] = 1;
     check(code, SQLITE_DONE, base);
-    double time = now() - begin;
+    double time = since(begin);
     sqlite3_reset(statement);
     return time;
 }

@@ -56,12 +56,12 @@ fn random_jobs(folder: &Path) -> Vec<Case> {
 fn graphs() -> Vec<Case> {
     let mut cases = Vec::new();
     for recordings in [64, 256, 1024, 4096] {
-        cases.push(links_case("example", &jobs::example(), recordings));
-        cases.push(links_case("standings-33", &jobs::from_the_end(), recordings));
+        cases.push(links_case("example", "a.(b.a|c)*", &jobs::example(), recordings));
+        cases.push(links_case("standings-33", "that of 33 standings", &jobs::from_the_end(), recordings));
     }
     for recordings in [64, 256, 1024, 4096] {
-        cases.push(lists_case("example", &jobs::example(), 3, recordings));
-        cases.push(lists_case("states-253", &jobs::optional(20), 2, recordings));
+        cases.push(lists_case("example", "a.(b.a|c)*, 6 states", &jobs::example(), 3, recordings));
+        cases.push(lists_case("states-253", "that of 253 states", &jobs::optional(20), 2, recordings));
     }
     cases
 }
@@ -76,17 +76,17 @@ fn labels(job: &str) -> usize {
     job.lines().filter(|line| line.starts_with("label ")).count()
 }
 
-fn links_case(name: &str, job: &str, recordings: usize) -> Case {
+fn links_case(name: &str, what: &str, job: &str, recordings: usize) -> Case {
     let links = 4 * recordings;
-    let title = format!("{name}, {recordings} recordings, {links} links");
+    let title = format!("{what}, {recordings} recordings, {links} links");
     let input = answer(Operation::Links, job, labels(job), recordings, links);
     let case = Case::new(&format!("links-{name}-{recordings}"), &title, vec![input]);
     Case { counted: recordings == 4096, sqlite: true, rdflib: recordings <= 256, ..case }
 }
 
-fn lists_case(name: &str, job: &str, lists: usize, recordings: usize) -> Case {
+fn lists_case(name: &str, what: &str, job: &str, lists: usize, recordings: usize) -> Case {
     let links = 4 * recordings;
-    let title = format!("{name}, {recordings} recordings, {links} list entries");
+    let title = format!("{what}, {recordings} recordings, {links} list entries");
     let input = answer(Operation::Lists, job, lists, recordings, links);
     let case = Case::new(&format!("lists-{name}-{recordings}"), &title, vec![input]);
     Case { counted: recordings == 4096, sqlite: true, ..case }

@@ -1,6 +1,7 @@
 //! Runs every case with the proved operations and with the tuned peer.
 
 mod cases;
+mod clock;
 mod compare;
 mod count;
 mod graphs;

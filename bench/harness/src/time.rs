@@ -1,6 +1,7 @@
 //! Times: the median of several runs of a case, ours and the peer's by turns.
 //! The buffers are filled again between the calls, outside of what is timed.
 
+use crate::clock::timed;
 use crate::input::{Case, Input};
 use crate::lent::Lent;
 use crate::ours::measured_ours;
@@ -8,7 +9,7 @@ use crate::tuned::measured_peer;
 use std::time::{Duration, Instant};
 
 /// How long a case is repeated, and how often at least and at most.
-const BUDGET: Duration = Duration::from_millis(600);
+const BUDGET: Duration = Duration::from_millis(400);
 const LEAST: usize = 5;
 const MOST: usize = 2001;
 
@@ -18,9 +19,9 @@ fn once(measured: Measured, case: &Case, lent: &mut [Lent]) -> Duration {
     let mut sum = Duration::ZERO;
     for (input, lent) in case.inputs.iter().zip(lent) {
         lent.fill();
-        let begin = Instant::now();
-        std::hint::black_box(measured(input, lent));
-        sum += begin.elapsed();
+        sum += timed(|| {
+            std::hint::black_box(measured(input, lent));
+        });
     }
     sum
 }
