@@ -3,11 +3,22 @@
 import os
 import sys
 
-WORDS = {"ours": "ours", "peer": "tuned peer", "foma": "foma", "sqlite": "SQLite", "rdflib": "rdflib"}
-HEAD = """Ours is the proved code, called from Rust. A time is the median of several runs, warm, in microseconds, each the lesser of
-the time that passed and of processor time; behind it stands how many times as long as ours it is, so above 1 ours is faster. Instructions are callgrind's, of one run. Buffers are not cleared first: every
-lent buffer is filled with a pattern before each call, outside of what is measured, and the operations write what they promise.
-Random jobs are measured together, 20 to a line. A dash: not run, or not counted.
+WORDS = {
+    "ours": "ours",
+    "peer": "tuned peer",
+    "foma": "foma",
+    "foma-pairs": "foma, pairs too",
+    "sqlite": "SQLite",
+    "sqlite-filled": "SQLite, filling too",
+    "rdflib": "rdflib",
+}
+NOT_COUNTED = ("foma-pairs", "sqlite-filled", "rdflib")
+HEAD = """Ours is the proved code, called from Rust. A time is the median of several runs, warm, in microseconds, each the lesser of the time that
+passed and of processor time; behind it stands how many times as long as ours it is, so above 1 ours is faster. Instructions are those of
+callgrind in one run. Buffers are not cleared first: every lent buffer is filled with a pattern before each call, outside of what is measured,
+and the operations write what they promise. Random jobs are measured together, 20 to a line. "foma" finds the missed path and counts no
+pairs; "pairs too" adds its subset construction, whose sets are the pairs. "SQLite" is the query alone; "filling too" adds the filling of its
+tables, since an operation checks and indexes its table in every call. A dash: not run, or not counted.
 """
 
 
@@ -45,7 +56,7 @@ def cell(values, case, who, scale):
 
 def table(cases, others, times, counts):
     people = ["ours", "peer"] + others
-    counted = ["ours", "peer"] + [who for who in others if who != "rdflib"]
+    counted = ["ours", "peer"] + [who for who in others if who not in NOT_COUNTED]
     names = [f"{WORDS[who]}, µs" for who in people] + [f"{WORDS[who]}, instructions" for who in counted]
     print("| operation | input | " + " | ".join(names) + " |")
     print("|---|---|" + "---:|" * len(names))
@@ -55,19 +66,19 @@ def table(cases, others, times, counts):
     print()
 
 
-def least(values, cases, who):
-    """The least ratio to ours, and where."""
-    ratios = [(values[case, who] / values[case, "ours"], title) for case, _, title, *_ in cases if (case, who) in values]
-    return min(ratios) if ratios else None
+def ratios(values, cases, who):
+    """How many times as long as ours, and where; the least first."""
+    known = [(case, title) for case, _, title, *_ in cases if (case, who) in values]
+    return sorted((values[case, who] / values[case, "ours"], title) for case, title in known)
 
 
 def reach(what, wanted, cases, who, times, counts):
     line = f"| {what} against {WORDS[who]} | {wanted} |"
     for values in (times, counts):
-        found = least(values, cases, who)
-        line += f" {amount(found[0])} ({plain(found[1])}) |" if found else " – |"
-    met = least(times, cases, who)
-    print(line, "–" if met is None else "yes" if met[0] >= wanted else "no", "|")
+        found = ratios(values, cases, who)
+        line += f" {amount(found[0][0])} ({plain(found[0][1])}) |" if found else " – |"
+    found = ratios(times, cases, who)
+    print(line, f"{sum(ratio >= wanted for ratio, _ in found)} of {len(found)} |")
 
 
 def bend(points):
@@ -102,12 +113,13 @@ def main():
     cases, times, counts = rows(folder, "cases.tsv"), numbers(folder, "times.tsv"), numbers(folder, "counts.tsv")
     kinds = {kind: [case for case in cases if case[1].startswith(kind)] for kind in ("Find", "Verdict", "Answer")}
     print(HEAD)
-    table(kinds["Find"] + kinds["Verdict"], ["foma"], times, counts)
-    table(kinds["Answer"], ["sqlite", "rdflib"], times, counts)
-    print("| reach | wanted | least ratio by time | least ratio by instructions | reached |\n|---|---:|---:|---:|---|")
-    for kind, other, wanted in (("Find", "foma", 20), ("Verdict", "foma", 20), ("Answer", "sqlite", 100)):
-        reach(kind, wanted, kinds[kind], other, times, counts)
-        reach(kind, 1, kinds[kind], "peer", times, counts)
+    table(kinds["Find"] + kinds["Verdict"], ["foma", "foma-pairs"], times, counts)
+    table(kinds["Answer"], ["sqlite", "sqlite-filled", "rdflib"], times, counts)
+    print("| reach | wanted | least ratio by time | least ratio by instructions | lines that reach it |\n|---|---:|---:|---:|---:|")
+    wanted = {"foma": 20, "foma-pairs": 20, "sqlite": 100, "sqlite-filled": 100, "peer": 1}
+    for kind, others in (("Find", ["foma"]), ("Verdict", ["foma", "foma-pairs"]), ("Answer", ["sqlite", "sqlite-filled"])):
+        for who in others + ["peer"]:
+            reach(kind, wanted[who], kinds[kind], who, times, counts)
     print()
     growth(folder)
 

@@ -21,6 +21,12 @@ static void read_missed(FILE *file, struct job *job) {
         if (fscanf(file, "%d", &job->missed[at]) != 1) bad("a missed label");
 }
 
+static void read_arcs(FILE *file, struct job *job) {
+    job->arcs = malloc((size_t)job->arc_count * sizeof *job->arcs);
+    for (struct arc *arc = job->arcs; arc < job->arcs + job->arc_count; arc++)
+        if (fscanf(file, "%d %d %d", &arc->from, &arc->label, &arc->to) != 3) bad("an arc");
+}
+
 /* One line; 0 at the end of the job. */
 static int read_line(FILE *file, const char *line, struct job *job) {
     if (strcmp(line, "end") == 0) return 0;
@@ -32,6 +38,8 @@ static int read_line(FILE *file, const char *line, struct job *job) {
         read_states(file, job);
     } else if (sscanf(line, "missed %d", &job->missed_length) == 1) {
         read_missed(file, job);
+    } else if (sscanf(line, "pairs %d %d", &job->pairs, &job->arc_count) == 2) {
+        read_arcs(file, job);
     } else if (sscanf(line, "query %599s", job->query) != 1 && line[0] != 0) {
         bad(line);
     }

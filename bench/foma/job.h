@@ -6,6 +6,10 @@
 
 enum { MOST_LABELS = 32, MOST_LISTS = 16, MOST_STATES = 256, MOST_PATH = 4096, MOST_TEXT = 600 };
 
+struct arc {
+    int from, label, to;
+};
+
 struct job {
     char labels[MOST_LABELS][20];
     char query[MOST_TEXT];
@@ -18,6 +22,11 @@ struct job {
     /* -1 where the verdict is complete. */
     int missed_length;
     int missed[MOST_PATH];
+    /* 0 where no verdict is asked for. */
+    int pairs;
+    /* The automaton whose sets of states are the pairs. */
+    int arc_count;
+    struct arc *arcs;
 };
 
 /* Reads the next job of the file; 0 where there is none. */

@@ -1,9 +1,10 @@
 /*
  * The greatest rewriting and the shortest missed path by foma's library, for the jobs of a case.
  *
- *     foma-peer CASE FILE find|verdict SECONDS
+ *     foma-peer CASE FILE SECONDS
  *
- * compares the answers with those in the file, then prints the case, the median time of all its jobs together and the number of runs.
+ * compares the answers with those in the file, then prints the case, the median time of all its jobs together and the number of runs. Where
+ * verdicts are asked for it prints a second line, with the time in which the pairs are counted too: foma needs none for a missed path.
  */
 #include <stdio.h>
 #include <stdlib.h>
@@ -22,24 +23,26 @@ static void fail(const char *what, const struct job *job) {
     exit(1);
 }
 
-/* The same rewriting, and the same missed path to the label. */
-static void compare(const struct job *job, int verdict) {
+/* The same rewriting, the same missed path to the label, as many pairs: foma has no empty set, so it may have one less. */
+static void compare(const struct job *job) {
     struct networks nets = networks(job);
     struct fsm *words = rewriting(job, nets);
     if (!fsm_equivalent(fsm_copy(words), found(job))) fail("rewriting", job);
     struct fsm *paths = missed(nets, words);
     int length = shortest(paths, path);
-    if (verdict && length != job->missed_length) fail("length of a missed path", job);
-    if (verdict && length > 0 && memcmp(path, job->missed, (size_t)length * sizeof *path) != 0) fail("missed path", job);
+    if (job->pairs && length != job->missed_length) fail("length of a missed path", job);
+    if (job->pairs && length > 0 && memcmp(path, job->missed, (size_t)length * sizeof *path) != 0) fail("missed path", job);
+    int other = job->pairs ? job->pairs - subsets(pair_network(job)) : 0;
+    if (other != 0 && other != 1) fail("number of pairs", job);
     fsm_destroy(paths);
     discard(nets);
 }
 
 /* What is timed: from the texts of the expressions to the rewriting or the path. */
-void measured_foma(const struct job *job, int verdict) {
+void measured_foma(const struct job *job) {
     struct networks nets = networks(job);
     struct fsm *net = rewriting(job, nets);
-    if (verdict) {
+    if (job->pairs) {
         net = missed(nets, net);
         shortest(net, path);
     }
@@ -47,22 +50,40 @@ void measured_foma(const struct job *job, int verdict) {
     discard(nets);
 }
 
-static double run(const struct job *jobs, int count, int verdict) {
+static double run(const struct job *jobs, int count) {
     struct moment begin = moment();
-    for (int number = 0; number < count; number++) measured_foma(&jobs[number], verdict);
+    for (int number = 0; number < count; number++) measured_foma(&jobs[number]);
     return since(begin);
 }
 
+/* The subset construction alone; making its automaton is not timed. */
+static double count_pairs(const struct job *jobs, int count) {
+    double time = 0;
+    for (int number = 0; number < count; number++) {
+        struct fsm *net = pair_network(&jobs[number]);
+        struct moment begin = moment();
+        subsets(net);
+        time += since(begin);
+    }
+    return time;
+}
+
+static double median_of(double (*what)(const struct job *, int), const struct job *jobs, int count, double seconds, int *runs) {
+    double times[MOST_RUNS], begin = now();
+    for (*runs = 0; *runs < 1 || (*runs < MOST_RUNS && now() - begin < seconds); ++*runs) times[*runs] = what(jobs, count);
+    return median(times, *runs);
+}
+
 int main(int count, char **words) {
-    if (count != 5) return 2;
     static struct job jobs[MOST_JOBS];
-    double times[MOST_RUNS], seconds = atof(words[4]), begin;
-    int number = 0, runs = 0, verdict = strcmp(words[3], "verdict") == 0;
-    FILE *file = fopen(words[2], "r");
+    FILE *file = count == 4 ? fopen(words[2], "r") : NULL;
+    int number = 0, runs;
     if (!file) return 2;
-    while (number < MOST_JOBS && read_job(file, &jobs[number])) compare(&jobs[number++], verdict);
-    for (begin = now(); runs < 1 || (runs < MOST_RUNS && now() - begin < seconds); runs++)
-        times[runs] = run(jobs, number, verdict);
-    printf("%s\tfoma\t%.9f\t%d\n", words[1], median(times, runs), runs);
+    while (number < MOST_JOBS && read_job(file, &jobs[number])) compare(&jobs[number++]);
+    double seconds = atof(words[3]), time = median_of(run, jobs, number, seconds, &runs);
+    printf("%s\tfoma\t%.9f\t%d\n", words[1], time, runs);
+    if (!jobs[0].pairs) return 0;
+    time += median_of(count_pairs, jobs, number, seconds, &runs);
+    printf("%s\tfoma-pairs\t%.9f\t%d\n", words[1], time, runs);
     return 0;
 }

@@ -103,3 +103,23 @@ struct fsm *found(const struct job *job) {
     fsm_construct_set_initial(handle, 0);
     return fsm_minimize(fsm_construct_done(handle));
 }
+
+struct fsm *pair_network(const struct job *job) {
+    struct fsm_construct_handle *handle = fsm_construct_init("pairs");
+    char name[16];
+    for (const struct arc *arc = job->arcs; arc < job->arcs + job->arc_count; arc++) {
+        symbol_name(name, 'l', arc->label);
+        fsm_construct_add_arc(handle, arc->from, arc->to, name, name);
+        fsm_construct_set_final(handle, arc->from);
+        fsm_construct_set_final(handle, arc->to);
+    }
+    fsm_construct_set_initial(handle, 0);
+    return fsm_construct_done(handle);
+}
+
+int subsets(struct fsm *net) {
+    net = fsm_determinize(net);
+    int count = net->statecount;
+    fsm_destroy(net);
+    return count;
+}

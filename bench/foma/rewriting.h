@@ -23,6 +23,10 @@ struct fsm *missed(struct networks networks, struct fsm *rewriting);
 /* The shortest path of a network, first in label order; its length, or -1 where there is none. */
 int shortest(struct fsm *net, int *path);
 
+/* The automaton whose sets of states are the pairs, and how many sets foma's subset construction has: the empty set is not among them. */
+struct fsm *pair_network(const struct job *job);
+int subsets(struct fsm *net);
+
 /* The proved operation's states as a network. */
 struct fsm *found(const struct job *job);
 

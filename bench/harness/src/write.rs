@@ -22,6 +22,7 @@ fn jobs(case: &Case, answers: &[(u64, Lent)]) -> String {
         text += &states(input, lent);
         if input.operation == Operation::Verdict {
             text += &missed(*told, lent);
+            text += &pairs(*told, input);
         }
         text += "end\n";
     }
@@ -52,6 +53,18 @@ fn missed(told: u64, lent: &Lent) -> String {
     let mut text = format!("missed {length}\n");
     for label in lent.path.iter().take(length.max(0) as usize) {
         writeln!(text, "{label}").unwrap();
+    }
+    text
+}
+
+/// The number of pairs, and the automaton whose sets of states they are.
+fn pairs(told: u64, input: &Input) -> String {
+    let mut arcs = peer::pair_automaton(&input.job).expect("a job that is answered");
+    arcs.sort();
+    arcs.dedup();
+    let mut text = format!("pairs {} {}\n", told >> 32 & 0xffff, arcs.len());
+    for (from, label, to) in arcs {
+        writeln!(text, "{from} {label} {to}").unwrap();
     }
     text
 }

@@ -16,7 +16,9 @@ mod refusal;
 mod seen;
 mod standings;
 mod states;
+mod subsets;
 mod table;
 mod verdict;
 
 pub use operations::{find, links, lists, query_automaton, verdict};
+pub use subsets::pair_automaton;

@@ -5,6 +5,7 @@ mod closure;
 mod columns;
 mod rows;
 
+pub use closure::closures;
 pub use columns::Columns;
 pub use rows::Rows;
 
