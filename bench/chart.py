@@ -72,7 +72,8 @@ def key(left, top, names):
     for number, (words, who, dashed) in enumerate(names):
         y = top + 16 + 15 * number
         dash = ' stroke-dasharray="5 3"' if dashed else ""
-        parts.append(f'<line x1="{left + 10}" y1="{y - 4}" x2="{left + 34}" y2="{y - 4}" stroke="{COLOURS[who]}" stroke-width="1.8"{dash}/>')
+        ends = f'x1="{left + 10}" y1="{y - 4}" x2="{left + 34}" y2="{y - 4}"'
+        parts.append(f'<line {ends} stroke="{COLOURS[who]}" stroke-width="1.8"{dash}/>')
         parts.append(text(left + 40, y, words, "start"))
     return parts
 

@@ -7,18 +7,20 @@ WORDS = {
     "ours": "ours",
     "peer": "tuned peer",
     "foma": "foma",
+    "foma-kept": "foma, memory kept",
     "foma-pairs": "foma, pairs too",
     "sqlite": "SQLite",
     "sqlite-filled": "SQLite, filling too",
     "rdflib": "rdflib",
 }
-NOT_COUNTED = ("foma-pairs", "sqlite-filled", "rdflib")
-HEAD = """Ours is the proved code, called from Rust. A time is the median of several runs, warm, in microseconds, each the lesser of the time that
-passed and of processor time; behind it stands how many times as long as ours it is, so above 1 ours is faster. Instructions are those of
-callgrind in one run. Buffers are not cleared first: every lent buffer is filled with a pattern before each call, outside of what is measured,
-and the operations write what they promise. Random jobs are measured together, 20 to a line. "foma" finds the missed path and counts no
-pairs; "pairs too" adds its subset construction, whose sets are the pairs. "SQLite" is the query alone; "filling too" adds the filling of its
-tables, since an operation checks and indexes its table in every call. A dash: not run, or not counted.
+NOT_COUNTED = ("foma-kept", "foma-pairs", "sqlite-filled", "rdflib")
+HEAD = """Ours is the proved code, called from Rust. A time is the median of several runs, warm, in microseconds, each the lesser of the
+time that passed and of processor time; behind it stands how many times as long as ours it is, so above 1 ours is faster. Instructions are
+those of callgrind in one run. Buffers are not cleared first: every lent buffer is filled with a pattern before each call, outside of what
+is measured, and the operations write what they promise. Random jobs are measured together, 20 to a line. "foma" is the library as it is,
+and counts no pairs; "memory kept" has the allocator keep what was freed; "pairs too" adds to that foma's subset construction, whose sets
+are the pairs. "SQLite" is the query alone; "filling too" adds the filling of its tables, since an operation checks and indexes its table in
+every call. A dash: not run, or not counted.
 """
 
 
@@ -66,10 +68,15 @@ def table(cases, others, times, counts):
     print()
 
 
-def ratios(values, cases, who):
-    """How many times as long as ours, and where; the least first."""
+def ratios(values, cases, who, base="ours"):
+    """How many times as long as ours, or as another's, and where; the least first."""
     known = [(case, title) for case, _, title, *_ in cases if (case, who) in values]
-    return sorted((values[case, who] / values[case, "ours"], title) for case, title in known)
+    return sorted((values[case, who] / values[case, base], title) for case, title in known)
+
+
+def reaching(times, cases, who, base, wanted):
+    found = ratios(times, cases, who, base)
+    return f"{sum(ratio >= wanted for ratio, _ in found)} of {len(found)}"
 
 
 def reach(what, wanted, cases, who, times, counts):
@@ -77,14 +84,20 @@ def reach(what, wanted, cases, who, times, counts):
     for values in (times, counts):
         found = ratios(values, cases, who)
         line += f" {amount(found[0][0])} ({plain(found[0][1])}) |" if found else " – |"
-    found = ratios(times, cases, who)
-    print(line, f"{sum(ratio >= wanted for ratio, _ in found)} of {len(found)} |")
+    line += f" {reaching(times, cases, who, 'ours', wanted)} |"
+    print(line, "– |" if who == "peer" else f"{reaching(times, cases, who, 'peer', wanted)} |")
+
+
+def slope(points):
+    """What one more costs, by least squares."""
+    x, y = (sum(column) / len(points) for column in zip(*points))
+    return sum((u - x) * (v - y) for u, v in points) / sum((u - x) ** 2 for u, _ in points)
 
 
 def bend(points):
-    """What a unit more costs in the upper half of a series, over what it costs in the lower half: 1 where growth is linear."""
-    (x, y), (u, v), (p, q) = points[0], points[len(points) // 2], points[-1]
-    return (q - v) / (p - u) / ((v - y) / (u - x))
+    """The slope of a series' upper half over that of its lower half: 1 where growth is linear."""
+    middle = len(points) // 2
+    return slope(points[middle:]) / slope(points[: middle + 1])
 
 
 SERIES = {
@@ -96,16 +109,15 @@ SERIES = {
 
 
 def growth(folder):
-    print("| growth in | who | by time | by instructions |\n|---|---|---:|---:|")
+    counted = rows(folder, "growth-counts.tsv")
+    found = counted or rows(folder, "growth-times.tsv")
+    print("| growth in | from | to | ours | tuned peer |\n|---|---:|---:|---:|---:|")
     for series, title in SERIES.items():
-        for who in ("ours", "peer"):
-            line = f"| {title} | {WORDS[who]} |"
-            for name in ("growth-times.tsv", "growth-counts.tsv"):
-                found = [row for row in rows(folder, name) if row[0] == series and row[2] == who]
-                points = [(float(row[1]), float(row[3])) for row in found]
-                line += f" {bend(points):.2f} |" if points else " – |"
-            print(line)
-    print("\nGrowth: what one more costs in the upper half of the series, over what it costs in the lower half. 1 is linear.")
+        points = {who: [(float(row[1]), float(row[3])) for row in found if (row[0], row[2]) == (series, who)] for who in ("ours", "peer")}
+        ends = points["ours"][0][0], points["ours"][-1][0]
+        print(f"| {title} | {ends[0]:,.0f} | {ends[1]:,.0f} | {bend(points['ours']):.2f} | {bend(points['peer']):.2f} |")
+    what = "instructions" if counted else "time"
+    print(f"\nGrowth: what one more costs in {what} in the upper half of the series, over the lower half. 1 is linear.")
 
 
 def main():
@@ -113,11 +125,13 @@ def main():
     cases, times, counts = rows(folder, "cases.tsv"), numbers(folder, "times.tsv"), numbers(folder, "counts.tsv")
     kinds = {kind: [case for case in cases if case[1].startswith(kind)] for kind in ("Find", "Verdict", "Answer")}
     print(HEAD)
-    table(kinds["Find"] + kinds["Verdict"], ["foma", "foma-pairs"], times, counts)
+    table(kinds["Find"] + kinds["Verdict"], ["foma", "foma-kept", "foma-pairs"], times, counts)
     table(kinds["Answer"], ["sqlite", "sqlite-filled", "rdflib"], times, counts)
-    print("| reach | wanted | least ratio by time | least ratio by instructions | lines that reach it |\n|---|---:|---:|---:|---:|")
-    wanted = {"foma": 20, "foma-pairs": 20, "sqlite": 100, "sqlite-filled": 100, "peer": 1}
-    for kind, others in (("Find", ["foma"]), ("Verdict", ["foma", "foma-pairs"]), ("Answer", ["sqlite", "sqlite-filled"])):
+    print("| reach | wanted | least ratio by time | least ratio by instructions | ours reaches it on | the tuned peer on |")
+    print("|---|---:|---:|---:|---:|---:|")
+    wanted = {"foma": 20, "foma-kept": 20, "foma-pairs": 20, "sqlite": 100, "sqlite-filled": 100, "peer": 1}
+    finders, answerers = ["foma", "foma-kept"], ["sqlite", "sqlite-filled"]
+    for kind, others in (("Find", finders), ("Verdict", finders + ["foma-pairs"]), ("Answer", answerers)):
         for who in others + ["peer"]:
             reach(kind, wanted[who], kinds[kind], who, times, counts)
     print()

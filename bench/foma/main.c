@@ -3,12 +3,15 @@
  *
  *     foma-peer CASE FILE SECONDS
  *
- * compares the answers with those in the file, then prints the case, the median time of all its jobs together and the number of runs. Where
- * verdicts are asked for it prints a second line, with the time in which the pairs are counted too: foma needs none for a missed path.
+ * compares the answers with those in the file, then prints the case, the median time of all its jobs together and the number of runs: as
+ * it is; with freed memory kept; and, where verdicts are asked for, with the pairs counted too, which foma does not need for a missed
+ * path. With 0 seconds it prints the first line alone, after one run.
  */
 #include <stdio.h>
 #include <stdlib.h>
 #include <string.h>
+#include <sys/wait.h>
+#include <unistd.h>
 
 #include "../timing.h"
 #include "job.h"
@@ -74,14 +77,30 @@ static double median_of(double (*what)(const struct job *, int), const struct jo
     return median(times, *runs);
 }
 
+/* In a process of its own, so that the allocator is as new for what is timed. */
+static void compare_all(const struct job *jobs, int count) {
+    int status = 1;
+    pid_t child = fork();
+    if (child == 0) {
+        for (int number = 0; number < count; number++) compare(&jobs[number]);
+        exit(0);
+    }
+    if (child < 0 || waitpid(child, &status, 0) != child || status != 0) exit(1);
+}
+
 int main(int count, char **words) {
     static struct job jobs[MOST_JOBS];
     FILE *file = count == 4 ? fopen(words[2], "r") : NULL;
     int number = 0, runs;
     if (!file) return 2;
-    while (number < MOST_JOBS && read_job(file, &jobs[number])) compare(&jobs[number++]);
+    while (number < MOST_JOBS && read_job(file, &jobs[number])) number++;
+    compare_all(jobs, number);
     double seconds = atof(words[3]), time = median_of(run, jobs, number, seconds, &runs);
     printf("%s\tfoma\t%.9f\t%d\n", words[1], time, runs);
+    if (seconds == 0) return 0;
+    keep_memory();
+    time = median_of(run, jobs, number, seconds, &runs);
+    printf("%s\tfoma-kept\t%.9f\t%d\n", words[1], time, runs);
     if (!jobs[0].pairs) return 0;
     time += median_of(count_pairs, jobs, number, seconds, &runs);
     printf("%s\tfoma-pairs\t%.9f\t%d\n", words[1], time, runs);

@@ -39,7 +39,10 @@ fn chosen(folder: &Path, name: Option<&String>) -> Vec<Case> {
         return growth::all();
     }
     let mut cases = cases::all(folder);
-    cases.retain(|case| name.is_none_or(|name| *name == case.name));
+    if let Some(name) = name {
+        cases.retain(|case| case.name == *name);
+        cases.iter_mut().for_each(|case| case.counted = true);
+    }
     cases
 }
 

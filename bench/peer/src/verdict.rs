@@ -24,14 +24,31 @@ pub fn verdict(job: &Job, query: &Standings, found: &Rewriting, allowance: usize
     if states * width > MOST_PLACES {
         return refuse(12);
     }
-    if states * width.div_ceil(64) < width * states.div_ceil(64) {
-        return explore(Rows::new(job, found), query, allowance, path);
+    match layout(states, width) {
+        Layout::Rows(1) => explore(Rows::<1>::new(job, found), query, allowance, path),
+        Layout::Rows(2) => explore(Rows::<2>::new(job, found), query, allowance, path),
+        Layout::Rows(3..=4) => explore(Rows::<4>::new(job, found), query, allowance, path),
+        Layout::Rows(_) => explore(Rows::<16>::new(job, found), query, allowance, path),
+        Layout::Columns(1) => explore(Columns::<1>::new(job, found), query, allowance, path),
+        Layout::Columns(2) => explore(Columns::<2>::new(job, found), query, allowance, path),
+        Layout::Columns(3) => explore(Columns::<3>::new(job, found), query, allowance, path),
+        Layout::Columns(_) => explore(Columns::<4>::new(job, found), query, allowance, path),
     }
-    match states.div_ceil(64) {
-        1 => explore(Columns::<1>::new(job, found), query, allowance, path),
-        2 => explore(Columns::<2>::new(job, found), query, allowance, path),
-        3 => explore(Columns::<3>::new(job, found), query, allowance, path),
-        _ => explore(Columns::<4>::new(job, found), query, allowance, path),
+}
+
+/// A layout, and the words of each row or column.
+enum Layout {
+    Rows(usize),
+    Columns(usize),
+}
+
+/// The layout with fewer words.
+fn layout(states: usize, width: usize) -> Layout {
+    let (row, column) = (width.div_ceil(64), states.div_ceil(64));
+    if states * row < width * column {
+        Layout::Rows(row)
+    } else {
+        Layout::Columns(column)
     }
 }
 

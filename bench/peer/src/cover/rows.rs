@@ -1,5 +1,6 @@
 //! A row of places for each state: bit 0 for the state alone, then the
-//! occurrences of all lists.
+//! occurrences of all lists. There are at most 64 states: with more of them,
+//! columns have fewer words.
 
 use super::closure::closures;
 use super::Cover;
@@ -7,63 +8,69 @@ use crate::bits::{for_each, unite, Bits};
 use crate::job::Job;
 use crate::states::Rewriting;
 
-pub struct Rows {
+/// B words have all places of a row.
+pub struct Rows<const B: usize> {
     states: usize,
-    /// How many words a row has.
-    per: usize,
-    /// The places that follow each place, `per` words each.
-    follow: Vec<u64>,
+    /// The places that follow each place.
+    follow: Vec<[u64; B]>,
     /// The places of each label.
-    enter: Vec<u64>,
+    enter: Vec<[u64; B]>,
     /// The places where a path of their list may end.
-    ends: Vec<u64>,
-    /// The list of each place.
-    list: Vec<u8>,
-    next: Vec<u8>,
-    lists: usize,
-    closures: Vec<[u64; 4]>,
-    accepting: [u64; 4],
+    ends: [u64; B],
+    /// The states that a path ending there leads to, at 64 × B × state + place.
+    ended: Vec<u64>,
+    start: u64,
+    accepting: u64,
     /// For each state all places that some label leads to.
-    followed: Vec<u64>,
+    followed: Vec<[u64; B]>,
 }
 
-impl Rows {
-    pub fn new(job: &Job, rewriting: &Rewriting) -> Rows {
+impl<const B: usize> Rows<B> {
+    pub fn new(job: &Job, rewriting: &Rewriting) -> Rows<B> {
         let width = 1 + job.lists().iter().map(|list| list.size).sum::<usize>();
-        let (states, per) = (rewriting.count(), width.div_ceil(64));
+        let closures = closures(rewriting, job.lists());
         let mut rows = Rows {
-            states,
-            per,
-            follow: vec![0; per * width],
-            enter: vec![0; per * job.labels],
-            ends: vec![0; per],
-            list: vec![0; width],
-            next: rewriting.next.clone(),
-            lists: rewriting.lists,
-            closures: closures(rewriting, job.lists()),
-            accepting: rewriting.accepting(),
-            followed: vec![0; per * states],
+            states: rewriting.count(),
+            follow: vec![[0; B]; width],
+            enter: vec![[0; B]; job.labels],
+            ends: [0; B],
+            ended: vec![0; 64 * B * rewriting.count()],
+            start: closures[0][0],
+            accepting: rewriting.accepting()[0],
+            followed: vec![[0; B]; rewriting.count()],
         };
         rows.lay_out(job);
+        rows.lay_out_ends(job, rewriting, &closures);
         rows
     }
 
     /// The lists' automata side by side, with one start.
     fn lay_out(&mut self, job: &Job) {
         let mut base = 0;
-        for (number, list) in job.lists().iter().enumerate() {
+        for list in job.lists() {
             for place in 0..=list.size {
                 let from = if place == 0 { 0 } else { base + place };
                 for to in Bits(list.follow[place]) {
-                    set(&mut self.follow[self.per * from..], base + to);
+                    set(&mut self.follow[from], base + to);
                 }
             }
             for place in 1..=list.size {
-                set(&mut self.enter[self.per * list.label[place] as usize..], base + place);
-                self.list[base + place] = number as u8;
+                set(&mut self.enter[list.label[place] as usize], base + place);
             }
+            base += list.size;
+        }
+    }
+
+    /// Where paths may end, and the states that they then lead to.
+    fn lay_out_ends(&mut self, job: &Job, found: &Rewriting, closures: &[[u64; 4]]) {
+        let mut base = 0;
+        for (number, list) in job.lists().iter().enumerate() {
             for place in Bits(list.accepting & !1) {
                 set(&mut self.ends, base + place);
+                for state in 0..found.count() {
+                    let next = found.next[found.lists * state + number] as usize;
+                    self.ended[64 * B * state + base + place] = closures[next][0];
+                }
             }
             base += list.size;
         }
@@ -71,13 +78,15 @@ impl Rows {
 
     /// The states that paths may end at, from the row of a state.
     #[inline(always)]
-    fn ended(&self, state: usize, row: &[u64], alone: &mut [u64; 4]) {
-        for (number, (&word, &ends)) in row.iter().zip(&self.ends).enumerate() {
-            for place in Bits(word & ends) {
-                let list = self.list[64 * number + place] as usize;
-                unite(alone, &self.closures[self.next[self.lists * state + list] as usize]);
+    fn ended(&self, state: usize, row: &[u64; B]) -> u64 {
+        let ended = &self.ended[64 * B * state..][..64 * B];
+        let mut alone = 0;
+        for word in 0..B {
+            for place in Bits(row[word] & self.ends[word]) {
+                alone |= ended[64 * word + place];
             }
         }
+        alone
     }
 }
 
@@ -85,41 +94,43 @@ fn set(words: &mut [u64], place: usize) {
     words[place / 64] |= 1 << (place % 64);
 }
 
-impl Cover for Rows {
+impl<const B: usize> Cover for Rows<B> {
     fn words(&self) -> usize {
-        self.per * self.states
+        B * self.states
     }
 
     fn start(&self, to: &mut [u64]) {
         to.fill(0);
-        for_each(&self.closures[0], |state| to[self.per * state] |= 1);
+        for state in Bits(self.start) {
+            to[B * state] |= 1;
+        }
     }
 
     #[inline(always)]
     fn follow(&mut self, from: &[u64]) {
-        self.followed.fill(0);
-        for (row, followed) in from.chunks_exact(self.per).zip(self.followed.chunks_exact_mut(self.per)) {
-            for_each(row, |place| unite(followed, &self.follow[self.per * place..][..self.per]));
+        let (rows, _) = from.as_chunks::<B>();
+        for (row, followed) in rows.iter().zip(&mut self.followed) {
+            *followed = [0; B];
+            for_each(row, |place| unite(followed, &self.follow[place]));
         }
     }
 
     #[inline(always)]
     fn step(&self, label: usize, to: &mut [u64]) {
-        let enter = &self.enter[self.per * label..][..self.per];
-        let mut alone = [0; 4];
-        let rows = to.chunks_exact_mut(self.per).zip(self.followed.chunks_exact(self.per));
-        for (state, (row, followed)) in rows.enumerate() {
-            for ((word, &all), &enter) in row.iter_mut().zip(followed).zip(enter) {
-                *word = all & enter;
-            }
-            self.ended(state, row, &mut alone);
+        let enter = &self.enter[label];
+        let mut alone = 0;
+        let (rows, _) = to.as_chunks_mut::<B>();
+        for (state, (row, followed)) in rows.iter_mut().zip(&self.followed).enumerate() {
+            *row = std::array::from_fn(|word| followed[word] & enter[word]);
+            alone |= self.ended(state, row);
         }
-        for_each(&alone, |state| to[self.per * state] |= 1);
+        for state in Bits(alone) {
+            to[B * state] |= 1;
+        }
     }
 
     #[inline(always)]
     fn yields(&self, set: &[u64]) -> bool {
-        (0..self.states)
-            .any(|state| set[self.per * state] & 1 == 1 && self.accepting[state / 64] >> (state % 64) & 1 == 1)
+        Bits(self.accepting).any(|state| set[B * state] & 1 == 1)
     }
 }
