@@ -43,7 +43,8 @@ fn random_jobs(folder: &Path) -> Vec<Case> {
         for operation in [Operation::Find, Operation::Verdict] {
             let kind = if operation == Operation::Find { "find" } else { "verdict" };
             let name = format!("{kind}-random-{lists}-{occurrences}");
-            let title = format!("{} random jobs, {lists} lists of {occurrences} occurrences", jobs.len());
+            let plural = if lists == 1 { "list" } else { "lists" };
+            let title = format!("{} random jobs, {lists} {plural} of {occurrences} occurrences", jobs.len());
             let inputs = jobs.iter().map(|job| Input::job(operation, job)).collect();
             let case = Case::new(&name, &title, inputs);
             cases.push(Case { counted: lists * occurrences == 16, foma: true, ..case });
