@@ -21,6 +21,10 @@ pub mod FindLaws
 pub mod NextsLaws
 pub mod PlaceOfLaws
 pub mod CollectLaws
+pub mod Buckets
+pub mod BucketsLaws
+pub mod NumberIndex
+pub mod NumberIndexLaws
 pub mod MoveTable
 pub mod Exploring
 pub mod StandingsTold

@@ -59,6 +59,17 @@ pub place-within : (x : ℕ) (l : List ℕ) → placeOf x l ≤ length l
 unfolding placeOf
 place-within x l = omega (arith, place-high 0 x l)
 
+-- A number that is not in the list has the list's length for its place.
+absent-from : (i x : ℕ) (l : List ℕ) → ((j : ℕ) → j < length l → getD l j 0 ≢ x) → placeFrom i x l ≡ i + length l
+unfolding placeFrom
+absent-from i x [] f = omega arith
+absent-from i x (y ∷ l) f =
+    place-later i x y l (f 0 (omega arith)) ∙ absent-from (suc i) x l (λ j h. f (suc j) (omega arith)) ∙ omega arith
+
+pub place-absent : (x : ℕ) (l : List ℕ) → ((j : ℕ) → j < length l → getD l j 0 ≢ x) → placeOf x l ≡ length l
+unfolding placeOf
+place-absent x l f = absent-from 0 x l f ∙ omega arith
+
 -- What is put behind a list leaves the places in it as they are.
 place-kept : (i x : ℕ) (l m : List ℕ) → placeFrom i x l < i + length l → placeFrom i x (l ++ m) ≡ placeFrom i x l
 unfolding placeFrom

@@ -5,6 +5,7 @@ pub mod core;
 pub mod first;
 pub mod flags;
 pub mod image;
+mod index;
 pub mod list_images;
 pub mod number;
 pub mod operation;

@@ -1,7 +1,9 @@
 // The states of list words (document 01, "State"), by exploration over the lists. `images` has at 64 × list + standing the image of the
 // standing; `found` gets the states, `parents` and `symbols` for each state after the first the state and the list that it was first
 // reached from, and `table` at 16 × state + list the next state.
-use crate::search::place_of;
+use crate::index::bucket;
+use crate::index::find_place;
+use crate::index::note;
 use crate::standings::Explored;
 use crate::state::state_step;
 use places::Places;
@@ -9,6 +11,7 @@ ghost use mathlib.Core.Path.{_≡_};
 ghost use Prim.Native.Nat.{_*_, _≤_, _<_};
 ghost use lib.ListN.{length, getD, take, drop};
 ghost use Rattle.theory.specs.Places.{unionOver};
+ghost use Rattle.finding.specs.NumberIndex.{Indexed, IndexedAll};
 ghost use Rattle.finding.specs.StatesTold.{StatesTold};
 ghost use Rattle.finding.specs.StatesExploring.{memory, Room, Extended, Swept, AllSwept};
 
@@ -35,14 +38,19 @@ fn extend(
     parents: &mut [u64],
     symbols: &mut [u64],
     table: &mut [u16],
+    heads: &mut [u16; 1019],
+    nexts: &mut [u16; 256],
 ) -> Explored
-    requires { ⌜ (list < 16) × (s < n) × (n ≤ limit) × Room limit (memory (now found) (now parents) (now symbols) (now table)) ⌝ }
+    requires { ⌜ (list < 16) × (s < n) × (n ≤ limit) × Room limit (memory (now found) (now parents) (now symbols) (now table))
+        × Indexed (now found) n (now heads) (now nexts) ⌝ }
     ensures { λ r. ⌜ Extended (now (images .entry)) count limit s list n
         (memory (now (found .entry)) (now (parents .entry)) (now (symbols .entry)) (now (table .entry))) r
         (memory (now (found .exit)) (now (parents .exit)) (now (symbols .exit)) (now (table .exit))) ⌝ }
+    ensures indexed { λ r. ⌜ IndexedAll (now (found .exit)) (now (heads .exit)) (now (nexts .exit)) r ⌝ }
 {
     let next = next_state(images, count, list, found[s]);
-    let place = place_of(&found[..n], next);
+    let at = bucket(next);
+    let place = find_place(found, heads, nexts, at, n, next);
     if place < n {
         table[16 * s + list] = place as u16;
         return Explored::All(n as u64);
@@ -50,6 +58,7 @@ fn extend(
     if n >= limit {
         return Explored::Over;
     }
+    note(heads, nexts, at, n);
     found[n] = next;
     parents[n] = s as u64;
     symbols[n] = list as u64;
@@ -69,11 +78,15 @@ fn row(
     parents: &mut [u64],
     symbols: &mut [u64],
     table: &mut [u16],
+    heads: &mut [u16; 1019],
+    nexts: &mut [u16; 256],
 ) -> Explored
-    requires { ⌜ (lists ≤ 16) × (s < n) × (n ≤ limit) × Room limit (memory (now found) (now parents) (now symbols) (now table)) ⌝ }
+    requires { ⌜ (lists ≤ 16) × (s < n) × (n ≤ limit) × Room limit (memory (now found) (now parents) (now symbols) (now table))
+        × Indexed (now found) n (now heads) (now nexts) ⌝ }
     ensures { λ r. ⌜ Swept (now (images .entry)) count lists limit s n
         (memory (now (found .entry)) (now (parents .entry)) (now (symbols .entry)) (now (table .entry))) r
         (memory (now (found .exit)) (now (parents .exit)) (now (symbols .exit)) (now (table .exit))) ⌝ }
+    ensures indexed { λ r. ⌜ IndexedAll (now (found .exit)) (now (heads .exit)) (now (nexts .exit)) r ⌝ }
 {
     let mut m = n;
     let mut list = 0;
@@ -89,6 +102,8 @@ fn row(
             parents,
             symbols,
             table,
+            heads,
+            nexts,
         );
         match told {
             Explored::All(more) => {
@@ -103,7 +118,7 @@ fn row(
     Explored::All(m as u64)
 }
 
-// The rows of all states, in their order, from the start alone.
+// The rows of all states, in their order, from the start alone. The index of states takes about 3 KiB of the thread's stack.
 fn sweep(
     images: &[u64; 1024],
     count: u64,
@@ -118,7 +133,11 @@ fn sweep(
     ensures { λ r. ⌜ AllSwept (now (images .entry)) count lists limit (now (table .entry)) r
         (memory (now (found .exit)) (now (parents .exit)) (now (symbols .exit)) (now (table .exit))) ⌝ }
 {
-    found[0] = Places::START.0;
+    let mut heads: [u16; 1019] = [0; 1019];
+    let mut nexts: [u16; 256] = [0; 256];
+    let start = Places::START.0;
+    note(&mut heads, &mut nexts, bucket(start), 0);
+    found[0] = start;
     let mut n = 1;
     let mut s = 0;
     while s < n {
@@ -133,6 +152,8 @@ fn sweep(
             parents,
             symbols,
             table,
+            &mut heads,
+            &mut nexts,
         );
         match told {
             Explored::All(more) => {

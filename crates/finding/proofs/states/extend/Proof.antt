@@ -1,8 +1,7 @@
--- Each of the three ways is a step of the exploration (StatesExploring).
-use mathlib.Core.Path.{sym}
-use lib.Seq.{length-take-le}
+-- Each of the three ways is a step of the exploration (StatesExploring), and keeps the index (NumberIndex).
 use native.Mathlib.Omega.{arith}
 use Rattle.finding.specs.StatesExploring.{memory, extended-known, extended-over, extended-new}
+use Rattle.finding.specs.NumberIndexLaws.{indexed-more, indexed-all, indexed-over}
 use borrow.Author.Needs.{needs}
 use Rattle.finding.proofs.states.extend.Statement.{statement}
 use Rattle.finding.proofs.states.extend.Tie as tie
@@ -16,16 +15,14 @@ slice-read-next-state c = search needs
 next-state-requires : tie.Need-next-state-requires
 next-state-requires c κs = search needs
 
-slice-reshare-prefix-place-of : tie.Need-slice-reshare-prefix-place-of
-slice-reshare-prefix-place-of c = search needs
+bucket-requires : tie.Need-bucket-requires
+bucket-requires c κs = search needs
 
-slice-aggregate-place-of : tie.Need-slice-aggregate-place-of
-slice-aggregate-place-of c =
-    let start = c .before .before .before .before .before .before .before in
-    sym (length-take-le _ (start .args .found .now) (omega (arith, start .pre .3 .states)))
-
-place-of-requires : tie.Need-place-of-requires
-place-of-requires c κs = search needs
+find-place-requires : tie.Need-find-place-requires
+find-place-requires c κs =
+    let start = c .before .before .before .before .before .before .before .before .before .before in
+    let room = start .pre .3 in
+    (omega (arith, room .states), omega (arith, room .most), c .before .before .before .bucket .ensures, start .pre .4)
 
 cast-table : tie.Need-cast-table
 cast-table c = search needs
@@ -51,12 +48,14 @@ same-length-2 c = search needs
 returns : tie.Need-returns
 returns c =
     let search = c .before in
-    let next = search .before .before in
+    let next = search .before .before .before .before .before in
     let start = next .before .before .before .before .before .before in
-    let a = start .args in
-    extended-known (a .images .now) (a .count) (a .limit) (a .s) (a .list) (a .n) (next .next-state .result) (search .place-of .result)
-    (memory (a .found .now) (a .parents .now) (a .symbols .now) (a .table .now)) (start .pre .3) (start .pre .0) (start .pre .1)
-    (start .pre .2) (next .next-state .ensures) (search .place-of .ensures) (c .if1 .taken)
+    let a = start .args in (
+      extended-known (a .images .now) (a .count) (a .limit) (a .s) (a .list) (a .n) (next .next-state .result) (search .find-place .result)
+          (memory (a .found .now) (a .parents .now) (a .symbols .now) (a .table .now)) (start .pre .3) (start .pre .0) (start .pre .1)
+          (start .pre .2) (next .next-state .ensures) (search .find-place .ensures) (c .if1 .taken),
+      indexed-all (start .pre .4),
+    )
 
 same-length-3 : tie.Need-same-length-3
 same-length-3 c = search needs
@@ -64,12 +63,17 @@ same-length-3 c = search needs
 returns-2 : tie.Need-returns-2
 returns-2 c =
     let search = c .before .before in
-    let next = search .before .before in
+    let next = search .before .before .before .before .before in
     let start = next .before .before .before .before .before .before in
-    let a = start .args in
-    extended-over (a .images .now) (a .count) (a .limit) (a .s) (a .list) (a .n) (next .next-state .result) (search .place-of .result)
-    (memory (a .found .now) (a .parents .now) (a .symbols .now) (a .table .now)) (start .pre .3) (start .pre .0) (start .pre .1)
-    (start .pre .2) (next .next-state .ensures) (search .place-of .ensures) (c .before .if1 .left) (c .if2 .taken)
+    let a = start .args in (
+      extended-over (a .images .now) (a .count) (a .limit) (a .s) (a .list) (a .n) (next .next-state .result) (search .find-place .result)
+          (memory (a .found .now) (a .parents .now) (a .symbols .now) (a .table .now)) (start .pre .3) (start .pre .0) (start .pre .1)
+          (start .pre .2) (next .next-state .ensures) (search .find-place .ensures) (c .before .if1 .left) (c .if2 .taken),
+      indexed-over,
+    )
+
+note-requires : tie.Need-note-requires
+note-requires c κs = search needs
 
 mul-found : tie.Need-mul-found
 mul-found c = search needs
@@ -104,8 +108,8 @@ mul-table-4 c = search needs
 slice-write-table-2 : tie.Need-slice-write-table-2
 slice-write-table-2 c = search needs
 
-add-t32 : tie.Need-add-t32
-add-t32 c = search needs
+add-t40 : tie.Need-add-t40
+add-t40 c = search needs
 
 same-length-4 : tie.Need-same-length-4
 same-length-4 c = search needs
@@ -121,13 +125,20 @@ same-length-7 c = search needs
 
 returns-3 : tie.Need-returns-3
 returns-3 c =
-    let search = c .before .before in
-    let next = search .before .before in
+    let search = c .before .before .before .before .before in
+    let next = search .before .before .before .before .before in
     let start = next .before .before .before .before .before .before in
     let a = start .args in
-    extended-new (a .images .now) (a .count) (a .limit) (a .s) (a .list) (a .n) (next .next-state .result) (search .place-of .result)
-    (memory (a .found .now) (a .parents .now) (a .symbols .now) (a .table .now)) (start .pre .3) (start .pre .0) (start .pre .1)
-    (start .pre .2) (next .next-state .ensures) (search .place-of .ensures) (c .before .if1 .left) (c .if2 .left)
+    let below = c .before .before .before .if2 .left in
+    let new = c .before .before .before .before .if1 .left in (
+      extended-new (a .images .now) (a .count) (a .limit) (a .s) (a .list) (a .n) (next .next-state .result) (search .find-place .result)
+          (memory (a .found .now) (a .parents .now) (a .symbols .now) (a .table .now)) (start .pre .3) (start .pre .0) (start .pre .1)
+          (start .pre .2) (next .next-state .ensures) (search .find-place .ensures) new below,
+      indexed-all (indexed-more (a .found .now) (a .n) (next .next-state .result) _ _ _ _ _
+          (search .before .before .before .before .bucket .ensures)
+          (omega (arith, below, start .pre .3 .most)) (omega (arith, below, start .pre .3 .states))
+          (omega (arith, search .find-place .ensures, new)) (start .pre .4) (c .note .ensures)),
+    )
 
 pub extend-spec : {M : Type 1} → statement M
 extend-spec =
@@ -136,9 +147,8 @@ extend-spec =
     mul-next-state
     slice-read-next-state
     next-state-requires
-    slice-reshare-prefix-place-of
-    slice-aggregate-place-of
-    place-of-requires
+    bucket-requires
+    find-place-requires
     cast-table
     mul-table
     add-table
@@ -149,6 +159,7 @@ extend-spec =
     returns
     same-length-3
     returns-2
+    note-requires
     mul-found
     slice-write-found
     mul-parents
@@ -160,7 +171,7 @@ extend-spec =
     add-table-2
     mul-table-4
     slice-write-table-2
-    add-t32
+    add-t40
     same-length-4
     same-length-5
     same-length-6

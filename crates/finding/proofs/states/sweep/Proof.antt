@@ -1,36 +1,49 @@
--- The loop's invariant: what is left of the sweep tells what the exploration tells.
+-- The loop's invariant: what is left of the sweep tells what the exploration tells, and the states found are indexed.
 use Prim.Native.Nat.{_-_}
 use mathlib.Core.Path.{_∙_}
 use native.Mathlib.Omega.{arith}
 use lib.ListN.{set, length-set}
 use Rattle.finding.specs.StatesExploring.{memory, InSweep, in-sweep-start, in-sweep-more, in-sweep-over, in-sweep-end}
+use Rattle.finding.specs.NumberIndex.{Indexed}
+use Rattle.finding.specs.NumberIndexLaws.{indexed-none, indexed-more}
 use borrow.Author.Needs.{needs}
 use Rattle.finding.proofs.states.sweep.Statement.{statement}
 use Rattle.finding.proofs.states.sweep.Tie as tie
 
 abbrev Inv-loop : tie.InvT-loop
-Inv-loop images count lists limit found₀ parents₀ symbols₀ table₀ n₀ s₀ found parents symbols table n s =
+Inv-loop images count lists limit found₀ parents₀ symbols₀ table₀ heads₀ nexts₀ start n₀ s₀ found parents symbols table heads nexts n s =
     InSweep images count lists limit (memory found₀ parents₀ symbols₀ table₀) s n (memory found parents symbols table)
+    × Indexed found n heads nexts
 
 abbrev μ-loop : tie.MeasureT-loop
-μ-loop images count lists limit found₀ parents₀ symbols₀ table₀ n₀ s₀ found parents symbols table n s =
+μ-loop images count lists limit found₀ parents₀ symbols₀ table₀ heads₀ nexts₀ start n₀ s₀ found parents symbols table heads nexts n s =
     limit - s
+
+bucket-requires : tie.Need-bucket-requires Inv-loop μ-loop
+bucket-requires c κs = search needs
+
+note-requires : tie.Need-note-requires Inv-loop μ-loop
+note-requires c κs = search needs
 
 slice-write-found : tie.Need-slice-write-found Inv-loop μ-loop
 slice-write-found c = search needs
 
 loop-holds : tie.Need-loop-holds Inv-loop μ-loop
 loop-holds c =
-    let start = c .before .before .before .before in
-    let a = start .args in
-    in-sweep-start (a .images .now) (a .count) (a .lists) (a .limit) (a .found .now) (a .parents .now) (a .symbols .now)
-    (a .table .now) (start .pre .1) (start .pre .2)
+    let start = c .before .before .before .before .before .before .before .before in
+    let a = start .args in (
+      in-sweep-start (a .images .now) (a .count) (a .lists) (a .limit) (a .found .now) (a .parents .now) (a .symbols .now)
+          (a .table .now) (start .pre .1) (start .pre .2),
+      indexed-more (a .found .now) 0 1 _ _ _ _ _ (c .before .bucket .ensures) (omega arith)
+          (omega (arith, start .pre .1, start .pre .2 .states)) (omega arith) (indexed-none (a .found .now)) (c .note .ensures),
+    )
 
 row-requires : tie.Need-row-requires Inv-loop μ-loop
 row-requires c κs =
-    let head = c .before .before .before .before .before in
-    let start = head .before .before .before .before .before in
-    (start .pre .0, c .before .before .before .before .loop-test .taken, head .loop .inv .within, head .loop .inv .room)
+    let head = c .before .before .before .before .before .before .before in
+    let start = head .before .before .before .before .before .before .before .before .before in
+    let inv = head .loop .inv in
+    (start .pre .0, c .before .before .before .before .before .before .loop-test .taken, inv .0 .within, inv .0 .room, inv .1)
 
 enum-known-told : tie.Need-enum-known-told Inv-loop μ-loop
 enum-known-told c = search needs
@@ -41,28 +54,32 @@ enum-told c = search needs
 same-length : tie.Need-same-length Inv-loop μ-loop
 same-length c =
     let call = c .before .before .before .before .before .before .before .before .before .before in
-    call .row .kept .1 .1 .1 .1 .1 .1 .0 ∙ call .before .before .before .before .before .before .loop .inv .sizes .states ∙ simp length-set
+    let head = call .before .before .before .before .before .before .before .before in
+    call .row .kept .1 .1 .1 .1 .1 .1 .0 ∙ head .loop .inv .0 .sizes .states ∙ simp length-set
 
 same-length-2 : tie.Need-same-length-2 Inv-loop μ-loop
 same-length-2 c =
     let call = c .before .before .before .before .before .before .before .before .before .before in
-    call .row .kept .1 .1 .1 .1 .1 .1 .1 .0 ∙ call .before .before .before .before .before .before .loop .inv .sizes .origins
+    let head = call .before .before .before .before .before .before .before .before in
+    call .row .kept .1 .1 .1 .1 .1 .1 .1 .0 ∙ head .loop .inv .0 .sizes .origins
 
 same-length-3 : tie.Need-same-length-3 Inv-loop μ-loop
 same-length-3 c =
     let call = c .before .before .before .before .before .before .before .before .before .before in
-    call .row .kept .1 .1 .1 .1 .1 .1 .1 .1 .0 ∙ call .before .before .before .before .before .before .loop .inv .sizes .steps
+    let head = call .before .before .before .before .before .before .before .before in
+    call .row .kept .1 .1 .1 .1 .1 .1 .1 .1 .0 ∙ head .loop .inv .0 .sizes .steps
 
 same-length-4 : tie.Need-same-length-4 Inv-loop μ-loop
 same-length-4 c =
     let call = c .before .before .before .before .before .before .before .before .before .before in
-    call .row .kept .1 .1 .1 .1 .1 .1 .1 .1 .1 .0 ∙ call .before .before .before .before .before .before .loop .inv .sizes .rows
+    let head = call .before .before .before .before .before .before .before .before in
+    call .row .kept .1 .1 .1 .1 .1 .1 .1 .1 .1 .0 ∙ head .loop .inv .0 .sizes .rows
 
 returns : tie.Need-returns Inv-loop μ-loop
 returns c =
     let call = c .before .before .before .before .before .before .before .before .before .before in
-    let head = call .before .before .before .before .before .before in
-    let start = head .before .before .before .before .before in
+    let head = call .before .before .before .before .before .before .before .before in
+    let start = head .before .before .before .before .before .before .before .before .before in
     let a = start .args in
     let l = head .loop in
     let e = call .row in
@@ -70,56 +87,58 @@ returns c =
     in-sweep-over (a .images .now) (a .count) (a .lists) (a .limit)
     (memory (set (a .found .now) 0 1) (a .parents .now) (a .symbols .now) (a .table .now))
     (l .s) (l .n) (memory (l .found) (l .parents) (l .symbols) (l .table)) (e .result)
-    (memory (last .0) (last .1 .0) (last .1 .1 .0) (last .1 .1 .1 .0)) (l .inv) (start .pre .0) (e .ensures) (c .enum-told .given .1)
+    (memory (last .0) (last .1 .0) (last .1 .1 .0) (last .1 .1 .1 .0)) (l .inv .0) (start .pre .0) (e .ensures .0) (c .enum-told .given .1)
 
 add-s : tie.Need-add-s Inv-loop μ-loop
 add-s c =
     let call = c .before .before .before .before .before .before .before .before .before .before .before in
-    omega (arith, call .before .before .before .before .before .before .loop .inv .within)
+    omega (arith, call .before .before .before .before .before .before .before .before .loop .inv .0 .within)
 
 loop-less : tie.Need-loop-less Inv-loop μ-loop
 loop-less c =
     let call = c .before .before .before .before .before .before .before .before .before .before .before in
-    omega (arith, call .before .before .before .before .before .before .loop .inv .within)
+    omega (arith, call .before .before .before .before .before .before .before .before .loop .inv .0 .within)
 
 loop-again : tie.Need-loop-again Inv-loop μ-loop
 loop-again c =
     let call = c .before .before .before .before .before .before .before .before .before .before .before in
-    let head = call .before .before .before .before .before .before in
-    let start = head .before .before .before .before .before in
+    let head = call .before .before .before .before .before .before .before .before in
+    let start = head .before .before .before .before .before .before .before .before .before in
     let a = start .args in
     let l = head .loop in
     let e = call .row in
     let last = e .last .1 .1 .1 .1 .1 .1 in
-    let kept = e .kept .1 .1 .1 .1 .1 .1 in
-    in-sweep-more (a .images .now) (a .count) (a .lists) (a .limit)
-    (memory (set (a .found .now) 0 1) (a .parents .now) (a .symbols .now) (a .table .now))
-    (l .s) (l .n) (memory (l .found) (l .parents) (l .symbols) (l .table)) (e .result) (c .before .told .given .0 .0)
-    (memory (last .0) (last .1 .0) (last .1 .1 .0) (last .1 .1 .1 .0)) (l .inv)
-    (call .before .before .before .before .before .loop-test .taken) (start .pre .0)
-    (e .ensures) (c .before .told .given .1)
-    (record { states = kept .0; origins = kept .1 .0; steps = kept .1 .1 .0; rows = kept .1 .1 .1 .0 })
+    let kept = e .kept .1 .1 .1 .1 .1 .1 in (
+      in-sweep-more (a .images .now) (a .count) (a .lists) (a .limit)
+          (memory (set (a .found .now) 0 1) (a .parents .now) (a .symbols .now) (a .table .now))
+          (l .s) (l .n) (memory (l .found) (l .parents) (l .symbols) (l .table)) (e .result) (c .before .told .given .0 .0)
+          (memory (last .0) (last .1 .0) (last .1 .1 .0) (last .1 .1 .1 .0)) (l .inv .0)
+          (call .before .before .before .before .before .before .before .loop-test .taken) (start .pre .0)
+          (e .ensures .0) (c .before .told .given .1)
+          (record { states = kept .0; origins = kept .1 .0; steps = kept .1 .1 .0; rows = kept .1 .1 .1 .0 }),
+      e .ensures .1 _ (c .before .told .given .1),
+    )
 
 same-length-5 : tie.Need-same-length-5 Inv-loop μ-loop
-same-length-5 c = c .before .loop .inv .sizes .states ∙ simp length-set
+same-length-5 c = c .before .loop .inv .0 .sizes .states ∙ simp length-set
 
 same-length-6 : tie.Need-same-length-6 Inv-loop μ-loop
-same-length-6 c = c .before .loop .inv .sizes .origins
+same-length-6 c = c .before .loop .inv .0 .sizes .origins
 
 same-length-7 : tie.Need-same-length-7 Inv-loop μ-loop
-same-length-7 c = c .before .loop .inv .sizes .steps
+same-length-7 c = c .before .loop .inv .0 .sizes .steps
 
 same-length-8 : tie.Need-same-length-8 Inv-loop μ-loop
-same-length-8 c = c .before .loop .inv .sizes .rows
+same-length-8 c = c .before .loop .inv .0 .sizes .rows
 
 returns-2 : tie.Need-returns-2 Inv-loop μ-loop
 returns-2 c =
-    let start = c .before .before .before .before .before .before in
+    let start = c .before .before .before .before .before .before .before .before .before .before in
     let a = start .args in
     let l = c .before .loop in
     in-sweep-end (a .images .now) (a .count) (a .lists) (a .limit)
     (memory (set (a .found .now) 0 1) (a .parents .now) (a .symbols .now) (a .table .now)) (l .s) (l .n)
-    (memory (l .found) (l .parents) (l .symbols) (l .table)) (l .inv) (c .loop-test .left)
+    (memory (l .found) (l .parents) (l .symbols) (l .table)) (l .inv .0) (c .loop-test .left)
 
 pub sweep-spec : {M : Type 1} → statement M
 sweep-spec =
@@ -127,6 +146,8 @@ sweep-spec =
     (tie.spec
     Inv-loop
     μ-loop
+    bucket-requires
+    note-requires
     slice-write-found
     loop-holds
     row-requires
