@@ -19,8 +19,8 @@ use Rattle.verdict.specs.CoverTold.{Gains, Ending, Round}
 use Rattle.verdict.specs.CoverBounds.{ending-width}
 use Rattle.verdict.specs.CoverWalk.{Over}
 use Rattle.verdict.specs.CoverLoops.{gains-none}
-use Rattle.verdict.specs.Rows.{rowOf}
-use Rattle.verdict.specs.RowsTurns.{over-row}
+use Rattle.verdict.specs.Rows.{rowOf, Skips}
+use Rattle.verdict.specs.RowsTurns.{over-row, over-skip}
 use Rattle.verdict.specs.RowEnds.{OffsetsOf, AllEnds, reachedIf, rowEnds, ByRows, RowsEnded}
 use Rattle.verdict.specs.RowEndsLaws.{occupied-more, occupied-grows, rows-exactly}
 
@@ -106,13 +106,16 @@ ended-start n ends table w places set =
           sym (ap (λ p. union (numberOf set) (unionOver next p (numberOf places) % 2 ^ 1024)) e ∙ or-zero-r (numberOf set));
     }
 
-pub ended-turn : (n : ℕ) (ends table : List ℕ) (w : ℕ) (places set₀ set set′ : List ℕ) (q : ℕ) → w ≤ 64
+pub ended-turn : (n : ℕ) (ends table : List ℕ) (w : ℕ) (places set₀ set set′ : List ℕ) (states q r : ℕ) → w ≤ 64
     → EndedLeft n ends table w places set₀ set q
-    → Gains set (rowEnds ends table w q (rowOf (numberOf places) (w * q) w) n) set′ → EndedLeft n ends table w places set₀ set′ (q + 1)
-ended-turn n ends table w places set₀ set set′ q h s g =
+    → Gains set (rowEnds ends table w q (rowOf (numberOf places) (w * q) w) n) set′ → Skips (numberOf places) w states (q + 1) r
+    → EndedLeft n ends table w places set₀ set′ r
+ended-turn n ends table w places set₀ set set′ states q r h s g k =
     record {
-      over = λ next law. over-row next (numberOf places) (numberOf set₀) set set′ w q h (s .over next law)
-          (g ∙ ap (λ x. union (numberOf set) (x % 2 ^ 1024)) (sym (law q)));
+      over = λ next law.
+          over-skip next (numberOf places) (numberOf set₀) set′ w states (q + 1) r k
+          (over-row next (numberOf places) (numberOf set₀) set set′ w q h (s .over next law)
+          (g ∙ ap (λ x. union (numberOf set) (x % 2 ^ 1024)) (sym (law q))));
     }
 
 pub ended-end : (n : ℕ) (ends table : List ℕ) (w states : ℕ) (places set₀ set : List ℕ) (q : ℕ) → q ≡ states

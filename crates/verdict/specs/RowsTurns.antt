@@ -1,10 +1,10 @@
 -- A loop over the rows of a set (Rows): one row follows what its places do, one by one.
-use Prim.Native.Nat.{ℕ, _+_, _*_, _-_, _%_, _^_, _≤_, _<_}
+use Prim.Native.Nat.{ℕ, _+_, _*_, _-_, _/_, _%_, _^_, _≤_, _<_}
 use mathlib.Core.List.{List}
 use mathlib.Core.Logic.{_⊎_, inl, inr}
 use mathlib.Core.Path.{_≡_, sym, ap, _∙_, subst}
 use native.Mathlib.Decide.{decLt}
-use native.Mathlib.Nat.{mul-comm, mul-suc, zero-mul}
+use native.Mathlib.Nat.{mul-comm, mul-suc, zero-mul, mul-le-mul-left, div-mul-le-self, le-div-iff-mul-le}
 use native.Mathlib.Numerals.{add-one}
 use native.Mathlib.Omega.{arith}
 use lib.Bits.{or-zero-r}
@@ -13,11 +13,13 @@ use Rattle.theory.specs.Places.{Member, union, unionOver}
 use Rattle.theory.specs.PlacesLaws.{member-union, member-unionOver, equal-members}
 use Rattle.theory.specs.PlacesShift.{member-moved}
 use Rattle.places.specs.Words.{numberOf}
+use Rattle.places.specs.NextPlace.{NextPlace}
 use Rattle.verdict.specs.CoverSteps.{joined-parts}
 use Rattle.verdict.specs.CoverTold.{Gains}
 use Rattle.verdict.specs.CoverLoops.{gains-none}
 use Rattle.verdict.specs.CoverWalk.{Over}
-use Rattle.verdict.specs.Rows.{rowOf, RowsMoved}
+use Rattle.finding.specs.UnionSteps.{unionOver-skip}
+use Rattle.verdict.specs.Rows.{rowOf, Skips, RowsMoved}
 use Rattle.verdict.specs.RowsLaws.{member-row, over-none}
 
 -- The places below at + w: those below `at`, and those of the row from `at` on.
@@ -79,6 +81,33 @@ over-row next s start set set′ w q h o g =
     g ∙ ap (λ x. union x (here % 2 ^ 1024)) o ∙ sym (joined-parts 1024 start (unionOver next (w * q) s) here)
     ∙ ap (λ x. union start (x % 2 ^ 1024)) (row-next next s (w * q) w h ∙ ap (λ p. unionOver next p s) e)
 
+-- The states that are skipped lead nowhere.
+pub over-skip : (next : ℕ → ℕ) (s start : ℕ) (set : List ℕ) (w states q r : ℕ) → Skips s w states q r → Over next s start set (w * q)
+    → Over next s start set (w * r)
+over-skip next s start set w states q r k o =
+    o ∙ ap (λ x. union start (x % 2 ^ 1024)) (unionOver-skip next s (w * q) (w * r) (mul-le-mul-left w (k .onward)) (k .passed))
+
+-- The state after q is the next one, or that of the next place, or there is none.
+
+pub skip-one : (s w states q : ℕ) → q < states → Skips s w states (q + 1) (q + 1)
+skip-one s w states q h = record { onward = omega arith; inside = omega arith; passed = λ i a b. absurd (omega arith) }
+
+pub skip-place : (s w states q p : ℕ) → 0 < w → w * q ≤ 1024 → p / w < states → NextPlace s (w * q) p → Skips s w states q (p / w)
+skip-place s w states q p h few k n =
+    record {
+      onward = le-div-iff-mul-le h .1 (omega (arith, mul-comm w q, n .onward few));
+      inside = omega arith;
+      passed = λ i a b. n .passed i a (omega (arith, mul-comm w (p / w), div-mul-le-self p w));
+    }
+
+pub skip-all : (s w states q p : ℕ) → q ≤ states → states ≤ p / w → NextPlace s (w * q) p → Skips s w states q states
+skip-all s w states q p h k n =
+    record {
+      onward = h;
+      inside = omega arith;
+      passed = λ i a b. n .passed i a (omega (arith, mul-comm w (p / w), div-mul-le-self p w, mul-le-mul-left w k));
+    }
+
 -- The rows of the states before q have been followed.
 pub record RowsLeft (steps : List ℕ) (w : ℕ) (places set₀ set : List ℕ) (q : ℕ) : Type 0 where
   pub over : (next : ℕ → ℕ) → ((q o : ℕ) → o < w → next (w * q + o) ≡ getD steps o 0 * 2 ^ (w * q))
@@ -93,13 +122,15 @@ rows-start steps w places set =
           sym (ap (λ p. union (numberOf set) (unionOver next p (numberOf places) % 2 ^ 1024)) e ∙ or-zero-r (numberOf set));
     }
 
-pub rows-turn : (steps : List ℕ) (w : ℕ) (places set₀ set set′ : List ℕ) (q : ℕ) → w ≤ 64 → RowsLeft steps w places set₀ set q
+pub rows-turn : (steps : List ℕ) (w : ℕ) (places set₀ set set′ : List ℕ) (states q r : ℕ) → w ≤ 64 → RowsLeft steps w places set₀ set q
     → Gains set (unionOver (λ o. getD steps o 0) 64 (rowOf (numberOf places) (w * q) w) * 2 ^ (w * q)) set′
-    → RowsLeft steps w places set₀ set′ (q + 1)
-rows-turn steps w places set₀ set set′ q h s g =
+    → Skips (numberOf places) w states (q + 1) r → RowsLeft steps w places set₀ set′ r
+rows-turn steps w places set₀ set set′ states q r h s g k =
     record {
-      over = λ next law. over-row next (numberOf places) (numberOf set₀) set set′ w q h (s .over next law)
-          (g ∙ ap (λ x. union (numberOf set) (x % 2 ^ 1024)) (sym (row-up next (λ o. getD steps o 0) (numberOf places) (w * q) w (law q))));
+      over = λ next law.
+          over-skip next (numberOf places) (numberOf set₀) set′ w states (q + 1) r k
+          (over-row next (numberOf places) (numberOf set₀) set set′ w q h (s .over next law)
+          (g ∙ ap (λ x. union (numberOf set) (x % 2 ^ 1024)) (sym (row-up next (λ o. getD steps o 0) (numberOf places) (w * q) w (law q)))));
     }
 
 -- A row without places leads nowhere.

@@ -6,6 +6,7 @@ ghost use Rattle.places.specs.Words.{numberOf};
 ghost use Rattle.verdict.specs.Tables.{Counted, occupied};
 ghost use Rattle.verdict.specs.CoverTold.{Gains};
 ghost use Rattle.verdict.specs.RowEnds.{OffsetsOf, AllEnds, reachedIf, rowEnds, RowsEnded};
+use crate::rows::next_state;
 use crate::rows::row_at;
 use places::words::add_shifted;
 
@@ -83,15 +84,8 @@ pub fn ended_rows(
 {
     let mut q: u64 = 0;
     while q < states {
-        ended_row(
-            ends,
-            table,
-            lists,
-            w,
-            q as usize,
-            row_at(places, w * q, w),
-            into,
-        );
-        q += 1;
+        let row = row_at(places, w * q, w);
+        ended_row(ends, table, lists, w, q as usize, row, into);
+        q = next_state(places, w, q, states, row);
     }
 }

@@ -1,4 +1,5 @@
-// Cover sets by rows, where there are at most 64 offsets: the row of the state q is the word of the offsets o with width × q + o in the set.
+// Cover sets by rows, where there are at most 64 offsets: the row of the state q is the word of the offsets o with width × q + o in the
+// set.
 ghost use Prim.Native.Nat.{_+_, _*_, _%_, _^_, _≤_, _<_};
 ghost use mathlib.Core.Path.{_≡_};
 ghost use lib.ListN.{length, getD};
@@ -6,9 +7,10 @@ ghost use Rattle.theory.specs.Places.{unionOver};
 ghost use Rattle.places.specs.Words.{numberOf};
 ghost use Rattle.verdict.specs.CoverSteps.{stepAt};
 ghost use Rattle.verdict.specs.CoverTold.{Gains, Moving};
-ghost use Rattle.verdict.specs.Rows.{rowOf, Fits, RowsMoved};
+ghost use Rattle.verdict.specs.Rows.{rowOf, Fits, Skips, RowsMoved};
 ghost use Rattle.verdict.specs.RowSteps.{ListSteps, AllSteps};
 use places::words::add_shifted;
+use places::words::next_place;
 
 // The places that the label a leads to from the place o of the list v.
 pub fn step_at(follow: &[u64], enter: &[u64], v: usize, o: usize, a: usize) -> u64
@@ -39,6 +41,21 @@ pub fn row_at(words: &[u64], at: u64, w: u64) -> u64
         return lowest(low | (words[index + 1] << (64 - bits)), w);
     }
     lowest(low, w)
+}
+
+// The state to go to after the state q: where its row is empty, so are those of the states between them.
+pub fn next_state(places: &[u64], w: u64, q: u64, states: u64, row: u64) -> u64
+    requires { ⌜ (length (now places) ≡ 16) × (0 < w) × (q < states) × (states * w ≤ 1024) ⌝ }
+    ensures { λ r. ⌜ Skips (numberOf (now (places .entry))) w states (q + 1) r ⌝ }
+{
+    if row != 0 {
+        return q + 1;
+    }
+    let next = next_place(places, w * (q + 1)) / w;
+    if next < states {
+        return next;
+    }
+    states
 }
 
 // The offsets that the offsets of a row lead to, all steps being given.
@@ -139,7 +156,8 @@ pub fn moved_rows(steps: &[u64], places: &[u64], w: u64, states: u64, into: &mut
 {
     let mut q: u64 = 0;
     while q < states {
-        moved_row(steps, row_at(places, w * q, w), w * q, into);
-        q += 1;
+        let row = row_at(places, w * q, w);
+        moved_row(steps, row, w * q, into);
+        q = next_state(places, w, q, states, row);
     }
 }

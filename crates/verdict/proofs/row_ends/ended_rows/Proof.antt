@@ -43,21 +43,24 @@ ended-row-requires c κs =
       c .before .before .before .loop .inv .0 ∙ s .pre .7,
     )
 
-add-q : tie.Need-add-q Inv-loop μ-loop
-add-q c = omega (arith, c .before .before .before .before .before .loop-test .taken)
+next-state-requires : tie.Need-next-state-requires Inv-loop μ-loop
+next-state-requires c κs =
+    let s = c .before .before .before .before .before .before .before .before .before .before .before in
+    (s .pre .6, s .pre .1, c .before .before .before .before .before .loop-test .taken, s .pre .3)
 
 loop-less : tie.Need-loop-less Inv-loop μ-loop
-loop-less c = omega (arith, c .before .before .before .before .before .loop-test .taken)
+loop-less c = omega (arith, c .before .before .before .before .before .before .loop-test .taken, c .next-state .ensures .onward, c .next-state .ensures .inside)
 
 loop-again : tie.Need-loop-again Inv-loop μ-loop
 loop-again c =
-    let s = c .before .before .before .before .before .before .before .before .before .before .before in
-    let l = c .before .before .before .before .before .before .loop in (
-      c .before .before .ended-row .kept .1 .1 .1 .1 .1 .1 .0 ∙ l .inv .0,
-      omega (arith, c .before .before .before .before .before .loop-test .taken),
-      ended-turn (s .args .lists) (s .args .ends .now) (s .args .table .now) (s .args .w) (s .args .places .now) (s .args .into .now) (l .into) (c .before .before .ended-row .last .1 .1 .1 .1 .1 .1 .0) (l .q) (s .pre .2) (l .inv .2)
-          (c .before .before .ended-row .ensures
-          ∙ ap (λ x. union (numberOf (l .into)) (rowEnds (s .args .ends .now) (s .args .table .now) (s .args .w) (l .q) x (s .args .lists) % 2 ^ 1024)) (c .before .before .before .before .row-at .ensures)),
+    let s = c .before .before .before .before .before .before .before .before .before .before .before .before in
+    let l = c .before .before .before .before .before .before .before .loop in (
+      c .before .before .before .ended-row .kept .1 .1 .1 .1 .1 .1 .0 ∙ l .inv .0,
+      c .next-state .ensures .inside,
+      ended-turn (s .args .lists) (s .args .ends .now) (s .args .table .now) (s .args .w) (s .args .places .now) (s .args .into .now) (l .into) (c .before .before .before .ended-row .last .1 .1 .1 .1 .1 .1 .0) (s .args .states) (l .q) (c .next-state .result) (s .pre .2) (l .inv .2)
+          (c .before .before .before .ended-row .ensures
+          ∙ ap (λ x. union (numberOf (l .into)) (rowEnds (s .args .ends .now) (s .args .table .now) (s .args .w) (l .q) x (s .args .lists) % 2 ^ 1024)) (c .before .before .before .before .before .row-at .ensures))
+          (c .next-state .ensures),
     )
 
 same-length : tie.Need-same-length Inv-loop μ-loop
@@ -78,7 +81,7 @@ ended-rows-spec =
     mul-row-at
     row-at-requires
     ended-row-requires
-    add-q
+    next-state-requires
     loop-less
     loop-again
     same-length

@@ -40,21 +40,24 @@ moved-row-requires c κs =
     let s = c .before .before .before .before .before .before .before in
     (s .pre .3, c .before .before .before .loop .inv .0 ∙ s .pre .5)
 
-add-q : tie.Need-add-q Inv-loop μ-loop
-add-q c = omega (arith, c .before .before .before .before .before .loop-test .taken)
+next-state-requires : tie.Need-next-state-requires Inv-loop μ-loop
+next-state-requires c κs =
+    let s = c .before .before .before .before .before .before .before .before .before .before in
+    (s .pre .4, s .pre .0, c .before .before .before .before .before .loop-test .taken, s .pre .2)
 
 loop-less : tie.Need-loop-less Inv-loop μ-loop
-loop-less c = omega (arith, c .before .before .before .before .before .loop-test .taken)
+loop-less c = omega (arith, c .before .before .before .before .before .before .loop-test .taken, c .next-state .ensures .onward, c .next-state .ensures .inside)
 
 loop-again : tie.Need-loop-again Inv-loop μ-loop
 loop-again c =
-    let s = c .before .before .before .before .before .before .before .before .before .before in
-    let l = c .before .before .before .before .before .before .loop in (
-      c .before .before .moved-row .kept .1 .1 .1 .0 ∙ l .inv .0,
-      omega (arith, c .before .before .before .before .before .loop-test .taken),
-      rows-turn (s .args .steps .now) (s .args .w) (s .args .places .now) (s .args .into .now) (l .into) (c .before .before .moved-row .last .1 .1 .1 .0) (l .q) (s .pre .1) (l .inv .2)
-          (c .before .before .moved-row .ensures
-          ∙ ap (λ x. union (numberOf (l .into)) ((unionOver (λ o. getD (s .args .steps .now) o 0) 64 x * 2 ^ (s .args .w * l .q)) % 2 ^ 1024)) (c .before .before .before .before .row-at .ensures)),
+    let s = c .before .before .before .before .before .before .before .before .before .before .before in
+    let l = c .before .before .before .before .before .before .before .loop in (
+      c .before .before .before .moved-row .kept .1 .1 .1 .0 ∙ l .inv .0,
+      c .next-state .ensures .inside,
+      rows-turn (s .args .steps .now) (s .args .w) (s .args .places .now) (s .args .into .now) (l .into) (c .before .before .before .moved-row .last .1 .1 .1 .0) (s .args .states) (l .q) (c .next-state .result) (s .pre .1) (l .inv .2)
+          (c .before .before .before .moved-row .ensures
+          ∙ ap (λ x. union (numberOf (l .into)) ((unionOver (λ o. getD (s .args .steps .now) o 0) 64 x * 2 ^ (s .args .w * l .q)) % 2 ^ 1024)) (c .before .before .before .before .before .row-at .ensures))
+          (c .next-state .ensures),
     )
 
 same-length : tie.Need-same-length Inv-loop μ-loop
@@ -76,7 +79,7 @@ moved-rows-spec =
     row-at-requires
     mul-moved-row
     moved-row-requires
-    add-q
+    next-state-requires
     loop-less
     loop-again
     same-length
