@@ -1,21 +1,20 @@
 -- The laws of the index of pairs (PairIndex): the bucket is computed word by word, the index grows with the pairs, and the walk along a
--- chain finds a pair that is among them.
+-- chain finds a pair that is among them (finding: BucketsLaws).
 use Prim.Native.Nat.{ℕ, zero, suc, _+_, _*_, _-_, _/_, _%_, _^_, _≤_, _<_}
 use mathlib.Core.Bool.{true, false, true≢false, false≢true}
 use mathlib.Core.List.{List, [], _∷_}
-use mathlib.Core.Logic.{_≢_}
 use mathlib.Core.Path.{_≡_, refl, sym, ap, _∙_, subst, subst₂}
-use native.Mathlib.Decide.{ℕ-discrete, decLt}
 use native.Mathlib.Nat.{mul-add-mod-self-left}
 use native.Mathlib.Omega.{arith}
-use lib.ListN.{length, getD, set, drop, replicate, length-set, length-replicate, getD-replicate}
-use lib.Seq.{getD-set-same, getD-set-other}
+use lib.ListN.{length, getD, drop, replicate}
 use Rattle.places.specs.Words.{numberOf}
+use Rattle.finding.specs.Buckets.{Noted, Walk}
+use Rattle.finding.specs.BucketsLaws.{chained-none, chained-more}
 use Rattle.verdict.specs.Pairs.{Pair}
 use Rattle.verdict.specs.PairTable.{pairAt, Stored, Seen}
 use Rattle.verdict.specs.PairTableLaws.{stored-pair, other-pair}
 use Rattle.verdict.specs.Workspace.{pair}
-use Rattle.verdict.specs.PairIndex.{bucketOf, Remains, Newest, Indexed, IndexedAll, Noted, Walk}
+use Rattle.verdict.specs.PairIndex.{bucketOf, Remains, Indexed, IndexedAll}
 use Rattle.verdict.specs.declared.pairs.Explored.the-variants.{All, Over}
 
 pub bucket-below : (x : Pair) → bucketOf x < 1019
@@ -65,85 +64,18 @@ remains-end l j r standing b z e q =
 
 -- No pair is indexed.
 pub indexed-none : (space : List ℕ) → Indexed space 0 (replicate 1019 0) (replicate 4096 0)
-indexed-none space =
-    record {
-      buckets = length-replicate {A = ℕ} 1019 0;
-      room = length-replicate {A = ℕ} 4096 0;
-      head = λ b h. let z = getD-replicate {A = ℕ} 1019 b 0 0 h in
-          record { within = omega arith; member = λ k. absurd (omega arith); newest = λ j k. absurd (omega arith) };
-      next = λ i h. absurd (omega arith);
-    }
+indexed-none space = record { chained = chained-none bucketOf 1019 4096 (pairAt space) }
 
 -- The pair number m is stored and put in front of its chain.
-
-module _ {space : List ℕ} {m standing : ℕ} {cover : List ℕ} {link : ℕ} {space′ : List ℕ} (s : Stored space m standing cover link space′)
-    (sized : length cover ≡ 16) where
-  newest-kept : (n b c : ℕ) → n ≤ m → Newest space n b c → Newest space′ n b c
-  newest-kept n b c h w =
-      record {
-        within = w .within;
-        member = λ p. ap bucketOf (other-pair s (c - 1) (omega (arith, w .within))) ∙ w .member p;
-        newest = λ j k e. w .newest j k (ap bucketOf (sym (other-pair s j (omega arith))) ∙ e);
-      }
-
-  new-bucket : bucketOf (pairAt space′ m) ≡ bucketOf (pair standing cover)
-  new-bucket = ap bucketOf (stored-pair s sized)
-
-  newest-other : (b c : ℕ) → b ≢ bucketOf (pair standing cover) → Newest space m b c → Newest space′ (m + 1) b c
-  newest-other b c d w =
-      let k = newest-kept m b c (omega arith) w in
-      record {
-        within = omega (arith, w .within);
-        member = k .member;
-        newest = λ j h e. before j e (ℕ-discrete j m) h;
-      }
-    where
-      before : (j : ℕ) → bucketOf (pairAt space′ j) ≡ b → Dec (j ≡ m) → j < m + 1 → j < c
-      before j e (yes q) h = absurd (d (sym e ∙ ap (λ i. bucketOf (pairAt space′ i)) q ∙ new-bucket))
-      before j e (no q) h = newest-kept m b c (omega arith) w .newest j (omega arith) e
-
-  newest-new : Newest space′ (m + 1) (bucketOf (pair standing cover)) (m + 1)
-  newest-new =
-      record {
-        within = omega arith;
-        member = λ p. let e : m + 1 - 1 ≡ m = omega arith in ap (λ i. bucketOf (pairAt space′ i)) e ∙ new-bucket;
-        newest = λ j h e. h;
-      }
-
-  pub indexed-more : (b : ℕ) (heads nexts heads′ nexts′ : List ℕ) → b ≡ bucketOf (pair standing cover) → m < 4096
-      → Indexed space m heads nexts → Noted b m heads nexts heads′ nexts′ → Indexed space′ (m + 1) heads′ nexts′
-  indexed-more b heads nexts heads′ nexts′ at few old noted =
-      record {
-        buckets = ap length (noted .in-heads) ∙ length-set heads b (m + 1) ∙ old .buckets;
-        room = ap length (noted .in-nexts) ∙ length-set nexts m (getD heads b 0) ∙ old .room;
-        head = λ k h. subst (λ l. Newest space′ (m + 1) k (getD l k 0)) (sym (noted .in-heads)) (head k h (ℕ-discrete k b));
-        next = λ i h.
-            subst (λ l. Newest space′ i (bucketOf (pairAt space′ i)) (getD l i 0)) (sym (noted .in-nexts)) (next i h (ℕ-discrete i m));
-      }
-    where
-      inside : b < 1019
-      inside = omega (arith, bucket-below (pair standing cover))
-
-      head : (k : ℕ) → k < 1019 → Dec (k ≡ b) → Newest space′ (m + 1) k (getD (set heads b (m + 1)) k 0)
-      head k h (yes e) =
-          subst (λ i. Newest space′ (m + 1) i (getD (set heads b (m + 1)) i 0)) (sym e)
-          (subst (Newest space′ (m + 1) b) (sym (getD-set-same heads b (m + 1) 0 (omega (arith, old .buckets, inside))))
-          (subst (λ i. Newest space′ (m + 1) i (m + 1)) (sym at) newest-new))
-      head k h (no d) =
-          subst (Newest space′ (m + 1) k) (sym (getD-set-other heads b k (m + 1) 0 d))
-          (newest-other k (getD heads k 0) (λ e. d (e ∙ sym at)) (old .head k h))
-
-      next : (i : ℕ) → i < m + 1 → Dec (i ≡ m) → Newest space′ i (bucketOf (pairAt space′ i)) (getD (set nexts m (getD heads b 0)) i 0)
-      next i h (yes e) =
-          subst (λ k. Newest space′ k (bucketOf (pairAt space′ k)) (getD (set nexts m (getD heads b 0)) k 0)) (sym e)
-          (subst (Newest space′ m (bucketOf (pairAt space′ m))) (sym (getD-set-same nexts m (getD heads b 0) 0 (omega (arith, old .room))))
-          (subst (λ k. Newest space′ m k (getD heads b 0)) (at ∙ sym new-bucket)
-          (newest-kept m b (getD heads b 0) (omega arith) (old .head b inside))))
-      next i h (no d) =
-          let k : i < m = omega arith in
-          subst (Newest space′ i (bucketOf (pairAt space′ i))) (sym (getD-set-other nexts m i (getD heads b 0) 0 d))
-          (subst (λ c. Newest space′ i c (getD nexts i 0)) (sym (ap bucketOf (other-pair s i k)))
-          (newest-kept i (bucketOf (pairAt space i)) (getD nexts i 0) (omega arith) (old .next i k)))
+pub indexed-more : {space : List ℕ} {m standing : ℕ} {cover : List ℕ} {link : ℕ} {space′ : List ℕ}
+    → Stored space m standing cover link space′ → length cover ≡ 16 → (b : ℕ) (heads nexts heads′ nexts′ : List ℕ) → b ≡ bucketOf (pair standing cover) → m < 4096
+    → Indexed space m heads nexts → Noted b m heads nexts heads′ nexts′ → Indexed space′ (m + 1) heads′ nexts′
+indexed-more {space} {m} {standing} {cover} {space′} s sized b heads nexts heads′ nexts′ at few old noted =
+    record {
+      chained =
+          chained-more bucketOf (pairAt space) (pairAt space′) m (pair standing cover) (other-pair s) (stored-pair s sized) 1019 4096 b
+          heads nexts heads′ nexts′ at (omega (arith, bucket-below (pair standing cover))) few (old .chained) noted;
+    }
 
 pub indexed-same : {space space′ heads heads′ nexts nexts′ : List ℕ} {n n′ : ℕ} → space′ ≡ space → heads′ ≡ heads → nexts′ ≡ nexts → n′ ≡ n
     → Indexed space n heads nexts → Indexed space′ n′ heads′ nexts′
@@ -156,43 +88,10 @@ indexed-all {space} {heads} {nexts} {n} old m e = let z : n ≡ m = cc in subst 
 pub indexed-over : {space heads nexts : List ℕ} → IndexedAll space heads nexts Over
 indexed-over m e = let z : _≡_ {A = ℕ} 0 1 = cc in absurd (omega arith)
 
--- The walk along a chain.
+-- What the walk along the chain of x's bucket ends with.
+module _ (space : List ℕ) (n : ℕ) (x : Pair) (c : ℕ) (walk : Walk bucketOf (pairAt space) n x c) where
+  pub walk-found : 0 < c → pairAt space (c - 1) ≡ x → Seen n space x true
+  walk-found p e = record { found = λ q. (c - 1, omega (arith, walk .within), e); new = λ q. absurd (true≢false q) }
 
-module _ (space : List ℕ) (n : ℕ) (heads nexts : List ℕ) (indexed : Indexed space n heads nexts) (x : Pair) where
-  pub walk-start : (b : ℕ) → b ≡ bucketOf x → Walk space n x (getD heads b 0)
-  walk-start b at =
-      record {
-        within = first .within;
-        member = λ p. first .member p ∙ at;
-        passed = λ j k h e. let z = first .newest j h (ap bucketOf e ∙ sym at) in omega arith;
-      }
-    where
-      first : Newest space n b (getD heads b 0)
-      first = indexed .head b (omega (arith, bucket-below x))
-
-  module _ (c : ℕ) (walk : Walk space n x c) where
-    pub walk-turn : 0 < c → (pairAt space (c - 1) ≡ x → ⊥) → Walk space n x (getD nexts (c - 1) 0)
-    walk-turn p differs =
-        record {
-          within = omega (arith, older .within, walk .within);
-          member = λ q. older .member q ∙ walk .member p;
-          passed = λ j k h e. passed j k h e (ℕ-discrete j (c - 1)) (decLt j (c - 1));
-        }
-      where
-        older : Newest space (c - 1) (bucketOf (pairAt space (c - 1))) (getD nexts (c - 1) 0)
-        older = indexed .next (c - 1) (omega (arith, walk .within))
-
-        passed : (j : ℕ) → getD nexts (c - 1) 0 ≤ j → j < n → pairAt space j ≡ x → Dec (j ≡ c - 1) → Dec (j < c - 1) → ⊥
-        passed j k h e (yes q) l = differs (ap (pairAt space) (sym q) ∙ e)
-        passed j k h e (no q) (yes l) = let z = older .newest j l (ap bucketOf e ∙ sym (walk .member p)) in omega arith
-        passed j k h e (no q) (no l) = walk .passed j (omega arith) h e
-
-    -- The chain falls.
-    pub walk-less : 0 < c → getD nexts (c - 1) 0 < c
-    walk-less p = omega (arith, indexed .next (c - 1) (omega (arith, walk .within)) .within)
-
-    pub walk-found : 0 < c → pairAt space (c - 1) ≡ x → Seen n space x true
-    walk-found p e = record { found = λ q. (c - 1, omega (arith, walk .within), e); new = λ q. absurd (true≢false q) }
-
-    pub walk-end : c ≤ 0 → Seen n space x false
-    walk-end h = record { found = λ q. absurd (false≢true q); new = λ q j k. walk .passed j (omega arith) k }
+  pub walk-end : c ≤ 0 → Seen n space x false
+  walk-end h = record { found = λ q. absurd (false≢true q); new = λ q j k. walk .passed j (omega arith) k }

@@ -2,9 +2,10 @@
 ghost use Prim.Native.Nat.{_+_, _*_, _%_, _^_, _≤_, _<_};
 ghost use mathlib.Core.Path.{_≡_};
 ghost use lib.ListN.{length};
+ghost use Rattle.finding.specs.Buckets.{Noted};
 ghost use Rattle.verdict.specs.PairTable.{Compared, Seen};
 ghost use Rattle.verdict.specs.Workspace.{pair};
-ghost use Rattle.verdict.specs.PairIndex.{bucketOf, Indexed, Noted};
+ghost use Rattle.verdict.specs.PairIndex.{bucketOf, Indexed};
 use crate::workspace::load;
 use places::wide::Wide;
 

@@ -1,15 +1,18 @@
--- The loop's invariant: `next` stands for a pair of the bucket, and the pairs from there on are others (PairIndex, Walk).
+-- The loop's invariant: `next` stands for a pair of the bucket, and the pairs from there on are others (finding: Buckets, Walk).
 use Prim.Native.Nat.{_-_}
+use Rattle.finding.specs.Buckets.{Walk}
+use Rattle.finding.specs.BucketsLaws.{walk-start, walk-turn, walk-less}
+use Rattle.verdict.specs.PairTable.{pairAt}
 use Rattle.verdict.specs.Workspace.{pair}
-use Rattle.verdict.specs.PairIndex.{Walk}
-use Rattle.verdict.specs.PairIndexLaws.{bucket-below, walk-start, walk-turn, walk-less, walk-found, walk-end}
+use Rattle.verdict.specs.PairIndex.{bucketOf}
+use Rattle.verdict.specs.PairIndexLaws.{bucket-below, walk-found, walk-end}
 use native.Mathlib.Omega.{arith}
 use borrow.Author.Needs.{needs}
 use Rattle.verdict.proofs.index.seen.Statement.{statement}
 use Rattle.verdict.proofs.index.seen.Tie as tie
 
 abbrev Inv-loop : tie.InvT-loop
-Inv-loop workspace heads nexts at n standing cover next₀ next = Walk workspace n (pair standing (cover .words)) next
+Inv-loop workspace heads nexts at n standing cover next₀ next = Walk bucketOf (pairAt workspace) n (pair standing (cover .words)) next
 
 abbrev μ-loop : tie.MeasureT-loop
 μ-loop workspace heads nexts at n standing cover next₀ next = next
@@ -24,13 +27,14 @@ cast-next : tie.Need-cast-next Inv-loop μ-loop
 cast-next c =
     let s = c .before .before in
     let b = bucket-below (pair (s .args .standing) (s .args .cover .words)) in
-    omega (arith, s .pre .3 .head (s .args .at) (omega (arith, b, s .pre .2)) .within, s .pre .1)
+    omega (arith, s .pre .3 .chained .head (s .args .at) (omega (arith, b, s .pre .2)) .within, s .pre .1)
 
 loop-holds : tie.Need-loop-holds Inv-loop μ-loop
 loop-holds c =
     let s = c .before .before in
-    walk-start (s .args .workspace .now) (s .args .n) (s .args .heads .now) (s .args .nexts .now) (s .pre .3)
-    (pair (s .args .standing) (s .args .cover .words)) (s .args .at) (s .pre .2)
+    walk-start bucketOf 1019 4096 (pairAt (s .args .workspace .now)) (s .args .n) (s .args .heads .now) (s .args .nexts .now)
+    (s .pre .3 .chained) (pair (s .args .standing) (s .args .cover .words)) (s .args .at) (s .pre .2)
+    (omega (arith, bucket-below (pair (s .args .standing) (s .args .cover .words)), s .pre .2))
 
 sub-i : tie.Need-sub-i Inv-loop μ-loop
 sub-i c = search needs
@@ -42,9 +46,8 @@ returns : tie.Need-returns Inv-loop μ-loop
 returns c =
     let s = c .before .before .before .before .before .before in
     let l = c .before .before .before .loop in
-    walk-found (s .args .workspace .now) (s .args .n) (s .args .heads .now) (s .args .nexts .now) (s .pre .3)
-    (pair (s .args .standing) (s .args .cover .words)) (l .next) (l .inv) (c .before .before .loop-test .taken)
-    (c .before .is-pair .ensures .same (c .if1 .taken))
+    walk-found (s .args .workspace .now) (s .args .n) (pair (s .args .standing) (s .args .cover .words)) (l .next) (l .inv)
+    (c .before .before .loop-test .taken) (c .before .is-pair .ensures .same (c .if1 .taken))
 
 mul-next-2 : tie.Need-mul-next-2 Inv-loop μ-loop
 mul-next-2 c = omega (arith, c .before .before .before .loop .inv .within, c .before .before .before .before .before .before .pre .1)
@@ -60,7 +63,7 @@ cast-next-2 c =
     let l = c .before .before .before .before .loop in
     omega (
       arith,
-      s .pre .3 .next (l .next - 1) (omega (arith, l .inv .within, c .before .before .before .loop-test .taken)) .within,
+      s .pre .3 .chained .next (l .next - 1) (omega (arith, l .inv .within, c .before .before .before .loop-test .taken)) .within,
       l .inv .within,
       s .pre .1,
     )
@@ -69,23 +72,23 @@ loop-less : tie.Need-loop-less Inv-loop μ-loop
 loop-less c =
     let s = c .before .before .before .before .before .before .before in
     let l = c .before .before .before .before .loop in
-    walk-less (s .args .workspace .now) (s .args .n) (s .args .heads .now) (s .args .nexts .now) (s .pre .3)
-    (pair (s .args .standing) (s .args .cover .words)) (l .next) (l .inv) (c .before .before .before .loop-test .taken)
+    walk-less bucketOf 1019 4096 (pairAt (s .args .workspace .now)) (s .args .n) (s .args .heads .now) (s .args .nexts .now)
+    (s .pre .3 .chained) (pair (s .args .standing) (s .args .cover .words)) (l .next) (l .inv) (c .before .before .before .loop-test .taken)
 
 loop-again : tie.Need-loop-again Inv-loop μ-loop
 loop-again c =
     let s = c .before .before .before .before .before .before .before in
     let l = c .before .before .before .before .loop in
-    walk-turn (s .args .workspace .now) (s .args .n) (s .args .heads .now) (s .args .nexts .now) (s .pre .3)
-    (pair (s .args .standing) (s .args .cover .words)) (l .next) (l .inv) (c .before .before .before .loop-test .taken)
-    (c .before .before .is-pair .ensures .differs (c .before .if1 .left))
+    walk-turn bucketOf 1019 4096 (pairAt (s .args .workspace .now)) (s .args .n) (s .args .heads .now) (s .args .nexts .now)
+    (s .pre .3 .chained) (pair (s .args .standing) (s .args .cover .words)) (l .next) (l .inv)
+    (c .before .before .before .loop-test .taken) (c .before .before .is-pair .ensures .differs (c .before .if1 .left))
 
 returns-2 : tie.Need-returns-2 Inv-loop μ-loop
 returns-2 c =
     let s = c .before .before .before .before in
     let l = c .before .loop in
-    walk-end (s .args .workspace .now) (s .args .n) (s .args .heads .now) (s .args .nexts .now) (s .pre .3)
-    (pair (s .args .standing) (s .args .cover .words)) (l .next) (l .inv) (c .loop-test .left)
+    walk-end (s .args .workspace .now) (s .args .n) (pair (s .args .standing) (s .args .cover .words)) (l .next) (l .inv)
+    (c .loop-test .left)
 
 pub seen-spec : {M : Type 1} → statement M
 seen-spec =
