@@ -32,7 +32,7 @@ fn write_marks(word: &[u8], marks: &[u8; 3]) {
 }
 
 // A mark that is left alone shows as 2.
-pub fn show_marks() {
+pub(super) fn show_marks() {
     let mut text = [0u8; 8192];
     let size = put_case(Listed::Proved(8), &mut text);
     let job = &text[..size];

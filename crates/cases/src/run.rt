@@ -18,7 +18,7 @@ fn put_title(out: &mut [u8], title: &[u8], allowance: u64) -> usize
     put_part(out, numbered, b"\n")
 }
 
-pub fn run(title: &[u8], case: Listed, allowance: u64) {
+pub(super) fn run(title: &[u8], case: Listed, allowance: u64) {
     let mut line = [0u8; 64];
     let mut text = [0u8; 8192];
     let mut out = [0u8; 98304];
