@@ -1,7 +1,8 @@
 -- The search for an image on plain data (ImageSearch) finds the image that the closure over nodes gives (ListImage): a node is the number
 -- width × standing + place, and the nodes reached are the pairs reached.
 use Prim.Native.Nat.{ℕ, zero, suc, _+_, _-_, _*_, _/_, _%_, _^_, _≤_, _<_}
-use mathlib.Core.List.{List, [], _∷_}
+use mathlib.Core.Bool.{Bool}
+use mathlib.Core.List.{List, _∷_}
 use mathlib.Core.Logic.{_↔_, _⊎_, inl, inr}
 use mathlib.Core.Path.{_≡_, refl, sym, ap, ap₂, _∙_, subst}
 use native.Mathlib.Decide.{ℕ-discrete}
@@ -13,16 +14,18 @@ use lib.ListN.{length, getD, take, drop}
 use lib.Seq.{drop-cons}
 use Rattle.theory.specs.Places.{Member, one, intersection, collect}
 use Rattle.theory.specs.PlacesLaws.{member-none, member-one, member-union, member-below, members-below, one-below, equal-members}
+use Rattle.theory.specs.PlacesLaws.{member-collect}
 use Rattle.theory.specs.Automaton.{Automaton, accepts}
+use Rattle.theory.specs.AutomatonLaws.{accepts-exactly}
 use Rattle.theory.specs.Closure.{Reaches, here, closure}
 use Rattle.theory.specs.ClosureLaws.{reaches-step, closed-under, closure-exactly}
 use Rattle.finding.specs.Standings.{move}
 use Rattle.finding.specs.ListImage.{onwards, nextNodes, reachedNodes, placesAt, image, imagesFrom}
 use Rattle.finding.specs.Plain.{plain}
-use Rattle.theory.specs.PlacesShift.{member-up, member-up-from, member-down, member-cut}
-use Rattle.finding.specs.CollectLaws.{collect-agree}
+use Rattle.theory.specs.PlacesShift.{member-up, member-up-from}
+use Rattle.finding.specs.ImageLaws.{member-placesAt}
 use Rattle.finding.specs.MoveTable.{same-place}
-use Rattle.finding.specs.ImageSearch.{Tables, moveTo, Onward, Searched, ImageOf}
+use Rattle.finding.specs.ImageSearch.{Tables, moveTo, Onward, ImageOf}
 
 -- The tables hold the moves of the standings `found` of A, which stay among them, and a list whose labels enter only its own places.
 pub record Holds (A : Automaton) (found : List ℕ) (D : Tables) : Type 0 where
@@ -81,7 +84,7 @@ node-place : (w j x : ℕ) → x < w → (w * j + x) % w ≡ x
 node-place w j x h = ap (λ z. (z + x) % w) (mul-comm w j) ∙ digits-mod j h
 
 module _ (A : Automaton) (found : List ℕ) (D : Tables) (h : Holds A found D) (accepting : ℕ) where
-  entered-below : (a z : ℕ) (s : ℕ) → a < D .labels → Member z (intersection s (getD (D .enter) a 0)) → z < length (D .follow)
+  pub entered-below : (a z : ℕ) (s : ℕ) → a < D .labels → Member z (intersection s (getD (D .enter) a 0)) → z < length (D .follow)
   entered-below a z s l m =
       member-below (length (D .follow)) (intersection s (getD (D .enter) a 0)) z
       (lt-of-le-of-lt (and-le-r s (getD (D .enter) a 0)) (h .within a l)) m
@@ -173,85 +176,75 @@ module _ (A : Automaton) (found : List ℕ) (D : Tables) (h : Holds A found D) (
             let o : Onward D t (s .0) = subst (λ (w : ℕ × ℕ). Onward D w (s .0)) (λ k. (j k, x k)) (s .3) in
             (s .0, s .1, o .inside, s .2, reaches-step p o)
 
-    -- The list places at the standing j are those that the search found.
-    module _ (reached : List ℕ) (f : Searched D i reached) where
-      node-reached : (j x : ℕ) → j < D .count
-          → (Member x (getD reached j 0) ↔ ((x < length (D .follow))
-          × Member (length (D .follow) * j + x) (reachedNodes A found (D .labels) (plain (D .follow) (D .enter) accepting) i)))
-      unfolding reachedNodes Step
-      node-reached j x k = (there, back)
-        where
-          exactly : (y : ℕ)
-              → Member y (closure (nextNodes A found (D .labels) (plain (D .follow) (D .enter) accepting)) (length (D .follow) * length found)
-              (length (D .follow) * length found) (one (length (D .follow) * i)))
-              ↔ ((z : ℕ) × Member z (one (length (D .follow) * i)) × Reaches Step z y)
-          exactly =
-              closure-exactly (nextNodes A found (D .labels) (plain (D .follow) (D .enter) accepting)) (length (D .follow) * length found)
-              (one (length (D .follow) * i))
-              (one-below (length (D .follow) * length found) (length (D .follow) * i)
-              (subst (λ z. z < length (D .follow) * length found) (add-zero (length (D .follow) * i))
-              (node-below (length (D .follow)) (length found) i 0 (subst (λ z. i < z) (sym (h .size)) l) (h .start))))
-              nodes-within
+    -- The nodes of the closure are the pairs reached.
+    node-reached : (j x : ℕ)
+        → ((x < length (D .follow))
+        × Member (length (D .follow) * j + x) (reachedNodes A found (D .labels) (plain (D .follow) (D .enter) accepting) i))
+        ↔ Reaches (Onward D) (i, 0) (j, x)
+    unfolding reachedNodes Step
+    node-reached j x = (back, there)
+      where
+        exactly : (y : ℕ)
+            → Member y (closure (nextNodes A found (D .labels) (plain (D .follow) (D .enter) accepting)) (length (D .follow) * length found)
+            (length (D .follow) * length found) (one (length (D .follow) * i)))
+            ↔ ((z : ℕ) × Member z (one (length (D .follow) * i)) × Reaches Step z y)
+        exactly =
+            closure-exactly (nextNodes A found (D .labels) (plain (D .follow) (D .enter) accepting)) (length (D .follow) * length found)
+            (one (length (D .follow) * i))
+            (one-below (length (D .follow) * length found) (length (D .follow) * i)
+            (subst (λ z. z < length (D .follow) * length found) (add-zero (length (D .follow) * i))
+            (node-below (length (D .follow)) (length found) i 0 (subst (λ z. i < z) (sym (h .size)) l) (h .start))))
+            nodes-within
 
-          there : Member x (getD reached j 0) → (x < length (D .follow))
-              × Member (length (D .follow) * j + x) (closure (nextNodes A found (D .labels) (plain (D .follow) (D .enter) accepting))
-              (length (D .follow) * length found) (length (D .follow) * length found) (one (length (D .follow) * i)))
-          there m =
-              let r = reaches-in j x (f .exactly j x k .0 m) in (
-                r .1,
-                exactly (length (D .follow) * j + x) .1
-                    (length (D .follow) * i, member-one (length (D .follow) * i) (length (D .follow) * i) .1 refl, r .2),
-              )
+        there : Reaches (Onward D) (i, 0) (j, x) → (x < length (D .follow))
+            × Member (length (D .follow) * j + x) (closure (nextNodes A found (D .labels) (plain (D .follow) (D .enter) accepting))
+            (length (D .follow) * length found) (length (D .follow) * length found) (one (length (D .follow) * i)))
+        there m =
+            let r = reaches-in j x m in (
+              r .1,
+              exactly (length (D .follow) * j + x) .1
+                  (length (D .follow) * i, member-one (length (D .follow) * i) (length (D .follow) * i) .1 refl, r .2),
+            )
 
-          back : (x < length (D .follow))
-              × Member (length (D .follow) * j + x) (closure (nextNodes A found (D .labels) (plain (D .follow) (D .enter) accepting))
-              (length (D .follow) * length found) (length (D .follow) * length found) (one (length (D .follow) * i)))
-              → Member x (getD reached j 0)
-          back (q, m) =
-              let r = exactly (length (D .follow) * j + x) .0 m in
-              let e : r .0 ≡ length (D .follow) * i = member-one (r .0) (length (D .follow) * i) .0 (r .1) in
-              let s = reaches-out (length (D .follow) * j + x) (subst (λ z. Reaches Step z (length (D .follow) * j + x)) e (r .2)) in
-              let p = same-place (length (D .follow)) j x (s .0 .0) (s .0 .1) q (s .3) (s .1) in
-              f .exactly j x k .1 (subst (λ (t : ℕ × ℕ). Reaches (Onward D) (i, 0) t) (λ w. (sym (p .0) w, sym (p .1) w)) (s .4))
-
-      places-found : (j : ℕ) → j < D .count
-          → placesAt (plain (D .follow) (D .enter) accepting) (reachedNodes A found (D .labels) (plain (D .follow) (D .enter) accepting) i) j
-          ≡ getD reached j 0
-      unfolding placesAt
-      places-found j k = equal-members (cut (length (D .follow) * j)) (getD reached j 0) (λ x. (there x, back x))
-        where
-          nodes : ℕ
-          nodes = reachedNodes A found (D .labels) (plain (D .follow) (D .enter) accepting) i
-
-          cut : ℕ → ℕ
-          cut p = nodes / 2 ^ p % 2 ^ length (D .follow)
-
-          there : (x : ℕ) → Member x (cut (length (D .follow) * j)) → Member x (getD reached j 0)
-          there x m =
-              let r = member-cut (length (D .follow)) x (nodes / 2 ^ (length (D .follow) * j)) .0 m in
-              node-reached j x k .1 (r .0, member-down (length (D .follow) * j) x nodes .0 (r .1))
-
-          back : (x : ℕ) → Member x (getD reached j 0) → Member x (cut (length (D .follow) * j))
-          back x m =
-              let r = node-reached j x k .0 m in
-              member-cut (length (D .follow)) x (nodes / 2 ^ (length (D .follow) * j)) .1
-              (r .0, member-down (length (D .follow) * j) x nodes .1 (r .1))
-
-      image-collected : collect (λ j. accepts (plain [] [] accepting) (getD reached j 0)) (D .count)
-          ≡ image A found (D .labels) (plain (D .follow) (D .enter) accepting) i
-      unfolding image accepts
-      image-collected =
-          collect-agree (λ j. accepts (plain [] [] accepting) (getD reached j 0))
-          (λ j. accepts (plain [] [] accepting)
-          (placesAt (plain (D .follow) (D .enter) accepting) (reachedNodes A found (D .labels) (plain (D .follow) (D .enter) accepting) i) j))
-          (D .count) (λ j k. ap (accepts (plain [] [] accepting)) (sym (places-found j k)))
-          ∙ ap (collect (λ j. accepts (plain [] [] accepting)
-          (placesAt (plain (D .follow) (D .enter) accepting) (reachedNodes A found (D .labels) (plain (D .follow) (D .enter) accepting) i) j)))
-          (sym (h .size))
+        back : (x < length (D .follow))
+            × Member (length (D .follow) * j + x) (closure (nextNodes A found (D .labels) (plain (D .follow) (D .enter) accepting))
+            (length (D .follow) * length found) (length (D .follow) * length found) (one (length (D .follow) * i)))
+            → Reaches (Onward D) (i, 0) (j, x)
+        back (q, m) =
+            let r = exactly (length (D .follow) * j + x) .0 m in
+            let e : r .0 ≡ length (D .follow) * i = member-one (r .0) (length (D .follow) * i) .0 (r .1) in
+            let s = reaches-out (length (D .follow) * j + x) (subst (λ z. Reaches Step z (length (D .follow) * j + x)) e (r .2)) in
+            let p = same-place (length (D .follow)) j x (s .0 .0) (s .0 .1) q (s .3) (s .1) in
+            subst (λ (t : ℕ × ℕ). Reaches (Onward D) (i, 0) t) (λ w. (sym (p .0) w, sym (p .1) w)) (s .4)
 
     -- What the search gives is the image.
     pub image-of : (r : ℕ) → ImageOf D accepting i r → r ≡ image A found (D .labels) (plain (D .follow) (D .enter) accepting) i
-    image-of r s = s .image ∙ image-collected (s .reached) (s .found)
+    unfolding image accepts
+    image-of r s = equal-members r (collect test (length found)) λ j. (
+      λ m.
+          let (k, y, a, o) = s .exactly j .0 m in
+          member-collect test (length found) j .1
+          (subst (λ z. j < z) (sym (h .size)) k, accepts-exactly B (placesAt B nodes j) .1 (y, at j y .1 o, a)),
+      λ m.
+          let (k, t) = member-collect test (length found) j .0 m in
+          let (y, o, a) = accepts-exactly B (placesAt B nodes j) .0 t in
+          s .exactly j .1 (subst (λ z. j < z) (h .size) k, y, a, at j y .0 o),
+    )
+      where
+        B : Automaton
+        B = plain (D .follow) (D .enter) accepting
+
+        nodes : ℕ
+        nodes = reachedNodes A found (D .labels) (plain (D .follow) (D .enter) accepting) i
+
+        test : ℕ → Bool
+        test j = accepts B (placesAt B nodes j)
+
+        at : (j y : ℕ) → Member y (placesAt B nodes j) ↔ Reaches (Onward D) (i, 0) (j, y)
+        at j y = (
+          λ m. node-reached j y .0 (member-placesAt B nodes j y .0 m),
+          λ o. member-placesAt B nodes j y .1 (node-reached j y .1 o),
+        )
 
   images-of : (out : List ℕ) (n i : ℕ) → n + i ≤ D .count → n + i ≤ length out
       → ((j : ℕ) → j < n + i → ImageOf D accepting j (getD out j 0))

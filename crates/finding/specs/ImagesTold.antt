@@ -1,12 +1,13 @@
--- What the code for the images of a list promises, and how its loop over the standings keeps it.
-use Prim.Native.Nat.{ℕ, _+_, _^_, _≤_, _<_}
+-- What the code for the images of a list promises, and that the sources found by the search give it.
+use Prim.Native.Nat.{ℕ, _^_, _≤_, _<_}
 use mathlib.Core.List.{List}
-use mathlib.Core.Path.{_≡_, refl, sym, _∙_, subst}
-use native.Mathlib.Decide.{ℕ-discrete}
+use mathlib.Core.Path.{_≡_, refl}
 use native.Mathlib.Omega.{arith}
-use lib.ListN.{length, getD, take, drop, set, length-set}
-use lib.Seq.{getD-set-same, getD-set-other, drop-set-lt}
+use lib.ListN.{length, getD, take, drop}
+use Rattle.theory.specs.Places.{Member}
 use Rattle.theory.specs.Automaton.{Automaton}
+use Rattle.theory.specs.Closure.{Reaches}
+use Rattle.theory.specs.ClosureLaws.{closed-under}
 use Rattle.theory.specs.Exploration.{Entry, all}
 use Rattle.finding.specs.declared.standings.Explored.{Explored}
 use Rattle.finding.specs.Standings.{standings, values}
@@ -14,8 +15,11 @@ use Rattle.finding.specs.Numbers.{length-values}
 use Rattle.finding.specs.StandingsTold.{StandingsTold}
 use Rattle.finding.specs.ListImage.{imagesFrom}
 use Rattle.finding.specs.Plain.{plain}
-use Rattle.finding.specs.ImageSearch.{Tables, tables, Fitting, ImageOf}
-use Rattle.finding.specs.ImageNodes.{Holds, images-found}
+use Rattle.finding.specs.ImageSearch.{Tables, tables, Fitting, Onward}
+use Rattle.finding.specs.ImageNodes.{Holds, images-found, entered-below}
+use Rattle.finding.specs.Sources.{Searched}
+use Rattle.finding.specs.SourcesLaws.{reaches-map}
+use Rattle.finding.specs.ImagesTurned.{Turned}
 
 -- Where there is room, the first numbers of `out` are the images of the standings, whichever automaton they are of; what lies beyond stays.
 pub record ImagesTold (D : Tables) (accepting : ℕ) (out out′ : List ℕ) : Type 0 where
@@ -23,40 +27,43 @@ pub record ImagesTold (D : Tables) (accepting : ℕ) (out out′ : List ℕ) : T
   pub images : Fitting D → D .count ≤ length out → (A : Automaton) (found : List ℕ) → Holds A found D
       → take (D .count) out′ ≡ imagesFrom A found (D .labels) (plain (D .follow) (D .enter) accepting) (D .count) 0
 
--- The images of the standings below i are in their places.
-pub record ImagesDone (D : Tables) (accepting i : ℕ) (out out′ : List ℕ) : Type 0 where
-  pub passed : i ≤ D .count
-  pub size : length out′ ≡ length out
-  pub kept : drop (D .count) out′ ≡ drop (D .count) out
-  pub done : (j : ℕ) → j < i → ImageOf D accepting j (getD out′ j 0)
-
-module _ (D : Tables) (accepting : ℕ) (out : List ℕ) where
-  pub images-none : ImagesDone D accepting 0 out out
-  images-none = record { passed = omega arith; size = refl; kept = refl; done = λ j h. absurd (omega arith) }
-
-  pub images-more : (i r : ℕ) (out′ : List ℕ) → i < D .count → i < length out′ → ImagesDone D accepting i out out′ → ImageOf D accepting i r
-      → ImagesDone D accepting (i + 1) out (set out′ i r)
-  images-more i r out′ h room s f =
+module _ (D : Tables) (accepting : ℕ) (from out : List ℕ) where
+  -- The images that are read off the sources that the search has found.
+  pub images-told : (out′ : List ℕ) → D .count ≤ 64 → Searched D (length (D .follow)) from
+      → Turned (D .count) (length (D .follow)) accepting from (D .count) out out′ → ImagesTold D accepting out out′
+  images-told out′ few s t =
       record {
-        passed = omega arith;
-        size = length-set out′ i r ∙ s .size;
-        kept = drop-set-lt (D .count) out′ i r h ∙ s .kept;
-        done = λ j l. at j l (ℕ-discrete j i);
+        kept = t .kept;
+        images = λ f room A found h.
+            images-found A found D h accepting out′ (omega (arith, t .size))
+            (λ i l. record { exactly = λ j. (there i j l, back A found h i j l) });
       }
     where
-      at : (j : ℕ) → j < i + 1 → Dec (j ≡ i) → ImageOf D accepting j (getD (set out′ i r) j 0)
-      at j l (yes e) =
-          subst (λ z. ImageOf D accepting z (getD (set out′ i r) z 0)) (sym e)
-          (subst (ImageOf D accepting i) (sym (getD-set-same out′ i r 0 room)) f)
-      at j l (no d) = subst (ImageOf D accepting j) (sym (getD-set-other out′ i j r 0 d)) (s .done j (omega arith))
+      there : (i j : ℕ) → i < D .count → Member j (getD out′ i 0)
+          → (j < D .count) × (y : ℕ) × Member y accepting × Reaches (Onward D) (i, 0) (j, y)
+      there i j l m =
+          let (k, y, o, b, r) = t .exactly i j l .0 m in
+          (k, y, b, s .sound (j, y) i (omega arith) o r .1)
 
-  pub images-told : (out′ : List ℕ) → ImagesDone D accepting (D .count) out out′ → ImagesTold D accepting out out′
-  images-told out′ s =
-      record { kept = s .kept; images = λ f room A found h. images-found A found D h accepting out′ (omega (arith, s .size)) (s .done) }
+      back : (A : Automaton) (found : List ℕ) → Holds A found D → (i j : ℕ) → i < D .count
+          → (j < D .count) × (y : ℕ) × Member y accepting × Reaches (Onward D) (i, 0) (j, y) → Member j (getD out′ i 0)
+      back A found h i j l (k, y, b, r) =
+          t .exactly i j l .1 (
+            k,
+            y,
+            closed-under (λ (v : ℕ × ℕ). v .1 < length (D .follow)) (λ u v _ o. below u v o) {x = (i, 0)} {y = (j, y)} (h .start) r,
+            b,
+            s .complete i (j, y) l (reaches-map (λ u v o. (o, below u v o)) r),
+          )
+        where
+          below : (u v : ℕ × ℕ) → Onward D u v → v .1 < length (D .follow)
+          below u v o = entered-below A found D h accepting (o .label) (v .1) (getD (D .follow) (u .1) 0) (o .below) (o .enters)
 
-  -- Where there is no room, nothing is promised but that nothing changes.
-  pub images-refused : (Fitting D → D .count ≤ length out → ⊥) → ImagesTold D accepting out out
-  images-refused no-room = record { kept = refl; images = λ f room. absurd (no-room f room) }
+-- Where there is no room, nothing is promised but that nothing changes.
+pub images-refused : (D : Tables) (accepting : ℕ) (out : List ℕ)
+    → (Fitting D → D .count ≤ length out → 0 < length (D .follow) → ⊥) → ImagesTold D accepting out out
+images-refused D accepting out no-room =
+    record { kept = refl; images = λ f room A found h. absurd (no-room f room (h .start)) }
 
 -- The moves that the exploration of the standings promises (StandingsTold) are such tables.
 pub standings-hold : (queryFollow queryEnter : List ℕ) (labels limit : ℕ) (r : Explored) (found moves : List ℕ) (l : List (Entry ℕ))

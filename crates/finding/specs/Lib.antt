@@ -18,7 +18,6 @@ pub mod FirstAccepted
 pub mod FindStates
 pub mod FindLaws
 -- What the code keeps and promises.
-pub mod NextsLaws
 pub mod PlaceOfLaws
 pub mod CollectLaws
 pub mod Buckets
@@ -29,8 +28,12 @@ pub mod MoveTable
 pub mod Exploring
 pub mod StandingsTold
 pub mod ImageSearch
+pub mod Sources
+pub mod SourcesLaws
+pub mod SourcesSearch
 pub mod ImageNodes
 pub mod ListWidth
+pub mod ImagesTurned
 pub mod ImagesTold
 pub mod UnionSteps
 pub mod ImageRows

@@ -105,16 +105,17 @@ module _ (T : JobTables) (v : ℕ) (images images′ : List ℕ) where
       record {
         others = f .others;
         row = λ c l A found B m s.
-            f .row (fitting c l) A found (holds A found B m s)
+            f .row (fitting c l B s) A found (holds A found B m s)
             ∙ ap (λ C. imagesFrom A found (T .labels) C (T .count) 0) (s .same);
       }
     where
-      fitting : T .count ≤ 64 → T .labels ≤ 32 → Fitting (searchTables T (suc v))
-      fitting c l =
+      fitting : T .count ≤ 64 → T .labels ≤ 32 → (B : Automaton) → Has T (suc v) B → Fitting (searchTables T (suc v))
+      fitting c l B s =
           record {
             standings = c;
             row = l;
             enters = omega (arith, length-take 32 (drop (32 * suc v) (T .enter)), length-drop (32 * suc v) (T .enter));
+            places = omega (arith, s .fits, length-take (suc (getD (T .sizes) (suc v) 0)) (drop (64 * suc v) (T .follow)));
           }
 
       holds : (A : Automaton) (found : List ℕ) (B : Automaton) → Moves A found T → Has T (suc v) B → Holds A found (searchTables T (suc v))

@@ -1,122 +1,61 @@
-// The images of the query's standings under a list (document 001, section 2): a search over (standing, list place) that follows the labels
-// from each once.
-ghost use mathlib.Core.Path.{_≡_};
-ghost use mathlib.Core.List.{[]};
-ghost use Prim.Native.Nat.{_≤_, _<_};
-ghost use lib.ListN.{length, getD};
-ghost use Rattle.theory.specs.Places.{collect};
-ghost use Rattle.theory.specs.Automaton.{accepts};
-ghost use Rattle.finding.specs.Plain.{plain};
-ghost use Rattle.finding.specs.ImageSearch.{tables, Fitting, Without, WaitingFrom, Waiting, Spread, ImageOf};
+// The images of the query's standings under a list (document 001, section 2), read off the sources of the pairs of a standing and a list
+// place.
+ghost use Prim.Native.Nat.{ℕ, _≤_, _<_};
+ghost use lib.ListN.{length};
+ghost use Rattle.theory.specs.Places.{Member};
+ghost use Rattle.finding.specs.ImageSearch.{tables};
+ghost use Rattle.finding.specs.ImagesTurned.{Ended, Added, Inside, Turned};
 ghost use Rattle.finding.specs.ImagesTold.{ImagesTold};
-use crate::step::step;
+use crate::clear::clear_words;
+use crate::sources::find_sources;
 use places::Places;
 
-// The places of s that are not in t.
-fn without(s: u64, t: u64) -> Places
-    ensures { λ r. ⌜ Without s t (r .0) ⌝ }
-{
-    Places(s ^ (s & t))
-}
-
-// The first standing from `from` on with places that are reached and not settled; count where there is none.
-fn waiting_from(reached: &[u64; 64], settled: &[u64; 64], from: usize, count: usize) -> usize
-    requires { ⌜ (from ≤ count) × (count ≤ 64) ⌝ }
-    ensures { λ r. ⌜ WaitingFrom from count (now (reached .entry)) (now (settled .entry)) r ⌝ }
-{
-    let mut j = from;
-    while j < count {
-        if reached[j] != settled[j] {
-            return j;
-        }
-        j += 1;
-    }
-    j
-}
-
-// A standing with places that are reached and not settled, looked for from `from` on and then from the first; count where there is none.
-fn waiting(reached: &[u64; 64], settled: &[u64; 64], from: usize, count: usize) -> usize
-    requires { ⌜ (from ≤ count) × (count ≤ 64) ⌝ }
-    ensures { λ r. ⌜ Waiting count (now (reached .entry)) (now (settled .entry)) r ⌝ }
-{
-    let next = waiting_from(reached, settled, from, count);
-    if next < count {
-        return next;
-    }
-    waiting_from(reached, settled, 0, count)
-}
-
-// What the labels add from the standing j with the places `taken`.
-fn spread(
-    moves: &[u64; 2048],
-    count: usize,
-    labels: usize,
-    follow: &[u64],
-    enter: &[u64],
-    j: usize,
-    taken: Places,
-    reached: &mut [u64; 64],
-)
-    requires { ⌜ Fitting (tables (now moves) count labels (now follow) (now enter)) × (j < 64) × (count ≤ length (now reached)) ⌝ }
-    ensures { λ r. ⌜ Spread (tables (now (moves .entry)) count labels (now (follow .entry)) (now (enter .entry))) j (taken .0) labels
-        (now (reached .entry)) (now (reached .exit)) ⌝ }
-{
-    let mut a = 0;
-    while a < labels {
-        let to = moves[32 * j + a] as usize;
-        if to < count {
-            let new = step(follow, Places(enter[a]), taken);
-            reached[to] = reached[to] | new.0;
-        }
-        a += 1;
-    }
-}
-
-// The standings that are reached together with an accepting place.
-fn accepted(reached: &[u64; 64], count: usize, accepting: Places) -> Places
-    requires { ⌜ count ≤ 64 ⌝ }
-    ensures { λ r. ⌜ r .0 ≡ collect (λ j. accepts (plain [] [] (accepting .0)) (getD (now (reached .entry)) j 0)) count ⌝ }
+// The sources of the standing `to` together with an accepting place.
+fn ended(from: &[u64; 4096], places: usize, accepting: u64, to: usize) -> u64
+    requires { ⌜ (places ≤ 64) × (to < 64) ⌝ }
+    ensures { λ r. ⌜ Ended places (λ y. Member y accepting) (now (from .entry)) to r ⌝ }
 {
     let mut all: u64 = 0;
-    let mut j = 0;
-    while j < count {
-        if reached[j] & accepting.0 != 0 {
-            all = all | (1 << j);
+    let mut rest = accepting;
+    while rest != 0 {
+        let p = u64::trailing_zeros(rest) as usize;
+        if p < places {
+            all = all | from[64 * p + to];
         }
-        j += 1;
+        rest = rest & (rest - 1);
     }
-    Places(all)
+    all
 }
 
-// The image of the standing i, from the list's start.
-fn image(
-    moves: &[u64; 2048],
-    count: usize,
-    labels: usize,
-    follow: &[u64],
-    enter: &[u64],
-    accepting: Places,
-    i: usize,
-) -> Places
-    requires { ⌜ Fitting (tables (now moves) count labels (now follow) (now enter)) × (i < count) ⌝ }
-    ensures { λ r. ⌜ ImageOf (tables (now (moves .entry)) count labels (now (follow .entry)) (now (enter .entry))) (accepting .0) i (r .0) ⌝ }
+// The standing `to` is added to the images of the standings in `all`.
+fn add_to(all: u64, to: usize, out: &mut [u64])
+    requires { ⌜ (to < 64) × ((i : ℕ) → Member i all → i < length (now out)) ⌝ }
+    ensures { λ _. ⌜ Added (λ i. Member i all) to (now (out .entry)) (now (out .exit)) ⌝ }
 {
-    let mut reached = [0; 64];
-    let mut settled = [0; 64];
-    let mut j = i;
-    reached[i] = Places::START.0;
-    loop {
-        j = waiting(&reached, &settled, j, count);
-        if j == count {
-            return accepted(&reached, count, accepting);
-        }
-        let taken = without(reached[j], settled[j]);
-        settled[j] = reached[j];
-        spread(moves, count, labels, follow, enter, j, taken, &mut reached);
+    let mut rest = all;
+    while rest != 0 {
+        let i = u64::trailing_zeros(rest) as usize;
+        out[i] = out[i] | (1 << to);
+        rest = rest & (rest - 1);
     }
 }
 
-// The images of all standings, in their order, into the first numbers of `out`. There is room for 64 standings and 32 labels.
+// Each standing is added to the images of its sources.
+fn turn(from: &[u64; 4096], count: usize, places: usize, accepting: u64, out: &mut [u64])
+    requires { ⌜ (count ≤ 64) × (places ≤ 64) × (count ≤ length (now out)) × Inside count places (now from) ⌝ }
+    ensures { λ _. ⌜ Turned count places accepting (now (from .entry)) count (now (out .entry)) (now (out .exit)) ⌝ }
+{
+    clear_words(out, count);
+    let mut to = 0;
+    while to < count {
+        let all = ended(from, places, accepting, to);
+        add_to(all, to, out);
+        to += 1;
+    }
+}
+
+// The images of all standings, in their order, into the first numbers of `out`. There is room for 64 standings, 32 labels and 64 places.
+// What `from` holds before and after does not matter.
 pub fn images(
     moves: &[u64; 2048],
     count: u64,
@@ -124,6 +63,7 @@ pub fn images(
     follow: &[u64],
     enter: &[u64],
     accepting: Places,
+    from: &mut [u64; 4096],
     out: &mut [u64],
 )
     ensures { λ r. ⌜ ImagesTold (tables (now (moves .entry)) count labels (now (follow .entry)) (now (enter .entry))) (accepting .0)
@@ -141,18 +81,12 @@ pub fn images(
     if count as usize > out.len() {
         return;
     }
-    let mut i = 0;
-    while i < count as usize {
-        let new = image(
-            moves,
-            count as usize,
-            labels as usize,
-            follow,
-            enter,
-            accepting,
-            i,
-        );
-        out[i] = new.0;
-        i += 1;
+    if follow.len() > 64 {
+        return;
     }
+    if follow.len() == 0 {
+        return;
+    }
+    find_sources(moves, count as usize, labels as usize, follow, enter, from);
+    turn(from, count as usize, follow.len(), accepting.0, out);
 }

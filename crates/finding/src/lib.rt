@@ -11,6 +11,7 @@ pub mod number;
 pub mod operation;
 pub mod rewriting;
 pub mod search;
+mod sources;
 pub mod standings;
 pub mod state;
 pub mod states;

@@ -15,6 +15,7 @@ fn fill_row(
     enter: &[u64],
     accepting: u64,
     v: usize,
+    sources: &mut [u64; 4096],
     rows: &mut [u64],
 )
     requires { ⌜ (v < 16) × (64 * v + 64 ≤ length (now rows)) ⌝ }
@@ -29,6 +30,7 @@ fn fill_row(
         follow,
         enter,
         Places(accepting),
+        sources,
         &mut rows[start..start + 64],
     );
 }
@@ -43,6 +45,7 @@ fn list_row(
     sizes: &[u64; 17],
     accepting: &[u64; 17],
     v: usize,
+    sources: &mut [u64; 4096],
     rows: &mut [u64; 1024],
 )
     requires { ⌜ v < 16 ⌝ }
@@ -68,10 +71,12 @@ fn list_row(
         &enters[first..end],
         accepting[x],
         v,
+        sources,
         rows,
     );
 }
 
+// The rows of all lists. The words for the sources of pairs, used for one list after the other, take 32 KiB of the thread's stack.
 pub fn list_images(
     moves: &[u64; 2048],
     count: u64,
@@ -90,6 +95,7 @@ pub fn list_images(
     if lists > 16 {
         return;
     }
+    let mut sources = [0; 4096];
     let mut v = 0;
     while v < lists as usize {
         list_row(
@@ -101,6 +107,7 @@ pub fn list_images(
             sizes,
             accepting,
             v,
+            &mut sources,
             rows,
         );
         v += 1;

@@ -5,7 +5,7 @@ ghost use Rattle.theory.specs.Automaton.{step as stepOf};
 ghost use Rattle.finding.specs.Plain.{plain};
 ghost use Rattle.finding.specs.StandingsTold.{RowResult, SweepResult, Room, StandingsTold};
 use crate::search::place_of;
-use crate::step::step;
+use crate::step::follows;
 use places::Places;
 
 pub enum Explored {
@@ -31,17 +31,18 @@ fn row(
         (now (found .entry)) (now (moves .entry)) r (now (found .exit)) (now (moves .exit)) ⌝ }
 {
     let from = found[i];
+    let after = follows(follow, Places(from));
     let mut m = n;
     let mut a = 0;
     while a < labels {
-        let next = step(follow, Places(enter[a]), Places(from));
-        let to = place_of(&found[..m], next.0);
+        let next = after.0 & enter[a];
+        let to = place_of(&found[..m], next);
         moves[32 * i + a] = to as u64;
         if to == m {
             if m == limit {
                 return Explored::Over;
             }
-            found[m] = next.0;
+            found[m] = next;
             m += 1;
         }
         a += 1;

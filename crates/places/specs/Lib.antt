@@ -4,3 +4,4 @@ pub mod WordsLaws
 pub mod WordsShift
 pub mod NextPlace
 pub mod LeastPlace
+pub mod Followed

@@ -29,11 +29,9 @@ pub fn add(table: &mut [u64], index: u64, places: Places)
 pub fn link(table: &mut [u64], ends: Places, more: Places)
     ensures { λ _. ⌜ now (table .exit) ≡ link (ends .0) (more .0) 0 (now (table .entry)) ⌝ }
 {
-    let mut i = 0;
-    while i < table.len() {
-        if ends.has(i as u64) {
-            table[i] = table[i] | more.0;
-        }
-        i += 1;
+    let mut rest = ends.0;
+    while rest != 0 {
+        add(table, u64::trailing_zeros(rest) as u64, more);
+        rest = rest & (rest - 1);
     }
 }

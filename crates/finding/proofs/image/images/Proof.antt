@@ -1,101 +1,83 @@
--- The loop's invariant: the images of the standings passed are in their places, and what lies beyond the standings is as it was.
-use Prim.Native.Nat.{ℕ, _-_}
-use mathlib.Core.Path.{_≡_, subst}
+-- `images` meets its contract: the images are read off the sources that the search has found.
 use Rattle.finding.specs.ImageSearch.{tables}
-use Rattle.finding.specs.ImagesTold.{ImagesDone, images-none, images-more, images-told, images-refused}
+use Rattle.finding.specs.ImagesTold.{images-told, images-refused}
 use native.Mathlib.Omega.{arith}
 use borrow.Author.Needs.{needs}
 use Rattle.finding.proofs.image.images.Statement.{statement}
 use Rattle.finding.proofs.image.images.Tie as tie
 
-abbrev Inv-loop : tie.InvT-loop
-Inv-loop moves count labels follow enter accepting out₀ i₀ out i =
-    ImagesDone (tables moves count labels follow enter) (accepting .0) i out₀ out
-
-abbrev μ-loop : tie.MeasureT-loop
-μ-loop moves count labels follow enter accepting out₀ i₀ out i = count - i
-
-returns : tie.Need-returns Inv-loop μ-loop
+returns : tie.Need-returns
 returns c =
     let x = c .before .before .before .before .args in
     let D = tables (x .moves .now) (x .count) (x .labels) (x .follow .now) (x .enter .now) in
-    images-refused D (x .accepting .0) (x .out .now) (λ f room. omega arith)
+    images-refused D (x .accepting .0) (x .out .now) (λ f room some. omega arith)
 
-returns-2 : tie.Need-returns-2 Inv-loop μ-loop
+returns-2 : tie.Need-returns-2
 returns-2 c =
     let x = c .before .before .before .before .before .args in
     let D = tables (x .moves .now) (x .count) (x .labels) (x .follow .now) (x .enter .now) in
-    images-refused D (x .accepting .0) (x .out .now) (λ f room. omega arith)
+    images-refused D (x .accepting .0) (x .out .now) (λ f room some. omega arith)
 
-returns-3 : tie.Need-returns-3 Inv-loop μ-loop
+returns-3 : tie.Need-returns-3
 returns-3 c =
     let x = c .before .before .before .before .before .before .args in
     let D = tables (x .moves .now) (x .count) (x .labels) (x .follow .now) (x .enter .now) in
-    images-refused D (x .accepting .0) (x .out .now) (λ f room. omega arith)
+    images-refused D (x .accepting .0) (x .out .now) (λ f room some. omega arith)
 
-returns-4 : tie.Need-returns-4 Inv-loop μ-loop
+returns-4 : tie.Need-returns-4
 returns-4 c =
     let x = c .before .before .before .before .before .before .before .args in
     let D = tables (x .moves .now) (x .count) (x .labels) (x .follow .now) (x .enter .now) in
-    images-refused D (x .accepting .0) (x .out .now) (λ f room. omega arith)
+    images-refused D (x .accepting .0) (x .out .now) (λ f room some. omega arith)
 
-loop-holds : tie.Need-loop-holds Inv-loop μ-loop
-loop-holds c =
-    let x = c .before .before .before .before .before .before .before .args in
-    let D = tables (x .moves .now) (x .count) (x .labels) (x .follow .now) (x .enter .now) in
-    images-none D (x .accepting .0) (x .out .now)
-
-image-requires : tie.Need-image-requires Inv-loop μ-loop
-image-requires c κs = search needs
-
-mul-out : tie.Need-mul-out Inv-loop μ-loop
-mul-out c = search needs
-
-slice-write-out : tie.Need-slice-write-out Inv-loop μ-loop
-slice-write-out c = search needs
-
-add-i : tie.Need-add-i Inv-loop μ-loop
-add-i c = search needs
-
-loop-less : tie.Need-loop-less Inv-loop μ-loop
-loop-less c = search needs
-
-loop-again : tie.Need-loop-again Inv-loop μ-loop
-loop-again c =
-    let l = c .before .before .loop in
-    let x = c .before .before .before .before .before .before .before .before .before .before .args in
-    let D = tables (x .moves .now) (x .count) (x .labels) (x .follow .now) (x .enter .now) in
-    images-more D (x .accepting .0) (x .out .now) (l .i) (c .image .result .0) (l .out) (c .before .loop-test .taken) (omega arith)
-    (l .inv) (c .image .ensures)
-
-same-length : tie.Need-same-length Inv-loop μ-loop
-same-length c = search needs
-
-returns-5 : tie.Need-returns-5 Inv-loop μ-loop
+returns-5 : tie.Need-returns-5
 returns-5 c =
-    let l = c .before .loop in
+    let x = c .before .before .before .before .before .before .before .before .args in
+    let D = tables (x .moves .now) (x .count) (x .labels) (x .follow .now) (x .enter .now) in
+    images-refused D (x .accepting .0) (x .out .now) (λ f room some. omega arith)
+
+returns-6 : tie.Need-returns-6
+returns-6 c =
     let x = c .before .before .before .before .before .before .before .before .before .args in
     let D = tables (x .moves .now) (x .count) (x .labels) (x .follow .now) (x .enter .now) in
-    let e : l .i ≡ x .count = omega arith in
-    images-told D (x .accepting .0) (x .out .now) (l .out)
-    (subst (λ (z : ℕ). ImagesDone D (x .accepting .0) z (x .out .now) (l .out)) e (l .inv))
+    images-refused D (x .accepting .0) (x .out .now) (λ f room some. omega arith)
+
+find-sources-requires : tie.Need-find-sources-requires
+find-sources-requires c κs = (
+  record { standings = omega arith; row = omega arith; enters = omega arith; places = omega arith },
+  omega arith,
+)
+
+turn-requires : tie.Need-turn-requires
+turn-requires c κs = (
+  omega arith,
+  omega arith,
+  omega arith,
+  λ j y i h l m. c .before .before .find-sources .ensures .sound (j, y) i (omega arith) l m .0,
+)
+
+same-length : tie.Need-same-length
+same-length c = search needs
+
+returns-7 : tie.Need-returns-7
+returns-7 c =
+    let at-find-sources = c .before .before .before .before .before in
+    let x = at-find-sources .before .before .before .before .before .before .before .before .before .before .before .args in
+    let D = tables (x .moves .now) (x .count) (x .labels) (x .follow .now) (x .enter .now) in
+    images-told D (x .accepting .0) _ (x .out .now) _ (omega arith) (at-find-sources .find-sources .ensures)
+    (c .before .before .turn .ensures)
 
 pub images-spec : {M : Type 1} → statement M
 images-spec =
     tie.close
     (tie.spec
-    Inv-loop
-    μ-loop
     returns
     returns-2
     returns-3
     returns-4
-    loop-holds
-    image-requires
-    mul-out
-    slice-write-out
-    add-i
-    loop-less
-    loop-again
+    returns-5
+    returns-6
+    find-sources-requires
+    turn-requires
     same-length
-    returns-5)
+    returns-7)

@@ -36,13 +36,13 @@ same-length c = search needs
 
 returns : tie.Need-returns
 returns c =
-    let start = c .before .before .before .before .before .before .before in
+    let start = c .before .before .before .before .before .before .before .before in
     let a = start .args in
     let called = c .before .before .images in
-    let sized : length (called .last .1 .1 .1 .1 .1 .1 .0) ≡ 64 =
-    called .kept .1 .1 .1 .1 .1 .1 .0 ∙ simp (length-take, length-drop) (omega (arith, start .pre .1)) in
+    let sized : length (called .last .1 .1 .1 .1 .1 .1 .1 .0) ≡ 64 =
+    called .kept .1 .1 .1 .1 .1 .1 .1 .0 ∙ simp (length-take, length-drop) (omega (arith, start .pre .1)) in
     row-filled (tables (a .moves .now) (a .count) (a .labels) (a .follow .now) (a .enter .now)) (a .accepting) (a .v) (a .rows .now)
-    (called .last .1 .1 .1 .1 .1 .1 .0) (64 * a .v + 64 - 64 * a .v) (add-sub-cancel-left (64 * a .v) 64) (start .pre .1) sized
+    (called .last .1 .1 .1 .1 .1 .1 .1 .0) (64 * a .v + 64 - 64 * a .v) (add-sub-cancel-left (64 * a .v) 64) (start .pre .1) sized
     (called .ensures)
 
 pub fill-row-spec : {M : Type 1} → statement M

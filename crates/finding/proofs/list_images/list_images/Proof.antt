@@ -8,11 +8,11 @@ use Rattle.finding.proofs.list_images.list_images.Statement.{statement}
 use Rattle.finding.proofs.list_images.list_images.Tie as tie
 
 abbrev Inv-loop : tie.InvT-loop
-Inv-loop moves count labels lists follow enter sizes accepting rows₀ v₀ rows v =
+Inv-loop moves count labels lists follow enter sizes accepting rows₀ from₀ v₀ rows from v =
     (v ≤ lists) × ListsDone (jobTables moves count labels follow enter sizes accepting) v rows
 
 abbrev μ-loop : tie.MeasureT-loop
-μ-loop moves count labels lists follow enter sizes accepting rows₀ v₀ rows v = lists - v
+μ-loop moves count labels lists follow enter sizes accepting rows₀ from₀ v₀ rows from v = lists - v
 
 returns : tie.Need-returns Inv-loop μ-loop
 returns c = λ h. absurd (omega arith)
@@ -35,11 +35,11 @@ loop-less c = search needs
 
 loop-again : tie.Need-loop-again Inv-loop μ-loop
 loop-again c =
-    let l = c .before .before .before .loop in
-    let a = c .before .before .before .before .before .args in
+    let l = c .before .before .before .before .loop in
+    let a = c .before .before .before .before .before .before .args in
     let T =
     jobTables (a .moves .now) (a .count) (a .labels) (a .follow .now) (a .enter .now) (a .sizes .now) (a .accepting .now) in
-    (omega arith, lists-more T (l .v) (l .rows) (c .list-row .last .1 .1 .1 .1 .1 .1 .1 .1 .0) (l .inv .1) (c .list-row .ensures))
+    (omega arith, lists-more T (l .v) (l .rows) (c .list-row .last .1 .1 .1 .1 .1 .1 .1 .1 .1 .0) (l .inv .1) (c .list-row .ensures))
 
 returns-2 : tie.Need-returns-2 Inv-loop μ-loop
 returns-2 c =

@@ -74,11 +74,11 @@ fill-row-requires c κs = search needs
 
 returns-2 : tie.Need-returns-2
 returns-2 c =
-    let start = c .before .before .before .before .before .before .before .before .before in
+    let start = c .before .before .before .before .before .before .before .before .before .before in
     let a = start .args in
     let T =
     jobTables (a .moves .now) (a .count) (a .labels) (a .follow .now) (a .enter .now) (a .sizes .now) (a .accepting .now) in
-    list-told T (a .v) (a .rows .now) (c .fill-row .last .1 .1 .1 .1 .1 .1 .1 .0) (a .v + 1)
+    list-told T (a .v) (a .rows .now) (c .fill-row .last .1 .1 .1 .1 .1 .1 .1 .1 .0) (a .v + 1)
     (64 * (a .v + 1) + getD (a .sizes .now) (a .v + 1) 0 + 1 - 64 * (a .v + 1)) (32 * (a .v + 1) + 32 - 32 * (a .v + 1)) (add-one (a .v))
     (omega arith) (omega arith) (omega (arith, start .good, start .pre)) (c .fill-row .ensures)
 

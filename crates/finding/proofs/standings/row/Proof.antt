@@ -4,7 +4,8 @@ use mathlib.Core.Logic.{⊎-elim, inl, inr}
 use mathlib.Core.Path.{_≡_, sym, ap, _∙_}
 use lib.Seq.{getD-take, length-take-le}
 use lib.ListN.{getD, take}
-use Rattle.theory.specs.Automaton.{step}
+use Rattle.theory.specs.Places.{intersection}
+use Rattle.theory.specs.Automaton.{nexts, step}
 use Rattle.finding.specs.Plain.{plain}
 use Rattle.finding.specs.Exploring.{RowLoop, row-begins, row-ends, loop-turn, loop-over}
 use native.Mathlib.Omega.{arith}
@@ -13,11 +14,12 @@ use Rattle.finding.proofs.standings.row.Statement.{statement}
 use Rattle.finding.proofs.standings.row.Tie as tie
 
 abbrev Inv-loop : tie.InvT-loop
-Inv-loop follow enter labels limit i n found₀ moves₀ from m₀ a₀ found moves m a =
-    (from ≡ getD (take n found₀) i 0) × RowLoop (step (plain follow enter 0)) 1 labels limit 32 i n found₀ moves₀ a m found moves
+Inv-loop follow enter labels limit i n found₀ moves₀ from after m₀ a₀ found moves m a =
+    (after .0 ≡ nexts (getD (take n found₀) i 0) follow)
+    × RowLoop (step (plain follow enter 0)) 1 labels limit 32 i n found₀ moves₀ a m found moves
 
 abbrev μ-loop : tie.MeasureT-loop
-μ-loop follow enter labels limit i n found₀ moves₀ from m₀ a₀ found moves m a = labels - a
+μ-loop follow enter labels limit i n found₀ moves₀ from after m₀ a₀ found moves m a = labels - a
 
 mul-from : tie.Need-mul-from Inv-loop μ-loop
 mul-from c = search needs
@@ -25,23 +27,23 @@ mul-from c = search needs
 slice-read-from : tie.Need-slice-read-from Inv-loop μ-loop
 slice-read-from c = search needs
 
+follows-requires : tie.Need-follows-requires Inv-loop μ-loop
+follows-requires c κs = search needs
+
 loop-holds : tie.Need-loop-holds Inv-loop μ-loop
 loop-holds c =
-    let s = c .before .before .before .before .before in
+    let s = c .before .before .before .before .before .before in
     let x = s .args in (
-      sym (getD-take (x .n) (x .found .now) (x .i) 0 (s .pre .inside)),
+      c .follows .ensures ∙ ap (λ p. nexts p (x .follow .now)) (sym (getD-take (x .n) (x .found .now) (x .i) 0 (s .pre .inside))),
       row-begins (step (plain (x .follow .now) (x .enter .now) 0)) 1 (x .labels) (x .limit) 32 (x .i) (x .n) (x .found .now) (x .moves .now)
           (s .pre .within),
     )
 
-mul-moves : tie.Need-mul-moves Inv-loop μ-loop
-mul-moves c = search needs
+mul-next : tie.Need-mul-next Inv-loop μ-loop
+mul-next c = search needs
 
-shared-slice-read-moves : tie.Need-shared-slice-read-moves Inv-loop μ-loop
-shared-slice-read-moves c = search needs
-
-step-requires : tie.Need-step-requires Inv-loop μ-loop
-step-requires c κs = search needs
+shared-slice-read-next : tie.Need-shared-slice-read-next Inv-loop μ-loop
+shared-slice-read-next c = search needs
 
 slice-reshare-prefix-place-of : tie.Need-slice-reshare-prefix-place-of Inv-loop μ-loop
 slice-reshare-prefix-place-of c = search needs
@@ -52,14 +54,14 @@ slice-aggregate-place-of c = let l = c .before .before .before .before .loop in 
 place-of-requires : tie.Need-place-of-requires Inv-loop μ-loop
 place-of-requires c κs = search needs
 
-mul-moves-2 : tie.Need-mul-moves-2 Inv-loop μ-loop
-mul-moves-2 c = search needs
+mul-moves : tie.Need-mul-moves Inv-loop μ-loop
+mul-moves c = search needs
 
 add-moves : tie.Need-add-moves Inv-loop μ-loop
 add-moves c = search needs
 
-mul-moves-3 : tie.Need-mul-moves-3 Inv-loop μ-loop
-mul-moves-3 c = search needs
+mul-moves-2 : tie.Need-mul-moves-2 Inv-loop μ-loop
+mul-moves-2 c = search needs
 
 slice-write-moves : tie.Need-slice-write-moves Inv-loop μ-loop
 slice-write-moves c = search needs
@@ -74,14 +76,15 @@ returns : tie.Need-returns Inv-loop μ-loop
 unfolding step
 returns c =
     let l = c .before .before .before .before .before .before .before in
-    let s = c .before .before .before .before .before .before .before .before .before .before .before .before .before in
+    let s = c .before .before .before .before .before .before .before .before .before .before .before .before .before .before in
     let x = s .args in
+    let entered = getD (x .enter .now) (l .loop .a) 0 in
     loop-over (step (plain (x .follow .now) (x .enter .now) 0)) 1 (x .labels) (x .limit) 32 (x .i) (x .n) (x .found .now) (x .moves .now)
     (l .loop .a) (l .loop .m) (l .loop .found) (l .loop .moves) (l .loop .inv .1)
     (c .before .before .before .before .before .before .loop-test .taken)
     (s .pre .inside) (s .pre .numbers) (s .pre .row) (omega arith)
-    (c .before .before .before .before .step .result .0) (c .before .before .place-of .result)
-    (c .before .before .before .before .step .ensures ∙ ap (λ v. step (plain (x .follow .now) (x .enter .now) 0) v (l .loop .a)) (l .loop .inv .0))
+    (intersection (l .before .follows .result .0) entered) (c .before .before .place-of .result)
+    (ap (λ p. intersection p entered) (l .loop .inv .0))
     (c .before .before .place-of .ensures) (c .before .if1 .taken) (omega arith)
 
 mul-found : tie.Need-mul-found Inv-loop μ-loop
@@ -103,15 +106,16 @@ loop-again : tie.Need-loop-again Inv-loop μ-loop
 unfolding step
 loop-again c =
     let l = c .before .before .before .before .before .before in
-    let s = c .before .before .before .before .before .before .before .before .before .before .before .before in
-    let x = s .args in (
+    let s = c .before .before .before .before .before .before .before .before .before .before .before .before .before in
+    let x = s .args in
+    let entered = getD (x .enter .now) (l .loop .a) 0 in (
       l .loop .inv .0,
       loop-turn (step (plain (x .follow .now) (x .enter .now) 0)) 1 (x .labels) (x .limit) 32 (x .i) (x .n) (x .found .now) (x .moves .now)
           (l .loop .a) (l .loop .m) (l .loop .found) (l .loop .moves) (l .loop .inv .1)
           (c .before .before .before .before .before .loop-test .taken)
           (s .pre .inside) (s .pre .numbers) (s .pre .row) (omega arith)
-          (c .before .before .before .step .result .0) (c .before .place-of .result) (c .if1 .m) (c .if1 .found)
-          (c .before .before .before .step .ensures ∙ ap (λ v. step (plain (x .follow .now) (x .enter .now) 0) v (l .loop .a)) (l .loop .inv .0))
+          (intersection (l .before .follows .result .0) entered) (c .before .place-of .result) (c .if1 .m) (c .if1 .found)
+          (ap (λ p. intersection p entered) (l .loop .inv .0))
           (c .before .place-of .ensures)
           (⊎-elim (λ w. inl (w .0 .taken, omega arith, w .2, w .3)) (λ w. inr (w .0 .left, w .1, w .2)) (c .if1 .came)),
     )
@@ -125,7 +129,7 @@ same-length-4 c = search needs
 returns-2 : tie.Need-returns-2 Inv-loop μ-loop
 returns-2 c =
     let l = c .before in
-    let s = c .before .before .before .before .before .before .before in
+    let s = c .before .before .before .before .before .before .before .before in
     let x = s .args in
     row-ends (step (plain (x .follow .now) (x .enter .now) 0)) 1 (x .labels) (x .limit) 32 (x .i) (x .n) (x .found .now) (x .moves .now)
     (l .loop .m) (l .loop .found) (l .loop .moves)
@@ -139,16 +143,16 @@ row-spec =
     μ-loop
     mul-from
     slice-read-from
+    follows-requires
     loop-holds
-    mul-moves
-    shared-slice-read-moves
-    step-requires
+    mul-next
+    shared-slice-read-next
     slice-reshare-prefix-place-of
     slice-aggregate-place-of
     place-of-requires
-    mul-moves-2
+    mul-moves
     add-moves
-    mul-moves-3
+    mul-moves-2
     slice-write-moves
     same-length
     same-length-2

@@ -1,0 +1,110 @@
+-- The loop's invariant: the label is followed from the standings passed. The measure is the standings left.
+use Prim.Native.Nat.{ℕ, _-_, _<_, _^_}
+use mathlib.Core.Logic.{⊎-elim}
+use mathlib.Core.Path.{_≡_}
+use lib.Bits.{and-le-r}
+use lib.Count.{trailing-le}
+use Rattle.theory.specs.Places.{Member}
+use Rattle.places.specs.Followed.{Passed, passed-none, passed-all, rest-within, least-small}
+use Rattle.finding.specs.Sources.{sources, Followed, Moved}
+use Rattle.finding.specs.SourcesLaws.{followed-none, followed-same, followed-then, followed-as, standing-in, standing-out}
+use native.Mathlib.Omega.{arith}
+use borrow.Author.Needs.{needs}
+use Rattle.finding.proofs.sources.follow_standings.Statement.{statement}
+use Rattle.finding.proofs.sources.follow_standings.Tie as tie
+
+abbrev Inv-loop : tie.InvT-loop
+Inv-loop moves count a p taken next from₀ pending₀ waiting all₀ rest₀ from pending all rest =
+    (rest < 2 ^ 64) × ((i : ℕ) → Member i rest → Member i taken)
+    × Followed (Moved moves count a p (Passed taken rest) (λ y. y ≡ next)) (sources from₀ pending₀ waiting) (sources from pending all)
+
+abbrev μ-loop : tie.MeasureT-loop
+μ-loop moves count a p taken next from₀ pending₀ waiting all₀ rest₀ from pending all rest = rest
+
+loop-holds : tie.Need-loop-holds Inv-loop μ-loop
+loop-holds c =
+    let x = c .args in (
+      omega arith,
+      λ i m. m,
+      followed-none (sources (x .from .now) (x .pending .now) (x .waiting)) (λ u v m. passed-none (x .taken) (u .0) (m .1)),
+    )
+
+cast-s : tie.Need-cast-s Inv-loop μ-loop
+cast-s c = omega (arith, trailing-le 64 (c .before .loop .rest))
+
+mul-to : tie.Need-mul-to Inv-loop μ-loop
+mul-to c = omega (arith, trailing-le 64 (c .before .loop .rest))
+
+add-to : tie.Need-add-to Inv-loop μ-loop
+add-to c = omega (arith, trailing-le 64 (c .before .loop .rest))
+
+mul-to-2 : tie.Need-mul-to-2 Inv-loop μ-loop
+mul-to-2 c = omega (arith, trailing-le 64 (c .before .loop .rest))
+
+element-copy-out-to : tie.Need-element-copy-out-to Inv-loop μ-loop
+element-copy-out-to c =
+    omega (arith, c .before .before .pre, least-small (c .before .loop .rest) (c .loop-test .taken) (c .before .loop .inv .0))
+
+pass-on-requires : tie.Need-pass-on-requires Inv-loop μ-loop
+pass-on-requires c κs =
+    let l = c .before .before .before .before .before .loop in
+    let p = c .before .before .before .before .before .before .pre in (
+      p .2,
+      least-small (l .rest) (c .before .before .before .before .loop-test .taken) (l .inv .0),
+      p .3,
+      omega (arith, p .0, c .before .before .if1 .taken),
+      omega (arith, l .inv .2 .words),
+      omega (arith, l .inv .2 .slots),
+    )
+
+sub-rest : tie.Need-sub-rest Inv-loop μ-loop
+sub-rest c = search needs
+
+loop-less : tie.Need-loop-less Inv-loop μ-loop
+loop-less c =
+    let l = c .before .before .before .loop in
+    omega (arith, c .before .before .loop-test .taken, and-le-r (l .rest) (l .rest - 1))
+
+loop-again : tie.Need-loop-again Inv-loop μ-loop
+loop-again c =
+    let l = c .before .before .before .loop in
+    let x = c .before .before .before .before .args in
+    let d = c .before .before .loop-test .taken in (
+      omega (arith, l .inv .0, and-le-r (l .rest) (l .rest - 1)),
+      rest-within (x .taken) (l .rest) (l .inv .1) d (l .inv .0),
+      ⊎-elim
+          (λ w. followed-as (w .4) (w .5) (w .6)
+          (followed-then (l .inv .2) (w .3 .ensures)
+          (standing-in (x .moves .now) (x .count) (x .a) (x .p) (x .next) (x .taken) (l .rest) (l .inv .1) d (l .inv .0) (w .0 .taken))))
+          (λ w. followed-as (w .1) (w .2) (w .3)
+          (followed-same (l .inv .2)
+          (standing-out (x .moves .now) (x .count) (x .a) (x .p) (x .next) (x .taken) (l .rest) (l .inv .1) d (l .inv .0) (w .0 .left))))
+          (c .if1 .came),
+    )
+
+returns : tie.Need-returns Inv-loop μ-loop
+returns c =
+    let l = c .before .loop in
+    let x = c .before .before .args in
+    followed-same (l .inv .2) (λ u v. (
+      λ (e, t, n, m, b). (e, passed-all (x .taken) (l .rest) (c .loop-test .left) (u .0) .1 t, n, m, b),
+      λ (e, t, n, m, b). (e, passed-all (x .taken) (l .rest) (c .loop-test .left) (u .0) .0 t, n, m, b),
+    ))
+
+pub follow-standings-spec : {M : Type 1} → statement M
+follow-standings-spec =
+    tie.close
+    (tie.spec
+    Inv-loop
+    μ-loop
+    loop-holds
+    cast-s
+    mul-to
+    add-to
+    mul-to-2
+    element-copy-out-to
+    pass-on-requires
+    sub-rest
+    loop-less
+    loop-again
+    returns)

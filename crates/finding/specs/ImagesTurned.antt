@@ -1,0 +1,226 @@
+-- The images of the standings are read off the sources of pairs (Sources): each standing is added to the images of its sources together
+-- with an accepting place.
+use Prim.Native.Nat.{ℕ, _+_, _*_, _-_, _^_, _≤_, _<_}
+use mathlib.Core.List.{List, _++_}
+use mathlib.Core.Logic.{_↔_, _≢_, _⊎_, inl, inr}
+use mathlib.Core.Path.{_≡_, refl, sym, _∙_, subst}
+use native.Mathlib.Decide.{ℕ-discrete}
+use native.Mathlib.Omega.{arith}
+use lib.Bits.{bitAnd}
+use lib.Count.{trailingZeros}
+use lib.ListN.{length, getD, set, drop, replicate, length-set, length-append, length-replicate, length-drop}
+use lib.Seq.{drop-set-lt}
+use Rattle.theory.specs.Places.{Member, one, union}
+use Rattle.theory.specs.PlacesLaws.{member-none, member-one, member-union}
+use Rattle.places.specs.Followed.{Passed, passed-none, passed-turn, passed-all}
+use Rattle.finding.specs.Padded.{cleared-zero, cleared-behind}
+use Rattle.finding.specs.Sources.{sourcesOf}
+use Rattle.finding.specs.SourcesLaws.{Written, written}
+
+-- The sources of a standing together with some accepting places, of those below n.
+pub record Ended (n : ℕ) (Accepting : ℕ → Type 0) (from : List ℕ) (to r : ℕ) : Type 0 where
+  pub exactly : (i : ℕ) → Member i r ↔ ((y : ℕ) × (y < n) × Accepting y × Member i (sourcesOf from (to, y)))
+
+module _ (n : ℕ) (from : List ℕ) (to : ℕ) where
+  pub ended-none : (accepting : ℕ) → Ended n (Passed accepting accepting) from to 0
+  ended-none accepting =
+      record { exactly = λ i. (λ m. absurd (member-none i m), λ (y, h, a, m). absurd (passed-none accepting y a)) }
+
+  pub ended-all : (accepting rest r : ℕ) → rest ≡ 0 → Ended n (Passed accepting rest) from to r
+      → Ended n (λ y. Member y accepting) from to r
+  ended-all accepting rest r e s =
+      record {
+        exactly = λ i. (
+          λ m. let (y, h, a, r) = s .exactly i .0 m in (y, h, passed-all accepting rest e y .0 a, r),
+          λ (y, h, a, r). s .exactly i .1 (y, h, passed-all accepting rest e y .1 a, r),
+        );
+      }
+
+  module _ (accepting rest r : ℕ) (within : (i : ℕ) → Member i rest → Member i accepting) (d : rest ≢ 0) (h : rest < 2 ^ 64)
+      (s : Ended n (Passed accepting rest) from to r) where
+    -- The place is below n: its sources are added.
+    pub ended-in : trailingZeros 64 rest < n
+        → Ended n (Passed accepting (bitAnd rest (rest - 1))) from to (union r (getD from (64 * trailingZeros 64 rest + to) 0))
+    ended-in l =
+        record {
+          exactly = λ i. (
+            λ m. there i (member-union i r (getD from (64 * trailingZeros 64 rest + to) 0) .0 m),
+            λ (y, k, a, m). member-union i r (getD from (64 * trailingZeros 64 rest + to) 0) .1
+                (back i y k m (passed-turn accepting rest within d h y .0 a)),
+          );
+        }
+      where
+        there : (i : ℕ) → Member i r ⊎ Member i (getD from (64 * trailingZeros 64 rest + to) 0)
+            → (y : ℕ) × (y < n) × Passed accepting (bitAnd rest (rest - 1)) y × Member i (sourcesOf from (to, y))
+        there i (inl m) =
+            let (y, k, a, o) = s .exactly i .0 m in
+            (y, k, passed-turn accepting rest within d h y .1 (inl a), o)
+        there i (inr m) = (trailingZeros 64 rest, l, passed-turn accepting rest within d h (trailingZeros 64 rest) .1 (inr refl), m)
+
+        back : (i y : ℕ) → y < n → Member i (sourcesOf from (to, y)) → Passed accepting rest y ⊎ (y ≡ trailingZeros 64 rest)
+            → Member i r ⊎ Member i (getD from (64 * trailingZeros 64 rest + to) 0)
+        back i y k m (inl a) = inl (s .exactly i .1 (y, k, a, m))
+        back i y k m (inr e) = inr (subst (λ z. Member i (getD from (64 * z + to) 0)) e m)
+
+    -- It is not.
+    pub ended-out : n ≤ trailingZeros 64 rest → Ended n (Passed accepting (bitAnd rest (rest - 1))) from to r
+    ended-out l =
+        record {
+          exactly = λ i. (
+            λ m. let (y, k, a, o) = s .exactly i .0 m in (y, k, passed-turn accepting rest within d h y .1 (inl a), o),
+            λ (y, k, a, m). s .exactly i .1 (y, k, back y k (passed-turn accepting rest within d h y .0 a), m),
+          );
+        }
+      where
+        back : (y : ℕ) → y < n → Passed accepting rest y ⊎ (y ≡ trailingZeros 64 rest) → Passed accepting rest y
+        back y k (inl a) = a
+        back y k (inr e) = absurd (omega arith)
+
+-- A standing is added to the images of some standings.
+pub record Added (Those : ℕ → Type 0) (to : ℕ) (out out′ : List ℕ) : Type 0 where
+  pub size : length out′ ≡ length out
+  pub kept : (n : ℕ) → ((i : ℕ) → Those i → i < n) → drop n out′ ≡ drop n out
+  pub exactly : (i j : ℕ) → Member j (getD out′ i 0) ↔ (Member j (getD out i 0) ⊎ ((j ≡ to) × Those i))
+
+pub added-none : (those to : ℕ) (out : List ℕ) → Added (Passed those those) to out out
+added-none those to out = record { size = refl; kept = λ n h. refl; exactly = λ i j. (inl, back i j) }
+  where
+    back : (i j : ℕ) → Member j (getD out i 0) ⊎ ((j ≡ to) × Passed those those i) → Member j (getD out i 0)
+    back i j (inl m) = m
+    back i j (inr (e, p)) = absurd (passed-none those i p)
+
+pub added-all : (those rest to : ℕ) (out out′ : List ℕ) → rest ≡ 0 → Added (Passed those rest) to out out′
+    → Added (λ i. Member i those) to out out′
+added-all those rest to out out′ e a =
+    record {
+      size = a .size;
+      kept = λ n h. a .kept n (λ i p. h i (p .0));
+      exactly = λ i j. (λ m. there i j (a .exactly i j .0 m), λ m. a .exactly i j .1 (back i j m));
+    }
+  where
+    there : (i j : ℕ) → Member j (getD out i 0) ⊎ ((j ≡ to) × Passed those rest i) → Member j (getD out i 0) ⊎ ((j ≡ to) × Member i those)
+    there i j (inl m) = inl m
+    there i j (inr (f, p)) = inr (f, p .0)
+
+    back : (i j : ℕ) → Member j (getD out i 0) ⊎ ((j ≡ to) × Member i those) → Member j (getD out i 0) ⊎ ((j ≡ to) × Passed those rest i)
+    back i j (inl m) = inl m
+    back i j (inr (f, p)) = inr (f, passed-all those rest e i .1 p)
+
+pub added-more : (those rest to : ℕ) (out out′ : List ℕ) → ((i : ℕ) → Member i rest → Member i those) → rest ≢ 0 → rest < 2 ^ 64
+    → trailingZeros 64 rest < length out′ → Added (Passed those rest) to out out′
+    → Added (Passed those (bitAnd rest (rest - 1))) to out
+    (set out′ (trailingZeros 64 rest) (union (getD out′ (trailingZeros 64 rest) 0) (one to)))
+added-more those rest to out out′ within d h room a =
+    record {
+      size = length-set out′ k more ∙ a .size;
+      kept = λ n l.
+          drop-set-lt n out′ k more (l k (passed-turn those rest within d h k .1 (inr refl)))
+          ∙ a .kept n (λ i p. l i (passed-turn those rest within d h i .1 (inl p)));
+      exactly = λ i j. (λ m. there i j m (written out′ k more i room), λ m. back i j m (written out′ k more i room));
+    }
+  where
+    k : ℕ
+    k = trailingZeros 64 rest
+
+    more : ℕ
+    more = union (getD out′ k 0) (one to)
+
+    old : (i j : ℕ) → Member j (getD out i 0) ⊎ ((j ≡ to) × Passed those rest i)
+        → Member j (getD out i 0) ⊎ ((j ≡ to) × Passed those (bitAnd rest (rest - 1)) i)
+    old i j (inl m) = inl m
+    old i j (inr (f, p)) = inr (f, passed-turn those rest within d h i .1 (inl p))
+
+    there : (i j : ℕ) → Member j (getD (set out′ k more) i 0)
+        → Written out′ k more i
+        → Member j (getD out i 0) ⊎ ((j ≡ to) × Passed those (bitAnd rest (rest - 1)) i)
+    there i j m (inr (e, f)) = old i j (a .exactly i j .0 (subst (Member j) f m))
+    there i j m (inl (e, f)) = either (member-union j (getD out′ k 0) (one to) .0 (subst (Member j) f m))
+      where
+        either : Member j (getD out′ k 0) ⊎ Member j (one to)
+            → Member j (getD out i 0) ⊎ ((j ≡ to) × Passed those (bitAnd rest (rest - 1)) i)
+        either (inl n) = old i j (a .exactly i j .0 (subst (λ z. Member j (getD out′ z 0)) (sym e) n))
+        either (inr n) = inr (member-one j to .0 n, passed-turn those rest within d h i .1 (inr e))
+
+    grown : (i j : ℕ) → Member j (getD out′ i 0)
+        → Written out′ k more i
+        → Member j (getD (set out′ k more) i 0)
+    grown i j m (inr (e, f)) = subst (Member j) (sym f) m
+    grown i j m (inl (e, f)) =
+        subst (Member j) (sym f) (member-union j (getD out′ k 0) (one to) .1 (inl (subst (λ z. Member j (getD out′ z 0)) e m)))
+
+    back : (i j : ℕ) → Member j (getD out i 0) ⊎ ((j ≡ to) × Passed those (bitAnd rest (rest - 1)) i)
+        → Written out′ k more i
+        → Member j (getD (set out′ k more) i 0)
+    back i j (inl m) w = grown i j (a .exactly i j .1 (inl m)) w
+    back i j (inr (q, p)) w = new (passed-turn those rest within d h i .0 p) w
+      where
+        new : Passed those rest i ⊎ (i ≡ k)
+            → Written out′ k more i
+            → Member j (getD (set out′ k more) i 0)
+        new (inl p) w = grown i j (a .exactly i j .1 (inr (q, p))) w
+        new (inr e) (inl (g, f)) = subst (Member j) (sym f) (member-union j (getD out′ k 0) (one to) .1 (inr (member-one j to .1 q)))
+        new (inr e) (inr (g, f)) = absurd (g e)
+
+-- All sources of pairs are standings.
+abbrev pub Inside : ℕ → ℕ → List ℕ → Type 0
+Inside count n from = (j y i : ℕ) → j < count → y < n → Member i (sourcesOf from (j, y)) → i < count
+
+-- The standings below k are in the images of their sources, and what lies beyond the standings is as it was.
+pub record Turned (count n accepting : ℕ) (from : List ℕ) (k : ℕ) (out out′ : List ℕ) : Type 0 where
+  pub size : length out′ ≡ length out
+  pub kept : drop count out′ ≡ drop count out
+  pub exactly : (i j : ℕ) → i < count
+      → Member j (getD out′ i 0) ↔ ((j < k) × (y : ℕ) × (y < n) × Member y accepting × Member i (sourcesOf from (j, y)))
+
+-- What ends at a standing are standings.
+pub ended-inside : (count n : ℕ) {Accepting : ℕ → Type 0} (from : List ℕ) (to r : ℕ) → Inside count n from → to < count
+    → Ended n Accepting from to r → (i : ℕ) → Member i r → i < count
+ended-inside count n from to r inside h e i m =
+    let (y, k, a, o) = e .exactly i .0 m in
+    inside to y i h k o
+
+module _ (count n accepting : ℕ) (from out : List ℕ) where
+  pub turned-none : Turned count n accepting from 0 (replicate count 0 ++ drop count out) (replicate count 0 ++ drop count out)
+  turned-none =
+      record {
+        size = refl;
+        kept = refl;
+        exactly = λ i j h. (
+          λ m. absurd (member-none j (subst (Member j) (cleared-zero count i out h) m)),
+          λ r. absurd (omega (arith, r .0)),
+        );
+      }
+
+  -- What was cleared before.
+  pub turned-cleared : (k : ℕ) (out′ : List ℕ) → count ≤ length out
+      → Turned count n accepting from k (replicate count 0 ++ drop count out) out′ → Turned count n accepting from k out out′
+  turned-cleared k out′ room t =
+      record {
+        size = t .size ∙ length-append (replicate count 0) (drop count out)
+            ∙ omega (arith, length-replicate {A = ℕ} count 0, length-drop count out);
+        kept = t .kept ∙ cleared-behind count out;
+        exactly = t .exactly;
+      }
+
+  pub turned-more : (k those : ℕ) (out′ out″ : List ℕ) → Inside count n from → k < count → Turned count n accepting from k out out′
+      → Ended n (λ y. Member y accepting) from k those → Added (λ i. Member i those) k out′ out″
+      → Turned count n accepting from (k + 1) out out″
+  turned-more k those out′ out″ inside l t e a =
+      record {
+        size = a .size ∙ t .size;
+        kept = a .kept count (ended-inside count n from k those inside l e) ∙ t .kept;
+        exactly = λ i j h. (λ m. there i j h (a .exactly i j .0 m), λ (l, y, o, b, m). back i j h l y o b m (ℕ-discrete j k));
+      }
+    where
+      there : (i j : ℕ) → i < count → Member j (getD out′ i 0) ⊎ ((j ≡ k) × Member i those)
+          → (j < k + 1) × (y : ℕ) × (y < n) × Member y accepting × Member i (sourcesOf from (j, y))
+      there i j h (inl m) = let (l, y, o, b, r) = t .exactly i j h .0 m in (omega arith, y, o, b, r)
+      there i j h (inr (q, m)) =
+          let (y, o, b, r) = e .exactly i .0 m in
+          (omega arith, y, o, b, subst (λ z. Member i (sourcesOf from (z, y))) (sym q) r)
+
+      back : (i j : ℕ) → i < count → j < k + 1 → (y : ℕ) → y < n → Member y accepting → Member i (sourcesOf from (j, y)) → Dec (j ≡ k)
+          → Member j (getD out″ i 0)
+      back i j h l y o b m (yes q) =
+          a .exactly i j .1 (inr (q, e .exactly i .1 (y, o, b, subst (λ z. Member i (sourcesOf from (z, y))) q m)))
+      back i j h l y o b m (no q) = a .exactly i j .1 (inl (t .exactly i j h .1 (omega arith, y, o, b, m)))

@@ -1,0 +1,369 @@
+-- The laws of the search from all standings (Sources): how steps are passed on one after the other, and how a turn keeps what the search
+-- holds.
+use Prim.Native.Nat.{ℕ, zero, suc, _+_, _-_, _*_, _^_, _≤_, _<_}
+use mathlib.Core.List.{List, [], _∷_}
+use mathlib.Core.Logic.{_↔_, _≢_, _⊎_, inl, inr}
+use mathlib.Core.Path.{_≡_, refl, sym, ap, _∙_, subst}
+use native.Mathlib.Decide.{ℕ-discrete}
+use native.Mathlib.Omega.{arith}
+use lib.Bits.{bitAnd}
+use lib.Count.{trailingZeros}
+use lib.ListN.{length, getD, set, length-set}
+use lib.Seq.{getD-set-same, getD-set-other}
+use Rattle.theory.specs.Places.{Member, one, union, intersection}
+use Rattle.theory.specs.PlacesLaws.{member-one, member-union}
+use Rattle.theory.specs.PlacesWithin.{within-at-most}
+use Rattle.theory.specs.Closure.{Reaches, here, onward}
+use Rattle.theory.specs.ClosureLaws.{reaches-trans}
+use Rattle.places.specs.Followed.{Passed, passed-turn}
+use Rattle.finding.specs.MoveTable.{same-place}
+use Rattle.finding.specs.Sources.{sourcesOf, Sources, sources, room, left, Followed, Only, Moved, Labelled}
+
+-- A word that is read or written among others.
+
+-- The word j where x was written at k.
+abbrev pub Written : List ℕ → ℕ → ℕ → ℕ → Type 0
+Written l k x j = ((j ≡ k) × (getD (set l k x) j 0 ≡ x)) ⊎ ((j ≢ k) × (getD (set l k x) j 0 ≡ getD l j 0))
+
+pub written : (l : List ℕ) (k x j : ℕ) → k < length l → Written l k x j
+written l k x j h = go (ℕ-discrete j k)
+  where
+    go : Dec (j ≡ k) → Written l k x j
+    go (yes e) = inl (e, ap (λ z. getD (set l k x) z 0) e ∙ getD-set-same l k x 0 h)
+    go (no d) = inr (d, getD-set-other l k j x 0 d)
+
+room-less : (l : List ℕ) (j more : ℕ) → j < length l → getD l j 0 < more → getD l j 0 < 2 ^ 64 → room (set l j more) < room l
+unfolding room
+room-less [] j more h g k = absurd (omega arith)
+room-less (x ∷ l) zero more h g k = omega arith
+room-less (x ∷ l) (suc j) more h g k = omega (arith, room-less l j more (omega arith) g k)
+
+-- Reachability under more steps.
+pub reaches-map : {A : Type 0} {S T : A → A → Type 0} → ((u v : A) → S u v → T u v) → {x y : A} → Reaches S x y → Reaches T x y
+reaches-map f here = here
+reaches-map f (onward {x = x} {y = y} r p) = onward (f x y r) (reaches-map f p)
+
+-- Steps of S, and then steps of T.
+
+pub followed-none : {S : ℕ × ℕ → ℕ × ℕ → Type 0} (X : Sources) → ((u v : ℕ × ℕ) → ¬ S u v) → Followed S X X
+followed-none X nothing =
+    record {
+      words = refl;
+      slots = refl;
+      kept = λ v i m. m;
+      covers = λ u v i s m. absurd (nothing u v s);
+      sound = λ v i h m. (v, h, m, here);
+      new = λ v h. inl refl;
+      still = λ q s m. m;
+      stays = λ q m. m;
+      waits = λ q s m. inl m;
+      told = λ q m. inl m;
+      less = omega arith;
+    }
+
+pub followed-same : {S T : ℕ × ℕ → ℕ × ℕ → Type 0} {X Y : Sources} → Followed S X Y → ((u v : ℕ × ℕ) → T u v ↔ S u v) → Followed T X Y
+followed-same {S} {T} {X} {Y} f e =
+    record {
+      words = f .words;
+      slots = f .slots;
+      kept = f .kept;
+      covers = λ u v i s m. f .covers u v i (e u v .0 s) m;
+      sound = λ v i h m. let r = f .sound v i h m in (r .0, r .1, r .2, reaches-map (λ u v s. e u v .1 s) (r .3));
+      new = f .new;
+      still = f .still;
+      stays = f .stays;
+      waits = f .waits;
+      told = λ q m. told q (f .told q m);
+      less = f .less;
+    }
+  where
+    told : (q : ℕ) → Member q (X .waiting) ⊎ ((u : ℕ × ℕ) × (v : ℕ × ℕ) × S u v × (v .1 ≡ q))
+        → Member q (X .waiting) ⊎ ((u : ℕ × ℕ) × (v : ℕ × ℕ) × T u v × (v .1 ≡ q))
+    told q (inl m) = inl m
+    told q (inr (u, v, s, h)) = inr (u, v, e u v .1 s, h)
+
+pub followed-then : {S T U : ℕ × ℕ → ℕ × ℕ → Type 0} {X Y Z : Sources} → Followed S X Y → Followed T Y Z
+    → ((u v : ℕ × ℕ) → U u v ↔ (S u v ⊎ T u v)) → Followed U X Z
+followed-then {S} {T} {U} {X} {Y} {Z} f g e =
+    record {
+      words = g .words ∙ f .words;
+      slots = g .slots ∙ f .slots;
+      kept = λ v i m. g .kept v i (f .kept v i m);
+      covers = λ u v i s m. covers u v i (e u v .0 s) m;
+      sound = λ v i h m.
+          let r = g .sound v i h m in
+          let q = f .sound (r .0) i (r .1) (r .2) in (
+            q .0,
+            q .1,
+            q .2,
+            reaches-trans (reaches-map (λ u v s. e u v .1 (inl s)) (q .3)) (reaches-map (λ u v s. e u v .1 (inr s)) (r .3)),
+          );
+      new = λ v h. new v (f .new v h) (g .new v h);
+      still = λ q s m. g .still q s (f .still q s m);
+      stays = λ q m. g .stays q (f .stays q m);
+      waits = λ q s m. waits q s (g .waits q s m);
+      told = λ q m. told q (g .told q m);
+      less = omega (arith, f .less, g .less);
+    }
+  where
+    covers : (u v : ℕ × ℕ) (i : ℕ) → S u v ⊎ T u v → Member i (sourcesOf (X .from) u) → Member i (sourcesOf (Z .from) v)
+    covers u v i (inl s) m = g .kept v i (f .covers u v i s m)
+    covers u v i (inr t) m = g .covers u v i t (f .kept u i m)
+
+    new : (v : ℕ × ℕ) → (sourcesOf (Y .from) v ≡ sourcesOf (X .from) v) ⊎ Member (v .0) (getD (Y .pending) (v .1) 0)
+        → (sourcesOf (Z .from) v ≡ sourcesOf (Y .from) v) ⊎ Member (v .0) (getD (Z .pending) (v .1) 0)
+        → (sourcesOf (Z .from) v ≡ sourcesOf (X .from) v) ⊎ Member (v .0) (getD (Z .pending) (v .1) 0)
+    new v p (inr m) = inr m
+    new v (inr m) (inl q) = inr (g .still (v .1) (v .0) m)
+    new v (inl p) (inl q) = inl (q ∙ p)
+
+    waits : (q s : ℕ) → Member s (getD (Y .pending) q 0) ⊎ Member q (Z .waiting)
+        → Member s (getD (X .pending) q 0) ⊎ Member q (Z .waiting)
+    waits q s (inr m) = inr m
+    waits q s (inl m) = earlier (f .waits q s m)
+      where
+        earlier : Member s (getD (X .pending) q 0) ⊎ Member q (Y .waiting) → Member s (getD (X .pending) q 0) ⊎ Member q (Z .waiting)
+        earlier (inl n) = inl n
+        earlier (inr n) = inr (g .stays q n)
+
+    told : (q : ℕ) → Member q (Y .waiting) ⊎ ((u : ℕ × ℕ) × (v : ℕ × ℕ) × T u v × (v .1 ≡ q))
+        → Member q (X .waiting) ⊎ ((u : ℕ × ℕ) × (v : ℕ × ℕ) × U u v × (v .1 ≡ q))
+    told q (inr (u, v, t, h)) = inr (u, v, e u v .1 (inr t), h)
+    told q (inl m) = earlier (f .told q m)
+      where
+        earlier : Member q (X .waiting) ⊎ ((u : ℕ × ℕ) × (v : ℕ × ℕ) × S u v × (v .1 ≡ q))
+            → Member q (X .waiting) ⊎ ((u : ℕ × ℕ) × (v : ℕ × ℕ) × U u v × (v .1 ≡ q))
+        earlier (inl n) = inl n
+        earlier (inr (u, v, s, h)) = inr (u, v, e u v .1 (inl s), h)
+
+-- What a search holds may be named otherwise.
+pub followed-as : {S : ℕ × ℕ → ℕ × ℕ → Type 0} {X Y : Sources} {from pending : List ℕ} {waiting : ℕ} → from ≡ Y .from → pending ≡ Y .pending
+    → waiting ≡ Y .waiting → Followed S X Y → Followed S X (sources from pending waiting)
+followed-as {S} {X} e f g r = subst (Followed S X) (λ k. sources (sym e k) (sym f k) (sym g k)) r
+
+-- One step: nothing new comes, or the pair gains.
+
+module _ (p s next to : ℕ) (X : Sources) (small : s < 64) (narrow : to < 64) where
+  from-there : (u : ℕ × ℕ) → u .1 ≡ p → u .0 ≡ s → sourcesOf (X .from) u ≡ getD (X .from) (64 * p + s) 0
+  from-there u e f = ap (λ z. getD (X .from) z 0) (omega arith)
+
+  pub gained-none : union (getD (X .from) (64 * next + to) 0) (getD (X .from) (64 * p + s) 0) ≡ getD (X .from) (64 * next + to) 0
+      → Followed (Only p s next to) X X
+  gained-none e =
+      record {
+        words = refl;
+        slots = refl;
+        kept = λ v i m. m;
+        covers = λ u v i (a, b, c, d) m.
+            let here : 64 * v .1 + v .0 ≡ 64 * next + to = omega arith in
+            subst (λ z. Member i (getD (X .from) z 0)) (sym here)
+            (subst (Member i) e
+            (member-union i (getD (X .from) (64 * next + to) 0) (getD (X .from) (64 * p + s) 0) .1
+            (inr (subst (Member i) (from-there u a b) m))));
+        sound = λ v i h m. (v, h, m, here);
+        new = λ v h. inl refl;
+        still = λ q s m. m;
+        stays = λ q m. m;
+        waits = λ q s m. inl m;
+        told = λ q m. inl m;
+        less = omega arith;
+      }
+
+  module _ (word : getD (X .from) (64 * next + to) 0 < 2 ^ 64) (room₁ : 64 * next + to < length (X .from))
+      (room₂ : next < length (X .pending)) (waiting′ : ℕ) (few : waiting′ < 2 ^ 64) (grows : waiting′ ≡ union (X .waiting) (one next)) where
+    abbrev k : ℕ
+    k = 64 * next + to
+
+    abbrev old : ℕ
+    old = getD (X .from) k 0
+
+    abbrev all : ℕ
+    all = union old (getD (X .from) (64 * p + s) 0)
+
+    abbrev more : ℕ
+    more = union (getD (X .pending) next 0) (one to)
+
+    same : (v : ℕ × ℕ) → v .0 < 64 → 64 * v .1 + v .0 ≡ k → (v .1 ≡ next) × (v .0 ≡ to)
+    same v h e = same-place 64 (v .1) (v .0) next to h narrow e
+
+    pub gained-more : union (getD (X .from) (64 * next + to) 0) (getD (X .from) (64 * p + s) 0) ≢ getD (X .from) (64 * next + to) 0
+        → Followed (Only p s next to) X
+        (sources
+        (set (X .from) (64 * next + to) (union (getD (X .from) (64 * next + to) 0) (getD (X .from) (64 * p + s) 0)))
+        (set (X .pending) next (union (getD (X .pending) next 0) (one to))) waiting′)
+    unfolding left
+    gained-more d =
+        record {
+          words = length-set (X .from) k all;
+          slots = length-set (X .pending) next more;
+          kept = λ v i m. kept (64 * v .1 + v .0) i m;
+          covers = λ u v i (a, b, c, d) m.
+              let there : 64 * v .1 + v .0 ≡ k = omega arith in
+              subst (λ z. Member i (getD (set (X .from) k all) z 0)) (sym there)
+              (subst (Member i) (sym (getD-set-same (X .from) k all 0 room₁))
+              (member-union i old (getD (X .from) (64 * p + s) 0) .1 (inr (subst (Member i) (from-there u a b) m))));
+          sound = λ v i h m. sound v i h m (written (X .from) k all (64 * v .1 + v .0) room₁);
+          new = λ v h. new v h (written (X .from) k all (64 * v .1 + v .0) room₁);
+          still = λ q t m. still q t m (written (X .pending) next more q room₂);
+          stays = λ q m. subst (Member q) (sym grows) (member-union q (X .waiting) (one next) .1 (inl m));
+          waits = λ q t m. waits q t m (written (X .pending) next more q room₂);
+          told = λ q m. told q (member-union q (X .waiting) (one next) .0 (subst (Member q) grows m));
+          less = omega (arith, few, less);
+        }
+      where
+        bigger : old ≤ all
+        bigger = within-at-most old all (λ x m. member-union x old (getD (X .from) (64 * p + s) 0) .1 (inl m))
+
+        less : room (set (X .from) k all) < room (X .from)
+        less = room-less (X .from) k all room₁ (omega (arith, bigger, d)) word
+
+        kept : (j i : ℕ) → Member i (getD (X .from) j 0) → Member i (getD (set (X .from) k all) j 0)
+        kept j i m = go (written (X .from) k all j room₁)
+          where
+            go : Written (X .from) k all j
+                → Member i (getD (set (X .from) k all) j 0)
+            go (inl (e, f)) =
+                subst (Member i) (sym f)
+                (member-union i old (getD (X .from) (64 * p + s) 0) .1 (inl (subst (λ z. Member i (getD (X .from) z 0)) e m)))
+            go (inr (e, f)) = subst (Member i) (sym f) m
+
+        sound : (v : ℕ × ℕ) (i : ℕ) → v .0 < 64 → Member i (getD (set (X .from) k all) (64 * v .1 + v .0) 0)
+            → Written (X .from) k all (64 * v .1 + v .0)
+            → (u : ℕ × ℕ) × (u .0 < 64) × Member i (sourcesOf (X .from) u) × Reaches (Only p s next to) u v
+        sound v i h m (inr (e, f)) = (v, h, subst (Member i) f m, here)
+        sound v i h m (inl (e, f)) = either (member-union i old (getD (X .from) (64 * p + s) 0) .0 (subst (Member i) f m))
+          where
+            either : Member i old ⊎ Member i (getD (X .from) (64 * p + s) 0)
+                → (u : ℕ × ℕ) × (u .0 < 64) × Member i (sourcesOf (X .from) u) × Reaches (Only p s next to) u v
+            either (inl n) = (v, h, subst (λ z. Member i (getD (X .from) z 0)) (sym e) n, here)
+            either (inr n) = let c = same v h e in ((s, p), small, n, onward (refl, refl, c .0, c .1) here)
+
+        new : (v : ℕ × ℕ) → v .0 < 64
+            → Written (X .from) k all (64 * v .1 + v .0)
+            → (getD (set (X .from) k all) (64 * v .1 + v .0) 0 ≡ getD (X .from) (64 * v .1 + v .0) 0)
+            ⊎ Member (v .0) (getD (set (X .pending) next more) (v .1) 0)
+        new v h (inr (e, f)) = inl f
+        new v h (inl (e, f)) =
+            let c = same v h e in
+            inr (subst (λ z. Member (v .0) (getD (set (X .pending) next more) z 0)) (sym (c .0))
+            (subst (Member (v .0)) (sym (getD-set-same (X .pending) next more 0 room₂))
+            (member-union (v .0) (getD (X .pending) next 0) (one to) .1 (inr (member-one (v .0) to .1 (c .1))))))
+
+        still : (q t : ℕ) → Member t (getD (X .pending) q 0)
+            → Written (X .pending) next more q
+            → Member t (getD (set (X .pending) next more) q 0)
+        still q t m (inl (e, f)) =
+            subst (Member t) (sym f)
+            (member-union t (getD (X .pending) next 0) (one to) .1 (inl (subst (λ z. Member t (getD (X .pending) z 0)) e m)))
+        still q t m (inr (e, f)) = subst (Member t) (sym f) m
+
+        waits : (q t : ℕ) → Member t (getD (set (X .pending) next more) q 0)
+            → Written (X .pending) next more q
+            → Member t (getD (X .pending) q 0) ⊎ Member q waiting′
+        waits q t m (inl (e, f)) =
+            inr (subst (Member q) (sym grows) (member-union q (X .waiting) (one next) .1 (inr (member-one q next .1 e))))
+        waits q t m (inr (e, f)) = inl (subst (Member t) f m)
+
+        told : (q : ℕ) → Member q (X .waiting) ⊎ Member q (one next)
+            → Member q (X .waiting) ⊎ ((u : ℕ × ℕ) × (v : ℕ × ℕ) × Only p s next to u v × (v .1 ≡ q))
+        told q (inl m) = inl m
+        told q (inr m) = inr ((s, p), (to, next), (refl, refl, refl, refl), sym (member-one q next .0 m))
+
+-- The steps from one standing more, to one place more, over one label more.
+
+module _ (moves : List ℕ) (count a p : ℕ) where
+  module _ (next taken rest : ℕ) (within : (i : ℕ) → Member i rest → Member i taken) (d : rest ≢ 0) (h : rest < 2 ^ 64) where
+    abbrev least : ℕ
+    least = trailingZeros 64 rest
+
+    abbrev after : ℕ
+    after = bitAnd rest (rest - 1)
+
+    -- The standing leads to another, below the count.
+    pub standing-in : getD moves (32 * trailingZeros 64 rest + a) 0 < count → (u v : ℕ × ℕ)
+        → Moved moves count a p (Passed taken (bitAnd rest (rest - 1))) (λ y. y ≡ next) u v
+        ↔ (Moved moves count a p (Passed taken rest) (λ y. y ≡ next) u v
+        ⊎ Only p (trailingZeros 64 rest) next (getD moves (32 * trailingZeros 64 rest + a) 0) u v)
+    standing-in l u v = (λ (e, t, n, m, b). there e n m b (passed-turn taken rest within d h (u .0) .0 t), back)
+      where
+        there : u .1 ≡ p → v .1 ≡ next → v .0 ≡ getD moves (32 * u .0 + a) 0 → v .0 < count → Passed taken rest (u .0) ⊎ (u .0 ≡ least)
+            → Moved moves count a p (Passed taken rest) (λ y. y ≡ next) u v ⊎ Only p least next (getD moves (32 * least + a) 0) u v
+        there e n m b (inl t) = inl (e, t, n, m, b)
+        there e n m b (inr q) = inr (e, q, n, m ∙ ap (λ z. getD moves (32 * z + a) 0) q)
+
+        back : Moved moves count a p (Passed taken rest) (λ y. y ≡ next) u v ⊎ Only p least next (getD moves (32 * least + a) 0) u v
+            → Moved moves count a p (Passed taken after) (λ y. y ≡ next) u v
+        back (inl (e, t, n, m, b)) = (e, passed-turn taken rest within d h (u .0) .1 (inl t), n, m, b)
+        back (inr (e, q, n, m)) = (
+          e,
+          passed-turn taken rest within d h (u .0) .1 (inr q),
+          n,
+          m ∙ ap (λ z. getD moves (32 * z + a) 0) (sym q),
+          subst (λ z. z < count) (sym m) l,
+        )
+
+    -- The standing leads nowhere.
+    pub standing-out : count ≤ getD moves (32 * trailingZeros 64 rest + a) 0 → (u v : ℕ × ℕ)
+        → Moved moves count a p (Passed taken (bitAnd rest (rest - 1))) (λ y. y ≡ next) u v
+        ↔ Moved moves count a p (Passed taken rest) (λ y. y ≡ next) u v
+    standing-out l u v = (
+      λ (e, t, n, m, b). (e, there m b (passed-turn taken rest within d h (u .0) .0 t), n, m, b),
+      λ (e, t, n, m, b). (e, passed-turn taken rest within d h (u .0) .1 (inl t), n, m, b),
+    )
+      where
+        there : v .0 ≡ getD moves (32 * u .0 + a) 0 → v .0 < count → Passed taken rest (u .0) ⊎ (u .0 ≡ least) → Passed taken rest (u .0)
+        there m b (inl t) = t
+        there m b (inr q) = absurd (omega (arith, m, b, l, ap (λ z. getD moves (32 * z + a) 0) q))
+
+  module _ (Taken : ℕ → Type 0) (n entered rest : ℕ) (within : (i : ℕ) → Member i rest → Member i entered) (d : rest ≢ 0)
+      (h : rest < 2 ^ 64) where
+    -- The place is below n.
+    pub place-in : trailingZeros 64 rest < n → (u v : ℕ × ℕ)
+        → Moved moves count a p Taken (λ y. Passed entered (bitAnd rest (rest - 1)) y × (y < n)) u v
+        ↔ (Moved moves count a p Taken (λ y. Passed entered rest y × (y < n)) u v
+        ⊎ Moved moves count a p Taken (λ y. y ≡ trailingZeros 64 rest) u v)
+    place-in l u v = (λ (e, t, (q, o), m, b). there e t o m b (passed-turn entered rest within d h (v .1) .0 q), back)
+      where
+        there : u .1 ≡ p → Taken (u .0) → v .1 < n → v .0 ≡ getD moves (32 * u .0 + a) 0 → v .0 < count
+            → Passed entered rest (v .1) ⊎ (v .1 ≡ trailingZeros 64 rest)
+            → Moved moves count a p Taken (λ y. Passed entered rest y × (y < n)) u v
+            ⊎ Moved moves count a p Taken (λ y. y ≡ trailingZeros 64 rest) u v
+        there e t o m b (inl q) = inl (e, t, (q, o), m, b)
+        there e t o m b (inr q) = inr (e, t, q, m, b)
+
+        back : Moved moves count a p Taken (λ y. Passed entered rest y × (y < n)) u v
+            ⊎ Moved moves count a p Taken (λ y. y ≡ trailingZeros 64 rest) u v
+            → Moved moves count a p Taken (λ y. Passed entered (bitAnd rest (rest - 1)) y × (y < n)) u v
+        back (inl (e, t, (q, o), m, b)) = (e, t, (passed-turn entered rest within d h (v .1) .1 (inl q), o), m, b)
+        back (inr (e, t, q, m, b)) =
+            (e, t, (passed-turn entered rest within d h (v .1) .1 (inr q), subst (λ z. z < n) (sym q) l), m, b)
+
+    -- It is not.
+    pub place-out : n ≤ trailingZeros 64 rest → (u v : ℕ × ℕ)
+        → Moved moves count a p Taken (λ y. Passed entered (bitAnd rest (rest - 1)) y × (y < n)) u v
+        ↔ Moved moves count a p Taken (λ y. Passed entered rest y × (y < n)) u v
+    place-out l u v = (
+      λ (e, t, (q, o), m, b). (e, t, (there o (passed-turn entered rest within d h (v .1) .0 q), o), m, b),
+      λ (e, t, (q, o), m, b). (e, t, (passed-turn entered rest within d h (v .1) .1 (inl q), o), m, b),
+    )
+      where
+        there : v .1 < n → Passed entered rest (v .1) ⊎ (v .1 ≡ trailingZeros 64 rest) → Passed entered rest (v .1)
+        there o (inl q) = q
+        there o (inr q) = absurd (omega arith)
+
+pub label-next : (moves : List ℕ) (count : ℕ) (follow enter : List ℕ) (n p : ℕ) (Taken : ℕ → Type 0) (k : ℕ) (u v : ℕ × ℕ)
+    → Labelled moves count follow enter n p Taken (k + 1) u v
+    ↔ (Labelled moves count follow enter n p Taken k u v
+    ⊎ Moved moves count k p Taken (λ y. Member y (intersection (getD follow p 0) (getD enter k 0)) × (y < n)) u v)
+label-next moves count follow enter n p Taken k u v = (λ (a, l, m). there a l m (ℕ-discrete a k), back)
+  where
+    Over : ℕ → Type 0
+    Over a = Moved moves count a p Taken (λ y. Member y (intersection (getD follow p 0) (getD enter a 0)) × (y < n)) u v
+
+    there : (a : ℕ) → a < k + 1 → Over a → Dec (a ≡ k) → Labelled moves count follow enter n p Taken k u v ⊎ Over k
+    there a l m (yes e) = inr (subst Over e m)
+    there a l m (no e) = inl (a, omega arith, m)
+
+    back : Labelled moves count follow enter n p Taken k u v ⊎ Over k → Labelled moves count follow enter n p Taken (k + 1) u v
+    back (inl (a, l, m)) = (a, omega arith, m)
+    back (inr m) = (k, omega arith, m)

@@ -1,0 +1,183 @@
+// The search over (standing, list place) from all standings at once (document 001, section 2): for each pair its sources, the standings
+// from which, with the list's start, the labels lead to it. The word 64 × place + standing holds them.
+ghost use Prim.Native.Nat.{_≤_, _<_};
+ghost use mathlib.Core.Path.{_≡_};
+ghost use lib.ListN.{length};
+ghost use Rattle.theory.specs.Places.{Member};
+ghost use Rattle.finding.specs.ImageSearch.{tables, Fitting};
+ghost use Rattle.finding.specs.Sources.{sources, Followed, Only, Moved, Labelled, Begun, Searched};
+use crate::clear::clear_words;
+
+// The sources of (s, p) are passed on to (to, next). Where some are new there, that pair is pending, and its place waits; the waiting
+// places are returned.
+fn pass_on(
+    p: usize,
+    s: usize,
+    next: usize,
+    to: usize,
+    from: &mut [u64],
+    pending: &mut [u64],
+    waiting: u64,
+) -> u64
+    requires { ⌜ (p < 64) × (s < 64) × (next < 64) × (to < 64) × (length (now from) ≡ 4096) × (length (now pending) ≡ 64) ⌝ }
+    ensures { λ r. ⌜ Followed (Only p s next to) (sources (now (from .entry)) (now (pending .entry)) waiting)
+        (sources (now (from .exit)) (now (pending .exit)) r) ⌝ }
+{
+    let new = from[64 * p + s];
+    let old = from[64 * next + to];
+    if old | new == old {
+        return waiting;
+    }
+    from[64 * next + to] = old | new;
+    pending[next] = pending[next] | (1 << to);
+    waiting | (1 << next)
+}
+
+// The label a is followed from the place p with the standings taken, to the place next.
+fn follow_standings(
+    moves: &[u64; 2048],
+    count: usize,
+    a: usize,
+    p: usize,
+    taken: u64,
+    next: usize,
+    from: &mut [u64; 4096],
+    pending: &mut [u64; 64],
+    waiting: u64,
+) -> u64
+    requires { ⌜ (count ≤ 64) × (a < 32) × (p < 64) × (next < 64) ⌝ }
+    ensures { λ r. ⌜ Followed (Moved (now (moves .entry)) count a p (λ s. Member s taken) (λ y. y ≡ next))
+        (sources (now (from .entry)) (now (pending .entry)) waiting) (sources (now (from .exit)) (now (pending .exit)) r) ⌝ }
+{
+    let mut all = waiting;
+    let mut rest = taken;
+    while rest != 0 {
+        let s = u64::trailing_zeros(rest) as usize;
+        let to = moves[32 * s + a] as usize;
+        if to < count {
+            all = pass_on(p, s, next, to, from, pending, all);
+        }
+        rest = rest & (rest - 1);
+    }
+    all
+}
+
+// The label a is followed from the place p with the standings taken, to the places that it enters, those below `places`.
+fn follow_places(
+    moves: &[u64; 2048],
+    count: usize,
+    a: usize,
+    p: usize,
+    taken: u64,
+    entered: u64,
+    places: usize,
+    from: &mut [u64; 4096],
+    pending: &mut [u64; 64],
+    waiting: u64,
+) -> u64
+    requires { ⌜ (count ≤ 64) × (a < 32) × (p < 64) ⌝ }
+    ensures { λ r. ⌜ Followed (Moved (now (moves .entry)) count a p (λ s. Member s taken) (λ y. Member y entered × (y < places)))
+        (sources (now (from .entry)) (now (pending .entry)) waiting) (sources (now (from .exit)) (now (pending .exit)) r) ⌝ }
+{
+    let mut all = waiting;
+    let mut rest = entered;
+    while rest != 0 {
+        let next = u64::trailing_zeros(rest) as usize;
+        if next < places {
+            all = follow_standings(moves, count, a, p, taken, next, from, pending, all);
+        }
+        rest = rest & (rest - 1);
+    }
+    all
+}
+
+// All labels are followed from the place p with the standings taken.
+fn follow_labels(
+    moves: &[u64; 2048],
+    count: usize,
+    labels: usize,
+    follow: &[u64],
+    enter: &[u64],
+    p: usize,
+    taken: u64,
+    from: &mut [u64; 4096],
+    pending: &mut [u64; 64],
+    waiting: u64,
+) -> u64
+    requires { ⌜ Fitting (tables (now moves) count labels (now follow) (now enter)) × (p < length (now follow)) ⌝ }
+    ensures { λ r. ⌜ Followed (Labelled (now (moves .entry)) count (now (follow .entry)) (now (enter .entry)) (length (now (follow .entry)))
+        p (λ s. Member s taken) labels)
+        (sources (now (from .entry)) (now (pending .entry)) waiting) (sources (now (from .exit)) (now (pending .exit)) r) ⌝ }
+{
+    let mut all = waiting;
+    let mut a = 0;
+    while a < labels {
+        let entered = follow[p] & enter[a];
+        all = follow_places(
+            moves,
+            count,
+            a,
+            p,
+            taken,
+            entered,
+            follow.len(),
+            from,
+            pending,
+            all,
+        );
+        a += 1;
+    }
+    all
+}
+
+// Each standing becomes a source of itself with the list's start, and no other pair below `places` has a source. The standings are
+// returned.
+fn begin(count: usize, places: usize, from: &mut [u64; 4096]) -> u64
+    requires { ⌜ (count ≤ 64) × (0 < places) × (places ≤ 64) ⌝ }
+    ensures { λ r. ⌜ Begun count places (now (from .exit)) r ⌝ }
+{
+    clear_words(from, 64 * places);
+    let mut all: u64 = 0;
+    let mut i = 0;
+    while i < count {
+        from[i] = 1 << i;
+        all = all | (1 << i);
+        i += 1;
+    }
+    all
+}
+
+// The sources of all pairs: while a place waits, its labels are followed from the standings pending at it.
+pub fn find_sources(
+    moves: &[u64; 2048],
+    count: usize,
+    labels: usize,
+    follow: &[u64],
+    enter: &[u64],
+    from: &mut [u64; 4096],
+)
+    requires { ⌜ Fitting (tables (now moves) count labels (now follow) (now enter)) × (0 < length (now follow)) ⌝ }
+    ensures { λ _. ⌜ Searched (tables (now (moves .entry)) count labels (now (follow .entry)) (now (enter .entry)))
+        (length (now (follow .entry))) (now (from .exit)) ⌝ }
+{
+    let mut pending = [0; 64];
+    pending[0] = begin(count, follow.len(), from);
+    let mut waiting: u64 = 1;
+    while waiting != 0 {
+        let p = u64::trailing_zeros(waiting) as usize;
+        let taken = pending[p];
+        pending[p] = 0;
+        waiting = follow_labels(
+            moves,
+            count,
+            labels,
+            follow,
+            enter,
+            p,
+            taken,
+            from,
+            &mut pending,
+            waiting & (waiting - 1),
+        );
+    }
+}
