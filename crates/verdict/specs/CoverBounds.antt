@@ -52,7 +52,7 @@ module _ (follow enter sizes accepting : List ℕ) (n : ℕ) (counted : Counted 
         shl-lt (suc (getD sizes (v + 1) 0)) base
         (omega (arith, sets v o h k, and-le-l (getD follow (64 * (v + 1) + o) 0) (getD enter (32 * (v + 1) + a) 0)))
 
-    entered-below : (v m base a : ℕ) → v + m ≤ n → a < 32
+    pub entered-below : (v m base a : ℕ) → v + m ≤ n → a < 32
         → entered (automataFrom follow enter sizes accepting v m) base a < 2 ^ suc (base + occupied sizes v m)
     unfolding entered automataFrom occupied
     entered-below v zero base a h l = pow-pos (suc (base + 0))
@@ -66,7 +66,7 @@ module _ (follow enter sizes accepting : List ℕ) (n : ℕ) (counted : Counted 
         (wider (suc (base + size + occupied sizes (v + 1) m)) (suc (base + (size + occupied sizes (v + 1) m))) rest (omega arith)
         (entered-below (v + 1) m (base + size) a (omega arith) l)))
 
-    within-below : (v m base o a : ℕ) → v + m ≤ n → a < 32
+    pub within-below : (v m base o a : ℕ) → v + m ≤ n → a < 32
         → movedWithin (automataFrom follow enter sizes accepting v m) base o a < 2 ^ suc (base + occupied sizes v m)
     unfolding movedWithin automataFrom occupied
     within-below v zero base o a h l = pow-pos (suc (base + 0))

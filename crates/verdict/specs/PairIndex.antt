@@ -1,4 +1,4 @@
--- An index of the pairs in a workspace (PairTable), by which a pair is found again (finding: Buckets): 1,019 buckets.
+-- An index of the pairs in a workspace (PairTable), by which a pair is found again (finding: Buckets): 4,093 buckets.
 use Prim.Native.Nat.{ℕ, _+_, _*_, _%_, _^_}
 use mathlib.Core.List.{List}
 use mathlib.Core.Path.{_≡_}
@@ -10,18 +10,18 @@ use Rattle.verdict.specs.PairTable.{pairAt}
 use Rattle.verdict.specs.declared.pairs.Explored.{Explored}
 use Rattle.verdict.specs.declared.pairs.Explored.the-variants.{All}
 
--- The bucket of a pair: the remainder of its seventeen words as one number. 1,019 is a prime of which 2 is a primitive root, so any 1,018
+-- The bucket of a pair: the remainder of its seventeen words as one number. 4,093 is a prime of which 2 is a primitive root, so any 4,092
 -- neighbouring places weigh differently.
 unfoldable pub bucketOf : Pair → ℕ
-bucketOf x = (x .cover * 2 ^ 64 + x .standing) % 1019
+bucketOf x = (x .cover * 2 ^ 64 + x .standing) % 4093
 
 -- r is the remainder of the words from j on.
 abbrev pub Remains : List ℕ → ℕ → ℕ → Type 0
-Remains l j r = r ≡ numberOf (drop j l) % 1019
+Remains l j r = r ≡ numberOf (drop j l) % 4093
 
 -- The first n pairs are indexed.
 pub record Indexed (space : List ℕ) (n : ℕ) (heads nexts : List ℕ) : Type 0 where
-  pub chained : Chained bucketOf 1019 4096 (pairAt space) n heads nexts
+  pub chained : Chained bucketOf 4093 4096 (pairAt space) n heads nexts
 
 -- As many pairs as are told are indexed.
 abbrev pub IndexedAll : (space heads nexts : List ℕ) → Explored → Type 0

@@ -17,7 +17,7 @@ use Rattle.verdict.specs.Workspace.{pair}
 use Rattle.verdict.specs.PairIndex.{bucketOf, Remains, Indexed, IndexedAll}
 use Rattle.verdict.specs.declared.pairs.Explored.the-variants.{All, Over}
 
-pub bucket-below : (x : Pair) → bucketOf x < 1019
+pub bucket-below : (x : Pair) → bucketOf x < 4093
 unfolding bucketOf
 bucket-below x = omega arith
 
@@ -37,34 +37,34 @@ number-none [] (suc j) h = refl
 number-none (w ∷ l) zero h = absurd (omega arith)
 number-none (w ∷ l) (suc j) h = number-none l j (omega arith)
 
-remainder-word : (N w : ℕ) → (N % 1019 * 2 ^ 64 + w) % 1019 ≡ (N * 2 ^ 64 + w) % 1019
+remainder-word : (N w : ℕ) → (N % 4093 * 2 ^ 64 + w) % 4093 ≡ (N * 2 ^ 64 + w) % 4093
 remainder-word N w =
-    let q : N * 2 ^ 64 + w ≡ 1019 * (N / 1019 * 2 ^ 64) + (N % 1019 * 2 ^ 64 + w) = omega arith in
-    sym (ap (λ x. x % 1019) q ∙ mul-add-mod-self-left 1019 (N / 1019 * 2 ^ 64) (N % 1019 * 2 ^ 64 + w))
+    let q : N * 2 ^ 64 + w ≡ 4093 * (N / 4093 * 2 ^ 64) + (N % 4093 * 2 ^ 64 + w) = omega arith in
+    sym (ap (λ x. x % 4093) q ∙ mul-add-mod-self-left 4093 (N / 4093 * 2 ^ 64) (N % 4093 * 2 ^ 64 + w))
 
 pub remains-start : (l : List ℕ) (j : ℕ) → length l ≤ j → Remains l j 0
-remains-start l j h = ap (λ x. x % 1019) (sym (number-none l j h))
+remains-start l j h = ap (λ x. x % 4093) (sym (number-none l j h))
 
-pub remains-turn : (l : List ℕ) (j r s : ℕ) → 0 < j → Remains l j r → s ≡ (r * 2 ^ 64 + getD l (j - 1) 0) % 1019 → Remains l (j - 1) s
+pub remains-turn : (l : List ℕ) (j r s : ℕ) → 0 < j → Remains l j r → s ≡ (r * 2 ^ 64 + getD l (j - 1) 0) % 4093 → Remains l (j - 1) s
 remains-turn l j r s p e q =
     let k : j ≡ suc (j - 1) = omega arith in
-    q ∙ ap (λ x. (x * 2 ^ 64 + getD l (j - 1) 0) % 1019) e
+    q ∙ ap (λ x. (x * 2 ^ 64 + getD l (j - 1) 0) % 4093) e
     ∙ remainder-word (numberOf (drop j l)) (getD l (j - 1) 0)
-    ∙ ap (λ x. (numberOf (drop x l) * 2 ^ 64 + getD l (j - 1) 0) % 1019) k
-    ∙ ap (λ x. x % 1019) (sym (number-from l (j - 1)))
+    ∙ ap (λ x. (numberOf (drop x l) * 2 ^ 64 + getD l (j - 1) 0) % 4093) k
+    ∙ ap (λ x. x % 4093) (sym (number-from l (j - 1)))
 
-pub remains-end : (l : List ℕ) (j r standing b : ℕ) → j ≤ 0 → Remains l j r → b ≡ (r * 2 ^ 64 + standing) % 1019
+pub remains-end : (l : List ℕ) (j r standing b : ℕ) → j ≤ 0 → Remains l j r → b ≡ (r * 2 ^ 64 + standing) % 4093
     → b ≡ bucketOf (pair standing l)
 unfolding bucketOf
 remains-end l j r standing b z e q =
     let k : j ≡ 0 = omega arith in
-    q ∙ ap (λ x. (x * 2 ^ 64 + standing) % 1019) e
+    q ∙ ap (λ x. (x * 2 ^ 64 + standing) % 4093) e
     ∙ remainder-word (numberOf (drop j l)) standing
-    ∙ ap (λ x. (numberOf (drop x l) * 2 ^ 64 + standing) % 1019) k
+    ∙ ap (λ x. (numberOf (drop x l) * 2 ^ 64 + standing) % 4093) k
 
 -- No pair is indexed.
-pub indexed-none : (space : List ℕ) → Indexed space 0 (replicate 1019 0) (replicate 4096 0)
-indexed-none space = record { chained = chained-none bucketOf 1019 4096 (pairAt space) }
+pub indexed-none : (space : List ℕ) → Indexed space 0 (replicate 4093 0) (replicate 4096 0)
+indexed-none space = record { chained = chained-none bucketOf 4093 4096 (pairAt space) }
 
 -- The pair number m is stored and put in front of its chain.
 pub indexed-more : {space : List ℕ} {m standing : ℕ} {cover : List ℕ} {link : ℕ} {space′ : List ℕ}
@@ -73,7 +73,7 @@ pub indexed-more : {space : List ℕ} {m standing : ℕ} {cover : List ℕ} {lin
 indexed-more {space} {m} {standing} {cover} {space′} s sized b heads nexts heads′ nexts′ at few old noted =
     record {
       chained =
-          chained-more bucketOf (pairAt space) (pairAt space′) m (pair standing cover) (other-pair s) (stored-pair s sized) 1019 4096 b
+          chained-more bucketOf (pairAt space) (pairAt space′) m (pair standing cover) (other-pair s) (stored-pair s sized) 4093 4096 b
           heads nexts heads′ nexts′ at (omega (arith, bucket-below (pair standing cover))) few (old .chained) noted;
     }
 

@@ -1,11 +1,12 @@
 -- The laws of pairs in a workspace (PairTable): reading and storing a pair, and how the entries held grow by one.
-use Prim.Native.Nat.{ℕ, zero, suc, _+_, _*_, _/_, _%_, _<_}
+use Prim.Native.Nat.{ℕ, zero, suc, _+_, _*_, _/_, _%_, _^_, _<_}
 use mathlib.Core.Bool.{Bool, true, false, _||_}
 use mathlib.Core.List.{List, [], _∷_, _++_}
 use mathlib.Core.Path.{_≡_, refl, sym, ap, ap₂, _∙_, subst}
 use native.Mathlib.Decide.{ℕ-discrete}
 use native.Mathlib.Omega.{arith}
 use lib.ListN.{length, getD, length-append, List·getD-append}
+use lib.Pow.{pow-pos}
 use lib.Seq.{ext-getD, getD-append-seam}
 use Rattle.theory.specs.Exploration.{System, Entry, known}
 use Rattle.theory.specs.Explored.{Tests, entryAt}
@@ -23,6 +24,12 @@ unfolding wordsAt
 word-at space x zero j h = absurd (omega arith)
 word-at space x (suc n) zero h = ap (λ y. getD space y 0) (let e : x ≡ x + 0 = omega arith in e)
 word-at space x (suc n) (suc j) h = word-at space (suc x) n j (omega arith) ∙ ap (λ y. getD space y 0) (let e : suc x + j ≡ x + suc j = omega arith in e)
+
+pub words-below : (space : List ℕ) → ((k : ℕ) → getD space k 0 < 2 ^ 64) → (x n j : ℕ) → getD (wordsAt space x n) j 0 < 2 ^ 64
+unfolding wordsAt
+words-below space h x zero j = pow-pos 64
+words-below space h x (suc n) zero = h x
+words-below space h x (suc n) (suc j) = words-below space h (suc x) n j
 
 -- The words are known one by one.
 pub words-known : (space : List ℕ) (x n : ℕ) (l : List ℕ) → length l ≡ n → ((j : ℕ) → j < n → getD space (x + j) 0 ≡ getD l j 0) → wordsAt space x n ≡ l

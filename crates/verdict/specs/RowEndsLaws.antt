@@ -217,10 +217,10 @@ module _ (follow enter sizes accepting : List ℕ) (n : ℕ) (counted : Counted 
           (ih (omega arith, omega arith, c, d, omega (arith, occupied-more sizes u), f, g))
 
   -- The lists that end at the offset o.
-  abbrev Ended : ℕ → ℕ → Type 0
+  abbrev pub Ended : ℕ → ℕ → Type 0
   Ended o v = (v < n) × EndsAt (getD accepting (v + 1) 0) (getD sizes (v + 1) 0) (occupied sizes 0 v) o × (y ≡ w * nextState R q v)
 
-  ends-exactly : width (automataOf follow enter sizes accepting n) ≡ w → (o : ℕ) → o < w
+  pub ends-exactly : width (automataOf follow enter sizes accepting n) ≡ w → (o : ℕ) → o < w
       → Member y (endsOf R (automataOf follow enter sizes accepting n) (w * q + o)) ↔ ((v : ℕ) × Ended o v)
   unfolding occupied
   ends-exactly wide o h = go (ℕ-discrete o 0)

@@ -14,13 +14,14 @@ use Rattle.theory.specs.PlacesLaws.{member-union, member-unionOver, equal-membe
 use Rattle.theory.specs.PlacesShift.{member-moved}
 use Rattle.places.specs.Words.{numberOf}
 use Rattle.places.specs.NextPlace.{NextPlace}
+use Rattle.places.specs.Followed.{over-none}
 use Rattle.verdict.specs.CoverSteps.{joined-parts}
 use Rattle.verdict.specs.CoverTold.{Gains}
 use Rattle.verdict.specs.CoverLoops.{gains-none}
 use Rattle.verdict.specs.CoverWalk.{Over}
 use Rattle.finding.specs.UnionSteps.{unionOver-skip}
 use Rattle.verdict.specs.Rows.{rowOf, Skips, RowsMoved}
-use Rattle.verdict.specs.RowsLaws.{member-row, over-none}
+use Rattle.verdict.specs.RowsLaws.{member-row}
 
 -- The places below at + w: those below `at`, and those of the row from `at` on.
 pub row-next : (next : ℕ → ℕ) (s at w : ℕ) → w ≤ 64

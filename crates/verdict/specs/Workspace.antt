@@ -1,5 +1,5 @@
 -- What the functions on the workspace promise and their loops keep.
-use Prim.Native.Nat.{ℕ, _+_, _*_, _≤_, _<_}
+use Prim.Native.Nat.{ℕ, _+_, _*_, _^_, _≤_, _<_}
 use mathlib.Core.List.{List}
 use mathlib.Core.Logic.{_≢_}
 use mathlib.Core.Path.{_≡_, refl, sym, ap, _∙_}
@@ -8,9 +8,10 @@ use lib.ListN.{length, getD, set, length-set}
 use lib.Seq.{getD-set-same, getD-set-other}
 use borrow.Author.Count.{below-more}
 use Rattle.places.specs.Words.{numberOf}
+use Rattle.places.specs.WordsLaws.{number-same}
 use Rattle.verdict.specs.Pairs.{Pair}
 use Rattle.verdict.specs.PairTable.{wordsAt, pairAt, Stored}
-use Rattle.verdict.specs.PairTableLaws.{words-known}
+use Rattle.verdict.specs.PairTableLaws.{length-words, word-at, words-below, words-known, pair-path}
 
 -- The pair of a standing and a cover set as words.
 abbrev pub pair : ℕ → List ℕ → Pair
@@ -74,15 +75,26 @@ stored-all space m standing cover link space′ h p =
           ∙ getD-set-other space (18 * m) j standing 0 (λ e. k (omega arith) (omega arith));
     }
 
--- Pairs are compared by their standings and by their cover sets.
+-- Pairs are compared by their standings and by the words of their cover sets.
 
-pub pair-same : (space : List ℕ) (i standing : ℕ) (cover words : List ℕ) → words ≡ wordsAt space (18 * i + 1) 16 → getD space (18 * i) 0 ≡ standing
-    → numberOf words ≡ numberOf cover → pairAt space i ≡ pair standing cover
-pair-same space i standing cover words e p q k = record { standing = p k; cover = (ap numberOf (sym e) ∙ q) k }
+pub words-same : (space : List ℕ) (x n : ℕ) (words : List ℕ) → getD space (x + n) 0 ≡ getD words n 0 → Words space x n words
+    → Words space x (n + 1) words
+words-same space x n words e s =
+    record { size = s .size; same = below-more (λ j. getD words j 0 ≡ getD space (x + j) 0) n (s .same) (sym e) }
+
+pub pair-same : (space : List ℕ) (i standing n : ℕ) (cover : List ℕ) → 16 ≤ n → Words space (18 * i + 1) n cover
+    → getD space (18 * i) 0 ≡ standing → pairAt space i ≡ pair standing cover
+pair-same space i standing n cover h s e =
+    pair-path e (ap numberOf (sym (words-end space (18 * i + 1) n cover h s)))
 
 pub standing-differs : (space : List ℕ) (i standing : ℕ) (cover : List ℕ) → getD space (18 * i) 0 ≢ standing → pairAt space i ≡ pair standing cover → ⊥
 standing-differs space i standing cover d e = d (ap (λ x. x .standing) e)
 
-pub cover-differs : (space : List ℕ) (i standing : ℕ) (cover words : List ℕ) → words ≡ wordsAt space (18 * i + 1) 16
-    → numberOf words ≢ numberOf cover → pairAt space i ≡ pair standing cover → ⊥
-cover-differs space i standing cover words e d q = d (ap numberOf e ∙ ap (λ x. x .cover) q)
+pub word-differs : (space : List ℕ) (i standing j : ℕ) (cover : List ℕ) → ((k : ℕ) → getD space k 0 < 2 ^ 64)
+    → ((k : ℕ) → getD cover k 0 < 2 ^ 64) → length cover ≡ 16 → j < 16 → getD space (18 * i + 1 + j) 0 ≢ getD cover j 0
+    → pairAt space i ≡ pair standing cover → ⊥
+word-differs space i standing j cover a b size h d e =
+    let words : wordsAt space (18 * i + 1) 16 ≡ cover =
+    number-same (wordsAt space (18 * i + 1) 16) cover (words-below space a (18 * i + 1) 16) b
+    (length-words space (18 * i + 1) 16 ∙ sym size) (ap (λ x. x .cover) e) in
+    d (sym (word-at space (18 * i + 1) 16 j h) ∙ ap (λ l. getD l j 0) words)

@@ -1,11 +1,20 @@
 // The verdict: cover places, pairs, and whether every query path is yielded.
 pub mod clear;
+mod column_steps;
+mod columns;
 pub mod cover;
 mod index;
+mod leading;
+mod next_cover;
 pub mod operation;
 pub mod pairs;
+mod passing;
 pub mod path;
+mod prepared;
+mod prepared_rows;
 mod row_ends;
+mod row_step;
+mod row_tables;
 mod rows;
 pub mod verdict;
 pub mod workspace;

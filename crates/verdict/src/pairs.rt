@@ -1,16 +1,22 @@
 // Pairs (document 01, "Pair") by exploration over the labels, in a lent workspace.
 ghost use Prim.Native.Nat.{_+_, _*_, _≤_, _<_};
+ghost use mathlib.Core.Bool.{true};
 ghost use mathlib.Core.Path.{_≡_};
 ghost use lib.ListN.{length};
 ghost use Rattle.verdict.specs.PairTable.{Stored};
 ghost use Rattle.verdict.specs.Workspace.{Put, pair};
 ghost use Rattle.verdict.specs.PairIndex.{bucketOf, Indexed, IndexedAll};
 ghost use Rattle.verdict.specs.PairsTold.{lent, QueryStep, RowTold, PairsTold};
+ghost use Rattle.verdict.specs.Prepared.{Prepared};
+ghost use Rattle.verdict.specs.PreparedRows.{PreparedRows};
 use crate::cover::cover_start;
-use crate::cover::cover_step;
 use crate::index::bucket;
 use crate::index::note;
 use crate::index::seen;
+use crate::next_cover::lay;
+use crate::next_cover::next_cover;
+use crate::prepared::prepared;
+use crate::prepared_rows::prepared_rows;
 use crate::workspace::load;
 use finding::step::step;
 use places::Places;
@@ -50,7 +56,7 @@ fn store(workspace: &mut [u64], m: usize, standing: u64, cover: Wide, link: u64)
 // Adds the pair number m, of the bucket `at`, to the workspace and to the index.
 fn add(
     workspace: &mut [u64],
-    heads: &mut [u16; 1019],
+    heads: &mut [u16; 4093],
     nexts: &mut [u16; 4096],
     at: usize,
     m: usize,
@@ -89,7 +95,8 @@ fn query_step(follow: &[u64], enter: &[u64], sizes: &[u64], a: usize, standing: 
     next.0
 }
 
-// The pairs that the labels lead to from the pair number i: those that are new go behind the n that are found.
+// The pairs that the labels lead to from the pair number i: those that are new go behind the n that are found. Where w is not 0, steps by
+// columns are prepared, and by rows where `rowed` says so; `laid` and `next` are for the columns or rows of two cover sets.
 fn row(
     states: u64,
     table: &[u16],
@@ -102,23 +109,35 @@ fn row(
     limit: usize,
     i: usize,
     n: usize,
+    w: u64,
+    before: &[u64; 1024],
+    ended: &[u64; 1024],
+    rowed: bool,
+    follows: &[u64; 64],
+    enters: &[u64; 32],
+    ends: &[u64; 16],
+    laid: &mut [u64; 1024],
+    next: &mut [u64; 1024],
     workspace: &mut [u64],
-    heads: &mut [u16; 1019],
+    heads: &mut [u16; 4093],
     nexts: &mut [u16; 4096],
 ) -> Explored
     requires { ⌜ (i < n) × (n ≤ limit) × (limit ≤ 4096) × (labels ≤ 32) × (18 * limit ≤ length (now workspace))
-        × Indexed (now workspace) n (now heads) (now nexts) ⌝ }
+        × Indexed (now workspace) n (now heads) (now nexts)
+        × (0 < w → Prepared states lists (now follow) (now enter) (now sizes) (now accepting) (now table) w (now before) (now ended))
+        × (rowed ≡ true → PreparedRows lists labels (now follow) (now enter) (now sizes) (now accepting) w (now follows) (now enters) (now ends)) ⌝ }
     ensures { λ r. ⌜ RowTold (lent states labels lists (now (follow .entry)) (now (enter .entry)) (now (sizes .entry)) (now (accepting .entry)) (now (table .entry)))
         limit i n (now (workspace .entry)) r (now (workspace .exit)) ⌝ }
     ensures indexed { λ r. ⌜ IndexedAll (now (workspace .exit)) (now (heads .exit)) (now (nexts .exit)) r ⌝ }
 {
     let from = workspace[18 * i];
     let set = load(workspace, i);
+    lay(states, w, rowed, follows, set, laid);
     let mut m = n;
     let mut a = 0;
     while a < labels {
         let standing = query_step(follow, enter, sizes, a, from);
-        let cover = cover_step(
+        let cover = next_cover(
             states,
             table,
             follow,
@@ -126,8 +145,18 @@ fn row(
             sizes,
             accepting,
             lists,
+            labels,
             a,
             set,
+            w,
+            before,
+            ended,
+            rowed,
+            follows,
+            enters,
+            ends,
+            laid,
+            next,
         );
         let at = bucket(standing, cover);
         if !seen(workspace, heads, nexts, at, m, standing, cover) {
@@ -143,7 +172,8 @@ fn row(
     Explored::All(m as u64)
 }
 
-// All pairs from the first on, as long as there are no more than the limit. The index takes about 10 KiB of the thread's stack.
+// All pairs from the first on, as long as there are no more than the limit. The index, the columns and the rows take about 49 KiB of the
+// thread's stack.
 fn sweep(
     states: u64,
     table: &[u16],
@@ -160,8 +190,38 @@ fn sweep(
     ensures { λ r. ⌜ PairsTold (lent states labels lists (now (follow .entry)) (now (enter .entry)) (now (sizes .entry)) (now (accepting .entry)) (now (table .entry)))
         limit (now (workspace .entry)) r (now (workspace .exit)) ⌝ }
 {
-    let mut heads: [u16; 1019] = [0; 1019];
+    let mut heads: [u16; 4093] = [0; 4093];
     let mut nexts: [u16; 4096] = [0; 4096];
+    let mut before: [u64; 1024] = [0; 1024];
+    let mut ended: [u64; 1024] = [0; 1024];
+    let mut follows: [u64; 64] = [0; 64];
+    let mut enters: [u64; 32] = [0; 32];
+    let mut ends: [u64; 16] = [0; 16];
+    let mut laid: [u64; 1024] = [0; 1024];
+    let mut next: [u64; 1024] = [0; 1024];
+    let w = prepared(
+        states,
+        table,
+        follow,
+        enter,
+        sizes,
+        accepting,
+        lists,
+        &mut before,
+        &mut ended,
+    );
+    let rowed = prepared_rows(
+        follow,
+        enter,
+        sizes,
+        accepting,
+        lists,
+        labels,
+        w,
+        &mut follows,
+        &mut enters,
+        &mut ends,
+    );
     let first = cover_start(states, table, follow, enter, sizes, accepting, lists);
     let at = bucket(1, first);
     add(workspace, &mut heads, &mut nexts, at, 0, 1, first, 0);
@@ -180,6 +240,15 @@ fn sweep(
             limit,
             i,
             n,
+            w,
+            &before,
+            &ended,
+            rowed,
+            &follows,
+            &enters,
+            &ends,
+            &mut laid,
+            &mut next,
             workspace,
             &mut heads,
             &mut nexts,

@@ -22,7 +22,7 @@ pub fn step_at(follow: &[u64], enter: &[u64], v: usize, o: usize, a: usize) -> u
 }
 
 // The w lowest places of a word.
-fn lowest(word: u64, w: u64) -> u64
+pub fn lowest(word: u64, w: u64) -> u64
     requires { ⌜ (0 < w) × (w ≤ 64) ⌝ }
     ensures { λ r. ⌜ r ≡ word % 2 ^ w ⌝ }
 {
@@ -59,7 +59,7 @@ pub fn next_state(places: &[u64], w: u64, q: u64, states: u64, row: u64) -> u64
 }
 
 // The offsets that the offsets of a row lead to, all steps being given.
-fn followed(steps: &[u64], row: u64) -> u64
+pub fn followed(steps: &[u64], row: u64) -> u64
     requires { ⌜ length (now steps) ≡ 64 ⌝ }
     ensures { λ r. ⌜ r ≡ unionOver (λ o. getD (now (steps .entry)) o 0) 64 row ⌝ }
 {

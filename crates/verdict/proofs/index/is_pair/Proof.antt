@@ -1,54 +1,125 @@
--- Pairs are equal where their standings and their cover sets are.
-use mathlib.Core.Bool.{false≢true}
-use mathlib.Core.Path.{sym, _∙_}
-use borrow.Author.Tests.{eqb-true, eqb-false}
-use Rattle.verdict.specs.Workspace.{pair-same, standing-differs, cover-differs}
+-- The loop's invariant: the standings and the first j words of the cover sets are equal.
+use Prim.Native.Nat.{_+_, _*_, _-_, _≤_}
+use mathlib.Core.Bool.{true≢false, false≢true}
+use mathlib.Core.Path.{_≡_, refl, sym, ap, _∙_}
+use lib.ListN.{getD}
+use Rattle.places.proofs.Held.{array-count, array-words}
+use Rattle.verdict.specs.Workspace.{Words, words-start, words-same, pair-same, standing-differs, word-differs}
+use native.Mathlib.Omega.{arith}
 use borrow.Author.Needs.{needs}
 use Rattle.verdict.proofs.index.is_pair.Statement.{statement}
 use Rattle.verdict.proofs.index.is_pair.Tie as tie
 
-mul-if1 : tie.Need-mul-if1
+abbrev Inv-loop : tie.InvT-loop
+Inv-loop workspace i standing words from j₀ j = (from ≡ 18 * i + 1) × (j ≤ 16) × Words workspace (18 * i + 1) j words
+
+abbrev μ-loop : tie.MeasureT-loop
+μ-loop workspace i standing words from j₀ j = 16 - j
+
+mul-if1 : tie.Need-mul-if1 Inv-loop μ-loop
 mul-if1 c = search needs
 
-mul-if1-2 : tie.Need-mul-if1-2
+mul-if1-2 : tie.Need-mul-if1-2 Inv-loop μ-loop
 mul-if1-2 c = search needs
 
-shared-slice-read-if1 : tie.Need-shared-slice-read-if1
+shared-slice-read-if1 : tie.Need-shared-slice-read-if1 Inv-loop μ-loop
 shared-slice-read-if1 c = search needs
 
-load-requires : tie.Need-load-requires
-load-requires c κs = search needs
-
-same-requires : tie.Need-same-requires
-same-requires c κs = search needs
-
-returns : tie.Need-returns
+returns : tie.Need-returns Inv-loop μ-loop
 returns c =
-    let s = c .before .before .before .before .before in
-    let e = c .before .load .ensures (s .pre) in
-    record {
-      same = λ q. pair-same (s .args .workspace .now) (s .args .i) (s .args .standing) (s .args .cover .words) (c .before .load .result .words) e
-          (c .before .before .if1 .taken) (eqb-true _ _ (sym (c .same .ensures) ∙ q));
-      differs = λ q. cover-differs (s .args .workspace .now) (s .args .i) (s .args .standing) (s .args .cover .words) (c .before .load .result .words) e
-          (eqb-false _ _ (sym (c .same .ensures) ∙ q));
-    }
-
-returns-2 : tie.Need-returns-2
-returns-2 c =
-    let s = c .before .before .before in
+    let s = c .before .before in
     record {
       same = λ q. absurd (false≢true q);
-      differs = λ q. standing-differs (s .args .workspace .now) (s .args .i) (s .args .standing) (s .args .cover .words) (c .if1 .left);
+      differs = λ q. standing-differs (s .args .workspace .now) (s .args .i) (s .args .standing) (s .args .cover .words) (c .if1 .taken);
+    }
+
+mul-from : tie.Need-mul-from Inv-loop μ-loop
+mul-from c = search needs
+
+add-from : tie.Need-add-from Inv-loop μ-loop
+add-from c = search needs
+
+loop-holds : tie.Need-loop-holds Inv-loop μ-loop
+loop-holds c =
+    let s = c .before .before .before in
+    let size = array-count 16 (s .args .cover .words) _ (s .good .1 .1 .1 .0 .1 .1 .0) in
+    (refl, omega arith, words-start (s .args .workspace .now) (18 * s .args .i + 1) (s .args .cover .words) size)
+
+add-if2 : tie.Need-add-if2 Inv-loop μ-loop
+add-if2 c = search needs
+
+mul-if2 : tie.Need-mul-if2 Inv-loop μ-loop
+mul-if2 c = search needs
+
+shared-slice-read-if2 : tie.Need-shared-slice-read-if2 Inv-loop μ-loop
+shared-slice-read-if2 c = search needs
+
+mul-if2-2 : tie.Need-mul-if2-2 Inv-loop μ-loop
+mul-if2-2 c = search needs
+
+array-read-if2 : tie.Need-array-read-if2 Inv-loop μ-loop
+array-read-if2 c = search needs
+
+returns-2 : tie.Need-returns-2 Inv-loop μ-loop
+returns-2 c =
+    let l = c .before .before .before .loop in
+    let s = c .before .before .before .before .before .before .before in
+    let good = s .good .1 .1 .1 .0 .1 .1 .0 in
+    record {
+      same = λ q. absurd (false≢true q);
+      differs = λ q. word-differs (s .args .workspace .now) (s .args .i) (s .args .standing) (l .j) (s .args .cover .words)
+          (λ k. omega (arith, c .before .before .before .before .before .before .shared-slice-known .given k))
+          (array-words 16 (s .args .cover .words) _ good) (array-count 16 (s .args .cover .words) _ good)
+          (c .before .before .loop-test .taken)
+          (λ e. c .if2 .taken (ap (λ x. getD (s .args .workspace .now) (x + l .j) 0) (l .inv .0) ∙ e));
+    }
+
+add-j : tie.Need-add-j Inv-loop μ-loop
+add-j c = search needs
+
+loop-less : tie.Need-loop-less Inv-loop μ-loop
+loop-less c = search needs
+
+loop-again : tie.Need-loop-again Inv-loop μ-loop
+loop-again c =
+    let l = c .before .before .before .loop in
+    let s = c .before .before .before .before .before .before .before in (
+      l .inv .0,
+      omega (arith, c .before .before .loop-test .taken),
+      words-same (s .args .workspace .now) (18 * s .args .i + 1) (l .j) (s .args .cover .words)
+          (ap (λ x. getD (s .args .workspace .now) (x + l .j) 0) (sym (l .inv .0)) ∙ c .if2 .left) (l .inv .2),
+    )
+
+returns-3 : tie.Need-returns-3 Inv-loop μ-loop
+returns-3 c =
+    let l = c .before .loop in
+    let s = c .before .before .before .before .before in
+    record {
+      same = λ q. pair-same (s .args .workspace .now) (s .args .i) (s .args .standing) (l .j) (s .args .cover .words)
+          (c .loop-test .left) (l .inv .2) (c .before .before .before .if1 .left);
+      differs = λ q. absurd (true≢false q);
     }
 
 pub is-pair-spec : {M : Type 1} → statement M
 is-pair-spec =
     tie.close
     (tie.spec
+    Inv-loop
+    μ-loop
     mul-if1
     mul-if1-2
     shared-slice-read-if1
-    load-requires
-    same-requires
     returns
-    returns-2)
+    mul-from
+    add-from
+    loop-holds
+    add-if2
+    mul-if2
+    shared-slice-read-if2
+    mul-if2-2
+    array-read-if2
+    returns-2
+    add-j
+    loop-less
+    loop-again
+    returns-3)

@@ -32,7 +32,7 @@ cast-next c =
 loop-holds : tie.Need-loop-holds Inv-loop μ-loop
 loop-holds c =
     let s = c .before .before in
-    walk-start bucketOf 1019 4096 (pairAt (s .args .workspace .now)) (s .args .n) (s .args .heads .now) (s .args .nexts .now)
+    walk-start bucketOf 4093 4096 (pairAt (s .args .workspace .now)) (s .args .n) (s .args .heads .now) (s .args .nexts .now)
     (s .pre .3 .chained) (pair (s .args .standing) (s .args .cover .words)) (s .args .at) (s .pre .2)
     (omega (arith, bucket-below (pair (s .args .standing) (s .args .cover .words)), s .pre .2))
 
@@ -72,14 +72,14 @@ loop-less : tie.Need-loop-less Inv-loop μ-loop
 loop-less c =
     let s = c .before .before .before .before .before .before .before in
     let l = c .before .before .before .before .loop in
-    walk-less bucketOf 1019 4096 (pairAt (s .args .workspace .now)) (s .args .n) (s .args .heads .now) (s .args .nexts .now)
+    walk-less bucketOf 4093 4096 (pairAt (s .args .workspace .now)) (s .args .n) (s .args .heads .now) (s .args .nexts .now)
     (s .pre .3 .chained) (pair (s .args .standing) (s .args .cover .words)) (l .next) (l .inv) (c .before .before .before .loop-test .taken)
 
 loop-again : tie.Need-loop-again Inv-loop μ-loop
 loop-again c =
     let s = c .before .before .before .before .before .before .before in
     let l = c .before .before .before .before .loop in
-    walk-turn bucketOf 1019 4096 (pairAt (s .args .workspace .now)) (s .args .n) (s .args .heads .now) (s .args .nexts .now)
+    walk-turn bucketOf 4093 4096 (pairAt (s .args .workspace .now)) (s .args .n) (s .args .heads .now) (s .args .nexts .now)
     (s .pre .3 .chained) (pair (s .args .standing) (s .args .cover .words)) (l .next) (l .inv)
     (c .before .before .before .loop-test .taken) (c .before .before .is-pair .ensures .differs (c .before .if1 .left))
 

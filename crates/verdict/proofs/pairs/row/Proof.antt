@@ -15,12 +15,12 @@ use Rattle.verdict.proofs.pairs.row.Statement.{statement}
 use Rattle.verdict.proofs.pairs.row.Tie as tie
 
 abbrev Inv-loop : tie.InvT-loop
-Inv-loop states table follow enter sizes accepting lists labels limit i n workspace₀ heads₀ nexts₀ from set m₀ a₀ workspace heads nexts m a =
+Inv-loop states table follow enter sizes accepting lists labels limit i n w before ended rowed follows enters ends laid next₀ workspace₀ heads₀ nexts₀ from set m₀ a₀ next workspace heads nexts m a =
     RowLoop (lent states labels lists follow enter sizes accepting table) limit i n workspace₀ a m workspace
     × Indexed workspace m heads nexts
 
 abbrev μ-loop : tie.MeasureT-loop
-μ-loop states table follow enter sizes accepting lists labels limit i n workspace₀ heads₀ nexts₀ from set m₀ a₀ workspace heads nexts m a =
+μ-loop states table follow enter sizes accepting lists labels limit i n w before ended rowed follows enters ends laid next₀ workspace₀ heads₀ nexts₀ from set m₀ a₀ next workspace heads nexts m a =
     labels - a
 
 mul-from : tie.Need-mul-from Inv-loop μ-loop
@@ -35,24 +35,32 @@ slice-read-from c = let s = c .before .before .before .before .before .before .b
 load-requires : tie.Need-load-requires Inv-loop μ-loop
 load-requires c κs = search needs
 
+lay-requires : tie.Need-lay-requires Inv-loop μ-loop
+lay-requires c κs =
+    let s = c .before .before .before .before .before .before .before .before .before .before in
+    (λ h. let p = s .pre .6 h in (p .some, p .few, p .ready .few-places), λ h. let r = s .pre .7 h in (r .some, r .few))
+
 loop-holds : tie.Need-loop-holds Inv-loop μ-loop
 loop-holds c =
-    let s = c .before .before .before .before .before .before .before .before .before in
+    let s = c .before .before .before .before .before .before .before .before .before .before .before in
     (row-start _ _ _ _ _ (s .pre .1), s .pre .5)
 
 query-step-requires : tie.Need-query-step-requires Inv-loop μ-loop
 query-step-requires c κs = search needs
 
-cover-step-requires : tie.Need-cover-step-requires Inv-loop μ-loop
-cover-step-requires c κs = search needs
+next-cover-requires : tie.Need-next-cover-requires Inv-loop μ-loop
+next-cover-requires c κs =
+    let s = c .before .before .before .before .before .before .before .before .before .before .before .before .before .before .before .before in
+    let laid = c .before .before .before .before .before .lay .ensures in
+    (record { prepared = s .pre .6; rows = s .pre .7; followed = laid .0; columned = laid .1 }, c .before .before .before .loop-test .taken, s .pre .3)
 
 bucket-requires : tie.Need-bucket-requires Inv-loop μ-loop
 bucket-requires c κs = search needs
 
 seen-requires : tie.Need-seen-requires Inv-loop μ-loop
 seen-requires c κs =
-    let in-loop = c .before .before .before .before .before .before in
-    let s = in-loop .before .before .before .before .before .before .before .before .before .before .before in
+    let in-loop = c .before .before .before .before .before .before .before .before in
+    let s = in-loop .before .before .before .before .before .before .before .before .before .before .before .before .before in
     let l = in-loop .before .loop in (
       omega (arith, l .inv .0 .within, l .inv .0 .size, s .pre .4),
       omega (arith, l .inv .0 .within, s .pre .2),
@@ -61,17 +69,17 @@ seen-requires c κs =
     )
 
 same-length : tie.Need-same-length Inv-loop μ-loop
-same-length c = c .before .before .before .before .before .before .before .before .before .before .loop .inv .0 .size
+same-length c = c .before .before .before .before .before .before .before .before .before .before .before .before .loop .inv .0 .size
 
 returns : tie.Need-returns Inv-loop μ-loop
 returns c =
     let seen = c .before .before in
-    let w = seen .before .before .before .before .before .cover-step in
-    let q = seen .before .before .before .before .before .before .query-step in
-    let in-loop = seen .before .before .before .before .before .before .before in
+    let w = seen .before .before .before .before .before .next-cover in
+    let q = seen .before .before .before .before .before .before .before .before .query-step in
+    let in-loop = seen .before .before .before .before .before .before .before .before .before in
     let l = in-loop .before .loop in
-    let load = in-loop .before .before .load in
-    let s = in-loop .before .before .before .before .before .before .before .before .before .before .before in (
+    let load = in-loop .before .before .before .before .load in
+    let s = in-loop .before .before .before .before .before .before .before .before .before .before .before .before .before in (
       row-exceeds _ _ _ _ _ (l .a) (l .m) _ (l .inv .0) (in-loop .loop-test .taken) (s .pre .0) (q .result) (w .result .words)
           (record {
             from = getD (s .args .workspace .now) (18 * s .args .i) 0;
@@ -87,20 +95,20 @@ returns c =
 
 mul-link : tie.Need-mul-link Inv-loop μ-loop
 mul-link c =
-    let in-loop = c .before .before .before .before .before .before .before .before .before in
-    let s = in-loop .before .before .before .before .before .before .before .before .before .before .before in
+    let in-loop = c .before .before .before .before .before .before .before .before .before .before .before in
+    let s = in-loop .before .before .before .before .before .before .before .before .before .before .before .before .before in
     omega (arith, in-loop .loop-test .taken, s .pre .3)
 
 add-link : tie.Need-add-link Inv-loop μ-loop
 add-link c =
-    let in-loop = c .before .before .before .before .before .before .before .before .before in
-    let s = in-loop .before .before .before .before .before .before .before .before .before .before .before in
+    let in-loop = c .before .before .before .before .before .before .before .before .before .before .before in
+    let s = in-loop .before .before .before .before .before .before .before .before .before .before .before .before .before in
     omega (arith, in-loop .loop-test .taken, s .pre .0, s .pre .1, s .pre .2, s .pre .3)
 
 add-requires : tie.Need-add-requires Inv-loop μ-loop
 add-requires c κs =
-    let in-loop = c .before .before .before .before .before .before .before .before .before .before .before .before in
-    let s = in-loop .before .before .before .before .before .before .before .before .before .before .before in
+    let in-loop = c .before .before .before .before .before .before .before .before .before .before .before .before .before .before in
+    let s = in-loop .before .before .before .before .before .before .before .before .before .before .before .before .before in
     let l = in-loop .before .loop in
     let m : l .m < s .args .limit = omega (arith, l .inv .0 .within, c .before .before .before .if2 .left) in (
       omega (arith, m, l .inv .0 .size, s .pre .4),
@@ -112,28 +120,28 @@ add-requires c κs =
 add-m : tie.Need-add-m Inv-loop μ-loop
 add-m c =
     let call = c .before .before .before .before .before in
-    let in-loop = call .before .before .before .before .before .before .before .before .before .before in
-    let s = in-loop .before .before .before .before .before .before .before .before .before .before .before in
+    let in-loop = call .before .before .before .before .before .before .before .before .before .before .before .before in
+    let s = in-loop .before .before .before .before .before .before .before .before .before .before .before .before .before in
     omega (arith, in-loop .before .loop .inv .0 .within, s .pre .2)
 
 add-a : tie.Need-add-a Inv-loop μ-loop
 add-a c =
-    let in-loop = c .before .before .before .before .before .before .before .before in
-    let s = in-loop .before .before .before .before .before .before .before .before .before .before .before in
+    let in-loop = c .before .before .before .before .before .before .before .before .before .before in
+    let s = in-loop .before .before .before .before .before .before .before .before .before .before .before .before .before in
     omega (arith, in-loop .loop-test .taken, s .pre .3)
 
 loop-less : tie.Need-loop-less Inv-loop μ-loop
-loop-less c = omega (arith, c .before .before .before .before .before .before .before .before .loop-test .taken)
+loop-less c = omega (arith, c .before .before .before .before .before .before .before .before .before .before .loop-test .taken)
 
 loop-again : tie.Need-loop-again Inv-loop μ-loop
 loop-again c =
     let seen = c .before in
-    let w = seen .before .before .before .before .before .cover-step in
-    let q = seen .before .before .before .before .before .before .query-step in
-    let in-loop = seen .before .before .before .before .before .before .before in
+    let w = seen .before .before .before .before .before .next-cover in
+    let q = seen .before .before .before .before .before .before .before .before .query-step in
+    let in-loop = seen .before .before .before .before .before .before .before .before .before in
     let l = in-loop .before .loop in
-    let load = in-loop .before .before .load in
-    let s = in-loop .before .before .before .before .before .before .before .before .before .before .before in
+    let load = in-loop .before .before .before .before .load in
+    let s = in-loop .before .before .before .before .before .before .before .before .before .before .before .before .before in
     let D =
     lent (s .args .states) (s .args .labels) (s .args .lists) (s .args .follow .now) (s .args .enter .now) (s .args .sizes .now)
     (s .args .accepting .now) (s .args .table .now) in
@@ -181,9 +189,10 @@ row-spec =
     mul-from-2
     slice-read-from
     load-requires
+    lay-requires
     loop-holds
     query-step-requires
-    cover-step-requires
+    next-cover-requires
     bucket-requires
     seen-requires
     same-length

@@ -3,7 +3,7 @@ use Prim.Native.Nat.{_-_, _<_, _^_}
 use lib.Count.{trailingZeros, trailing-le}
 use lib.Bits.{and-le-r}
 use lib.ListN.{getD}
-use Rattle.verdict.specs.RowsLaws.{FollowedLeft, followed-start, followed-turn, followed-end, least-small}
+use Rattle.places.specs.Followed.{FollowedLeft, followed-start, followed-turn, followed-end, least-small}
 use native.Mathlib.Omega.{arith}
 use borrow.Author.Needs.{needs}
 use Rattle.verdict.proofs.rows.followed.Statement.{statement}

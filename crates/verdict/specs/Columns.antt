@@ -1,0 +1,62 @@
+-- Cover sets by columns, where there are at most 64 states: the column of an offset is the set of the states that have a place with this
+-- offset in the set. What is prepared for steps by columns, and what a step promises.
+use Prim.Native.Nat.{ℕ, zero, suc, _+_, _*_, _^_, _≤_, _<_}
+use mathlib.Core.List.{List}
+use mathlib.Core.Logic.{_↔_}
+use mathlib.Core.Path.{_≡_}
+use lib.ListN.{getD}
+use Rattle.theory.specs.Places.{Member}
+use Rattle.theory.specs.Closure.{Reaches}
+use Rattle.places.specs.Words.{numberOf}
+use Rattle.verdict.specs.Tables.{occupied}
+
+-- The offset of the place o of the list v: its start is the state alone, an occurrence comes after those of the lists before.
+abbrev pub offsetIn : List ℕ → ℕ → ℕ → ℕ
+offsetIn sizes v zero = 0
+offsetIn sizes v (suc o) = occupied sizes 0 v + suc o
+
+-- The columns of a cover set.
+pub record ColumnsOf (w states : ℕ) (set columns : List ℕ) : Type 0 where
+  pub exact : (q o : ℕ) → q < states → o < w → Member q (getD columns o 0) ↔ Member (w * q + o) (numberOf set)
+  pub within : (q o : ℕ) → o < w → Member q (getD columns o 0) → q < states
+
+-- The set of columns, which has no other places.
+pub record SetOf (w states : ℕ) (columns set : List ℕ) : Type 0 where
+  pub same : ColumnsOf w states set columns
+  pub below : numberOf set < 2 ^ (states * w)
+
+-- The entry 64 × v + p has places of the list v alone.
+abbrev pub PlacesWithin : ℕ → List ℕ → List ℕ → Type 0
+PlacesWithin n sizes before = (v o p : ℕ) → v < n → p ≤ 63 → Member o (getD before (64 * v + p) 0) → o ≤ getD sizes (v + 1) 0
+
+-- It has the places of the list v that lead to its place p; the start is led to from none.
+pub record Leading (n : ℕ) (follow sizes before : List ℕ) : Type 0 where
+  pub exact : (v o p : ℕ) → v < n → o ≤ getD sizes (v + 1) 0 → p ≤ 63
+      → Member o (getD before (64 * v + p) 0) ↔ Member p (getD follow (64 * (v + 1) + o) 0)
+  pub within : PlacesWithin n sizes before
+  pub no-start : (v o : ℕ) → v < n → o ≤ getD sizes (v + 1) 0 → ¬ Member 0 (getD follow (64 * (v + 1) + o) 0)
+
+-- One list with the empty path leads from the state q to the state t.
+abbrev pub Passes : ℕ → List ℕ → List ℕ → ℕ → ℕ → Type 0
+Passes n accepting table q t = (v : ℕ) × (v < n) × Member 0 (getD accepting (v + 1) 0) × (t ≡ getD table (16 * q + v) 0)
+
+-- The entry t has the states that lists with the empty path lead to from the state t.
+pub record Passing (states n : ℕ) (accepting table passes : List ℕ) : Type 0 where
+  pub exact : (q t : ℕ) → q < states → Member t (getD passes q 0) ↔ Reaches (Passes n accepting table) q t
+  pub within : (q t : ℕ) → q < states → Member t (getD passes q 0) → t < states
+
+-- The entry 16 × q + v has the states that are reached from the state q where a path of the list v ends.
+pub record Finishing (states n : ℕ) (accepting table ended : List ℕ) : Type 0 where
+  pub exact : (q v t : ℕ) → q < states → v < n
+      → Member t (getD ended (16 * q + v) 0) ↔ Reaches (Passes n accepting table) (getD table (16 * q + v) 0) t
+  pub within : (q v t : ℕ) → q < states → v < n → Member t (getD ended (16 * q + v) 0) → t < states
+
+-- The columns after a step over the label a: the occurrences that it leads to, and the states alone where paths of lists end.
+pub record Stepped (n a : ℕ) (enter sizes accepting before ended columns next : List ℕ) : Type 0 where
+  pub moved : (v p q : ℕ) → v < n → 0 < p → p ≤ getD sizes (v + 1) 0
+      → Member q (getD next (occupied sizes 0 v + p) 0)
+      ↔ (Member p (getD enter (32 * (v + 1) + a) 0)
+      × ((o : ℕ) × Member o (getD before (64 * v + p) 0) × Member q (getD columns (offsetIn sizes v o) 0)))
+  pub alone : (t : ℕ) → Member t (getD next 0 0)
+      ↔ ((v : ℕ) × (p : ℕ) × (q : ℕ) × (v < n) × (0 < p) × (p ≤ getD sizes (v + 1) 0) × Member p (getD accepting (v + 1) 0)
+      × Member q (getD next (occupied sizes 0 v + p) 0) × Member t (getD ended (16 * q + v) 0))

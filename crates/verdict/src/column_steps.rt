@@ -1,0 +1,139 @@
+// The step of a cover set by columns, where there are at most 64 states: an occurrence is reached by the states of the places that lead to
+// it, and a state alone from the states at whose occurrences a path of a list may end.
+ghost use Prim.Native.Nat.{suc, _+_, _*_, _≤_, _<_};
+ghost use mathlib.Core.Path.{_≡_};
+ghost use lib.ListN.{length, getD};
+ghost use Rattle.theory.specs.Places.{member, when, unionOver};
+ghost use Rattle.verdict.specs.Tables.{Counted, occupied};
+ghost use Rattle.verdict.specs.Columns.{PlacesWithin, Stepped};
+ghost use Rattle.verdict.specs.ColumnLists.{Below, PlacesOf, innerOf, joinedOf, ListColumns};
+use crate::clear::clear_words;
+
+// The columns after the offset `base` of the places of a set, all in one; place 0 has the first of them.
+fn joined_after(columns: &[u64; 1024], base: usize, places: u64) -> u64
+    requires { ⌜ Below (base + 1) places ⌝ }
+    ensures { λ r. ⌜ r ≡ unionOver (λ o. getD (now (columns .entry)) (base + 1 + o) 0) 64 places ⌝ }
+{
+    let mut all: u64 = 0;
+    let mut rest = places;
+    while rest != 0 {
+        all = all | columns[base + 1 + (u64::trailing_zeros(rest) as usize)];
+        rest = rest & (rest - 1);
+    }
+    all
+}
+
+// The columns of the places of a list, all in one: the start's is that of the states alone, the occurrences' come after the offset `base`.
+fn joined(columns: &[u64; 1024], base: usize, from: u64) -> u64
+    requires { ⌜ Below base from ⌝ }
+    ensures { λ r. ⌜ r ≡ joinedOf (now (columns .entry)) base from ⌝ }
+{
+    let inner = joined_after(columns, base, from >> 1);
+    if from & 1 == 1 {
+        return columns[0] | inner;
+    }
+    inner
+}
+
+// The occurrences in a set of places, those of a list that has `size` of them, counted from 0.
+fn inner(set: u64, size: u64) -> u64
+    requires { ⌜ size < 64 ⌝ }
+    ensures { λ r. ⌜ r ≡ innerOf set size ⌝ }
+{
+    (set >> 1) & ((1 << size) - 1)
+}
+
+// The states where a path may end at their place p, else none.
+fn ending(accepting: u64, p: u64, states: u64) -> u64
+    requires { ⌜ p < 64 ⌝ }
+    ensures { λ r. ⌜ r ≡ when (member p accepting) states ⌝ }
+{
+    if (accepting >> p) & 1 == 1 {
+        return states;
+    }
+    0
+}
+
+// The columns of the occurrences of the list v that the label enters; the states at whose occurrences a path of the list may end.
+fn list_columns(
+    before: &[u64; 1024],
+    entered: u64,
+    accepting: u64,
+    size: u64,
+    v: usize,
+    base: usize,
+    columns: &[u64; 1024],
+    next: &mut [u64; 1024],
+) -> u64
+    requires { ⌜ (v < 16) × (size < 64) × (base + size < 1024) × PlacesOf v size (now before) × (length (now next) ≡ 1024) ⌝ }
+    ensures { λ r. ⌜ ListColumns v size base entered accepting (now (before .entry)) (now (columns .entry)) (now (next .entry))
+        (now (next .exit)) r ⌝ }
+{
+    let mut ends: u64 = 0;
+    let mut rest = inner(entered, size);
+    while rest != 0 {
+        let p = 1 + (u64::trailing_zeros(rest) as usize);
+        let states = joined(columns, base, before[64 * v + p]);
+        let over = ending(accepting, p as u64, states);
+        next[base + p] = states;
+        ends = ends | over;
+        rest = rest & (rest - 1);
+    }
+    ends
+}
+
+// The states that are reached from the states of a set where a path of the list v ends.
+fn ended_from(ended: &[u64; 1024], v: usize, ends: u64) -> u64
+    requires { ⌜ v < 16 ⌝ }
+    ensures { λ r. ⌜ r ≡ unionOver (λ q. getD (now (ended .entry)) (16 * q + v) 0) 64 ends ⌝ }
+{
+    let mut all: u64 = 0;
+    let mut rest = ends;
+    while rest != 0 {
+        all = all | ended[16 * (u64::trailing_zeros(rest) as usize) + v];
+        rest = rest & (rest - 1);
+    }
+    all
+}
+
+// The columns after a step over the label a.
+pub fn step_columns(
+    enter: &[u64],
+    sizes: &[u64],
+    accepting: &[u64],
+    before: &[u64; 1024],
+    ended: &[u64; 1024],
+    lists: usize,
+    a: usize,
+    w: u64,
+    columns: &[u64; 1024],
+    next: &mut [u64; 1024],
+)
+    requires { ⌜ Counted lists (now sizes) × (a < 32) × (32 * lists + 32 ≤ length (now enter)) × (lists < length (now accepting))
+        × (w ≡ suc (occupied (now sizes) 0 lists)) × (w ≤ 1024) × PlacesWithin lists (now sizes) (now before) ⌝ }
+    ensures { λ _. ⌜ Stepped lists a (now (enter .entry)) (now (sizes .entry)) (now (accepting .entry)) (now (before .entry))
+        (now (ended .entry)) (now (columns .entry)) (now (next .exit)) ⌝ }
+{
+    clear_words(next, w as usize);
+    let mut base: usize = 0;
+    let mut alone: u64 = 0;
+    let mut v = 0;
+    while v < lists {
+        let x = v + 1;
+        let size = sizes[x];
+        let ends = list_columns(
+            before,
+            enter[32 * x + a],
+            accepting[x],
+            size,
+            v,
+            base,
+            columns,
+            next,
+        );
+        alone = alone | ended_from(ended, v, ends);
+        base += size as usize;
+        v += 1;
+    }
+    next[0] = alone;
+}
