@@ -1,5 +1,5 @@
 -- The two machines that answers go by: the standings of an expression over the job's labels, and the states of a rewriting over its lists.
-use Prim.Native.Nat.{ℕ, zero, suc, _+_, _*_}
+use Prim.Native.Nat.{ℕ}
 use mathlib.Core.List.{List}
 use lib.Dec.{eqb}
 use lib.ListN.{length, getD}

@@ -1,7 +1,7 @@
 -- The two answers on a job (document 01, "Answer from links" and "Answer from lists"), after Read's checks: the marks, or a refusal, in the
 -- listed order.
 use Prim.Native.Nat.{ℕ, zero, suc}
-use mathlib.Core.Bool.{Bool, true, false}
+use mathlib.Core.Bool.{true, false}
 use mathlib.Core.List.{List}
 use mathlib.Core.Option.{Option, some, none}
 use lib.Dec.{ltb}
@@ -10,7 +10,7 @@ use Rattle.theory.specs.Expression.{Expression, empty}
 use Rattle.theory.specs.Job.{Job}
 use Rattle.theory.specs.Graph.{Table}
 use Rattle.theory.specs.Automaton.{glushkov}
-use Rattle.theory.specs.Exploration.{Entry, Exploration, all, over}
+use Rattle.theory.specs.Exploration.{Exploration, all, over}
 use Rattle.syntax.specs.declared.refusal.Refusal.{Refusal}
 use Rattle.syntax.specs.declared.refusal.Refusal.the-variants.{TooManyStandings, BadTable, BadStart, NoExpression}
 use Rattle.finding.specs.Standings.{standings, values}

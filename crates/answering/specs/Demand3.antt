@@ -11,7 +11,7 @@ use Rattle.theory.specs.Expression.{Expression, IsPath}
 use Rattle.theory.specs.Word.{Word}
 use Rattle.theory.specs.Job.{Job, WellFormed, SpelledBy}
 use Rattle.theory.specs.Rewriting.{Sound, Yielded, FirstMissed, Complete}
-use Rattle.theory.specs.Graph.{Table, Leads, ExactPairs, AnswersFromLinks, AnswersFromLists}
+use Rattle.theory.specs.Graph.{Table, Leads, ExactPairs, AnswersFromLists}
 use Rattle.theory.specs.GreatestRewriting.{sound-yielded}
 use Rattle.verdict.specs.Verdict.{complete, missed}
 use Rattle.finding.specs.Find.{mostStandings}

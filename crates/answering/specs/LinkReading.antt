@@ -1,13 +1,17 @@
 -- The links of a recording are read one after the other: the link read stands at the first triple that leaves the recording or a later one,
 -- or behind it.
-use Prim.Native.Nat.{ℕ, _*_, _+_, _/_, _≤_, _<_}
+use Prim.Native.Nat.{ℕ, suc, _*_, _+_, _/_, _≤_, _<_}
 use mathlib.Core.Bool.{true, false, false≢true}
+use mathlib.Core.List.{_∷_}
 use mathlib.Core.Logic.{_⊎_, inl, inr}
-use mathlib.Core.Path.{_≡_, sym, ap, _∙_}
+use mathlib.Core.Path.{_≡_, refl, sym, ap, _∙_, subst₂}
 use native.Mathlib.Decide.{ℕ-discrete, decLt}
+use native.Mathlib.Numerals.{add-one, add-two}
 use native.Mathlib.Omega.{arith}
 use lib.ListN.{length, getD}
-use Rattle.theory.specs.Graph.{Table}
+use Rattle.theory.specs.Graph as G
+use Rattle.theory.specs.Graph.{Table, Linked}
+use Rattle.answering.specs.TableLaws.{linked-at}
 use Rattle.answering.specs.Links.{leaves, FirstLink}
 use Rattle.answering.specs.LinkAt.{linkAt, placeAfter, FirstLeaving, place-next, link-place, link-there, link-beyond, link-other}
 use Rattle.answering.specs.declared.links.Link.{Link}
@@ -84,3 +88,25 @@ module _ {t : Table} {x : ℕ} {link : Link} where
         onward = omega (arith, r .onward, next-place);
         reads = read ∙ ap (λ i. linkAt t i x) (one-further ∙ sym next-place);
       }
+
+-- The links of a table by the numbers of their triples.
+
+pub linked-index : {t : Table} {x a y : ℕ} → Linked t x a y
+    → (k : ℕ) × (3 * k + 2 < length t) × (leaves t k ≡ x) × (getD t (3 * k + 1) 0 ≡ a) × (getD t (3 * k + 2) 0 ≡ y)
+linked-index (G.here {x} {a} {y} {t}) = (0, omega arith, refl, refl, refl)
+linked-index (G.later {u = u} {b = b} {v = v} {t = t} l) =
+    let (k, h, d, e, f) = linked-index l in
+    let p : 3 * suc k ≡ suc (suc (suc (3 * k))) = omega arith in
+    let q : 3 * suc k + 1 ≡ suc (suc (suc (3 * k + 1))) = omega arith in
+    let r : 3 * suc k + 2 ≡ suc (suc (suc (3 * k + 2))) = omega arith in
+    let whole : Table = u ∷ (b ∷ (v ∷ t)) in (
+      suc k,
+      omega arith,
+      ap (λ i. getD whole i 0) p ∙ d,
+      ap (λ i. getD whole i 0) q ∙ e,
+      ap (λ i. getD whole i 0) r ∙ f,
+    )
+
+pub linked-triple : (t : Table) (i : ℕ) → 3 * i + 2 < length t → Linked t (getD t (3 * i) 0) (getD t (3 * i + 1) 0) (getD t (3 * i + 2) 0)
+linked-triple t i h =
+    subst₂ (λ m n. Linked t (getD t (3 * i) 0) (getD t m 0) (getD t n 0)) (sym (add-one (3 * i))) (sym (add-two (3 * i))) (linked-at t i h)

@@ -31,7 +31,7 @@ clash z = absurd (omega arith)
 module _ {F : Found} {lists : ℕ} {finding : Finding} {next flags : List ℕ} {table : Table} {N : ℕ}
     (g : FoundGiven F lists finding next flags table N) {start : ℕ} {before workspace after workspace′ : List ℕ} where
   pub finding-marked : {m n r : ℕ} → finding ≡ Finding.Found m n
-      → ((R : Rewritten) (k : ℕ) → ListsGiven R k next flags n table N → ListsMarked R N table start before workspace after workspace′ r)
+      → ((R : Rewritten) → ListsGiven R lists next flags n table N → ListsMarked R N table start before workspace after workspace′ r)
       → outcome (Answered.Marked r) after workspace′ ≡ listsLeft N before workspace (markedLists N table start F)
   finding-marked {m} {n} {r} e t = go F refl
     where
@@ -40,7 +40,7 @@ module _ {F : Found} {lists : ℕ} {finding : Finding} {next flags : List ℕ} {
       go (found R) f =
           let (a, b) = g .answered R f in
           let same : R .states ≡ n = cc in
-          let u = t (rewritten R) lists (subst (λ n. ListsGiven (rewritten R) lists next flags n table N) same b) in
+          let u = t (rewritten R) (subst (λ n. ListsGiven (rewritten R) lists next flags n table N) same b) in
           λ i. outcome (Answered.Marked (u .told i)) (u .marked i) (u .cleared i)
 
   pub finding-refused : {q : Refusal} {n : ℕ} → finding ≡ Finding.Refused q n → ListsLent N start before workspace

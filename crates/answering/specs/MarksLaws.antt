@@ -20,7 +20,7 @@ use Rattle.answering.specs.ProductLaws.{endsAt, StaysWithin, ends-within
 
 -- A recording is marked where it is reached in an accepting state ..
 
-pub marked-state : (M : Machine) (nodes y : ℕ)
+marked-state : (M : Machine) (nodes y : ℕ)
     → (marked M nodes y ≡ true) ↔ ((s : ℕ) × (s < M .states) × Member (M .states * y + s) nodes × Member s (M .accepting))
 unfolding marked
 marked-state M nodes y = (λ e. there (eqb (intersection part (M .accepting)) 0) refl e, back)

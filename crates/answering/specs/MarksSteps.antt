@@ -1,24 +1,20 @@
--- The laws of marks from words (Marks), and that after the search they are the marks of the machine (Product).
-use Prim.Native.Nat.{ℕ, zero, suc, _+_, _*_, _/_, _%_, _≤_, _<_}
+-- The laws of marks from words (Marks): a word in common, and the marks one after the other.
+use Prim.Native.Nat.{ℕ, zero, suc, _+_, _*_, _≤_, _<_}
 use mathlib.Core.Bool.{Bool, true, false, not, _||_, false≢true}
 use mathlib.Core.List.{List, [], _∷_, _++_, append-assoc}
-use mathlib.Core.Logic.{_↔_}
 use mathlib.Core.Path.{_≡_, refl, sym, ap, ap₂, _∙_, subst}
 use native.Mathlib.Decide.{ℕ-discrete}
 use native.Mathlib.Nat.{add-zero}
 use native.Mathlib.Numerals.{add-one}
 use native.Mathlib.Omega.{arith}
 use lib.Dec.{eqb}
-use lib.ListN.{length, getD, set, take, drop}
-use lib.Seq.{drop-cons, set-at, take-at, drop-at}
+use lib.ListN.{length, getD, set, drop}
+use lib.Seq.{drop-cons, set-at}
 use borrow.Author.Tests.{eqb-false, eq-eqb, ne-eqb}
-use Rattle.theory.specs.Graph.{Table}
-use Rattle.theory.specs.Places.{Member, intersection}
-use Rattle.theory.specs.PlacesLaws.{member-none, member-intersection, not-none}
-use Rattle.answering.specs.Product.{Machine, reachedNodes, marked, marksFrom, marks, ones}
-use Rattle.answering.specs.MarksLaws.{marked-state, markOf}
-use Rattle.answering.specs.Searched.{Searchable, Runs, Searched}
-use Rattle.answering.specs.Marks.{meets, marksOf, Markable, MarksSet}
+use Rattle.theory.specs.Places.{intersection}
+use Rattle.answering.specs.Product.{ones}
+use Rattle.answering.specs.MarksLaws.{markOf}
+use Rattle.answering.specs.Marks.{meets, marksOf}
 
 -- A word in common.
 
@@ -103,89 +99,3 @@ module _ (w : ℕ) (l m : List ℕ) (y : ℕ) (v : ℕ) (e : v ≡ markOf (meets
 pub mark-at-most : (b : Bool) → markOf b ≤ 1
 mark-at-most true = omega arith
 mark-at-most false = omega arith
-
-mark-number : (b : Bool) → markOf b ≡ elim b [ true ↦ 1 | false ↦ 0 ]
-mark-number true = refl
-mark-number false = refl
-
--- After the search, the marks from its words are those of the machine.
-
--- The accepting words stand for the machine's accepting states.
-abbrev pub Accepts : Machine → ℕ → List ℕ → Type 0
-Accepts M states accepting = (s : ℕ) → s < states → Member (s % 64) (getD accepting (s / 64) 0) ↔ Member s (M .accepting)
-
-module _ {M : Machine} {moves : List ℕ} {stride states symbols w : ℕ} {table : Table} {N start : ℕ} {before after : List ℕ}
-    (accepting : List ℕ)
-    (fit : Searchable moves stride states w N start before) (r : Runs M moves stride states symbols table N)
-    (found : Searched moves stride states w table N start before after) (accepts : Accepts M states accepting) where
-  nodes : ℕ
-  nodes = reachedNodes M N table start
-
-  -- A bit in common is an accepting state that is reached ..
-  common-state : (y k i : ℕ) → y < N → k < w → Member i (getD after (w * y + k) 0) → Member i (getD accepting k 0)
-      → (s : ℕ) × (s < M .states) × Member (M .states * y + s) nodes × Member s (M .accepting)
-  unfolding nodes
-  common-state y k i h l a b =
-      let (c, d) = found .nothing-else fit y k i h l a in
-      let p : (64 * k + i) / 64 ≡ k = omega arith in
-      let q : (64 * k + i) % 64 ≡ i = omega arith in
-      let e = r .same-states in (
-        64 * k + i,
-        omega arith,
-        subst (λ m. Member (m * y + (64 * k + i)) (reachedNodes M N table start)) (sym e)
-            (found .exactly fit M symbols r y (64 * k + i) h d .0 (rw (p, q) a)),
-        accepts (64 * k + i) d .0 (rw (p, q) b),
-      )
-
-  meets-marked : (y : ℕ) → y < N → meets after accepting (w * y) w ≡ true → marked M nodes y ≡ true
-  meets-marked y h e =
-      let (k, l, d) = meets-where after accepting (w * y) w e in
-      let (i, m) = not-none (intersection (getD after (w * y + k) 0) (getD accepting k 0)) d in
-      let (a, b) = member-intersection i (getD after (w * y + k) 0) (getD accepting k 0) .0 m in
-      marked-state M nodes y .1 (common-state y k i h l a b)
-
-  -- .. and the other way round.
-  marked-meets : (y : ℕ) → y < N → marked M nodes y ≡ true → meets after accepting (w * y) w ≡ true
-  unfolding nodes
-  marked-meets y h e =
-      let (s, l, a, b) = marked-state M (reachedNodes M N table start) y .0 e in
-      let f = r .same-states in
-      let d : s < states = omega arith in
-      let width = fit .width in
-      let c : Member (s % 64) (getD after (w * y + s / 64) 0) =
-      found .exactly fit M symbols r y s h d .1 (subst (λ m. Member (m * y + s) (reachedNodes M N table start)) f a) in
-      let g = member-intersection (s % 64) (getD after (w * y + s / 64) 0) (getD accepting (s / 64) 0) .1 (c, accepts s d .1 b) in
-      meets-at after accepting (w * y) w (s / 64) (omega arith) (λ z. member-none (s % 64) (subst (Member (s % 64)) z g))
-
-  same-test : (y : ℕ) → y < N → meets after accepting (w * y) w ≡ marked M nodes y
-  same-test y h = go (meets after accepting (w * y) w) (marked M nodes y) refl refl
-    where
-      go : (a b : Bool) → meets after accepting (w * y) w ≡ a → marked M nodes y ≡ b → meets after accepting (w * y) w ≡ marked M nodes y
-      go true b e f = e ∙ sym (meets-marked y h e)
-      go false true e f = marked-meets y h f ∙ sym f
-      go false false e f = e ∙ sym f
-
-  marks-from : (n y : ℕ) → y + n ≤ N → marksOf w after accepting n y ≡ marksFrom M nodes n y
-  unfolding marksOf marksFrom
-  marks-from zero y h = refl
-  marks-from (suc n) y h =
-      ap₂ (λ a b. a ∷ b) (ap markOf (same-test y (omega arith)) ∙ mark-number (marked M nodes y)) (marks-from n (suc y) (omega arith))
-
-  pub marks-same : marksOf w after accepting N 0 ≡ marks M N table start
-  unfolding marks nodes
-  marks-same = marks-from N 0 (omega arith)
-
-  -- What is stored and told after the search.
-  pub marks-answer : {old new : List ℕ} {told : ℕ} → N ≤ length old → MarksSet w after accepting N old new told
-      → (take N new ≡ marks M N table start) × (drop N new ≡ drop N old) × (told ≡ ones (marks M N table start))
-  marks-answer {old} {new} {told} h m =
-      let f : Markable w N after old = record {
-        some = let a = fit .some in let b = fit .width in omega arith;
-        few-words = fit .few-words;
-        room = let a = fit .room in let b = found .same-length in omega arith;
-        marks-fit = h;
-      } in (
-        ap (take N) (m .set f) ∙ take-at (marksOf w after accepting N 0) (drop N old) N (length-marksOf w after accepting N 0) ∙ marks-same,
-        ap (drop N) (m .set f) ∙ drop-at (marksOf w after accepting N 0) (drop N old) N (length-marksOf w after accepting N 0),
-        m .counted f ∙ ap ones marks-same,
-      )

@@ -1,17 +1,16 @@
 -- Pairs of a recording and a state as bits of words: the state s of the recording y is bit s % 64 of the word w × y + s / 64, where each
 -- recording has w words.
-use Prim.Native.Nat.{ℕ, zero, suc, _+_, _*_, _-_, _/_, _%_, _^_, _≤_, _<_}
+use Prim.Native.Nat.{ℕ, zero, suc, _+_, _*_, _-_, _/_, _%_, _≤_, _<_}
 use mathlib.Core.Bool.{Bool, true}
-use mathlib.Core.List.{List, [], _∷_}
+use mathlib.Core.List.{List, [], _∷_, _++_}
 use mathlib.Core.Logic.{_↔_, _⊎_, inl, inr}
-use mathlib.Core.Path.{_≡_, refl, sym, ap, _∙_, subst}
+use mathlib.Core.Path.{_≡_, refl, sym, _∙_, subst}
 use native.Mathlib.Decide.{ℕ-discrete}
-use native.Mathlib.Nat.{pow-suc, mul-suc, mul-le-mul-left}
+use native.Mathlib.Nat.{mul-suc, mul-le-mul-left}
 use native.Mathlib.Omega.{arith}
-use lib.Bits.{or-step, or-zero-r}
 use lib.Count.{onesIn}
-use lib.ListN.{length, getD, set, drop, length-set}
-use lib.Seq.{getD-set-same, getD-set-other, drop-set-lt}
+use lib.ListN.{length, getD, set, replicate, length-set, length-replicate, getD-replicate, List·getD-append}
+use lib.Seq.{getD-set-same, getD-set-other}
 use Rattle.theory.specs.Places.{Member, member, one, union}
 use Rattle.theory.specs.PlacesLaws.{member-none, member-union, member-one, member-zero, member-suc, member-test}
 use Rattle.answering.specs.ProductLaws.{same-node, node-below}
@@ -45,15 +44,26 @@ row-below w N {y} h =
     let e : w * suc y ≡ w * y + w = mul-suc w y in
     omega arith
 
+-- Zeros hold no pair.
+
+pub zero-at : (n i : ℕ) → _≡_ {A = ℕ} (getD (replicate n 0) i 0) 0
+zero-at zero i = refl
+zero-at (suc n) zero = refl
+zero-at (suc n) (suc i) = zero-at n i
+
+pub zeros-idle : (w n y s : ℕ) → ¬ Has w (replicate n 0) y s
+unfolding Has
+zeros-idle w n y s m = member-none (s % 64) (subst (Member (s % 64)) (zero-at n (place w y s)) m)
+
+pub zeros-none : (w n : ℕ) (l : List ℕ) (y s : ℕ) → place w y s < n → ¬ Has w (replicate n 0 ++ l) y s
+unfolding Has
+zeros-none w n l y s h m =
+    member-none (s % 64)
+    (subst (Member (s % 64))
+    (List·getD-append (replicate n 0) l 0 (place w y s) (subst (λ k. place w y s < k) (sym (length-replicate n 0)) h) ∙ getD-replicate n
+    (place w y s) 0 0 h) m)
+
 -- The pairs of the words after one more.
-
-pub length-put : (w : ℕ) (l : List ℕ) (y s : ℕ) → length (put w l y s) ≡ length l
-unfolding put
-length-put w l y s = length-set l (place w y s) (union (getD l (place w y s) 0) (one (s % 64)))
-
-pub drop-put : (w N : ℕ) (l : List ℕ) (y s : ℕ) → y < N → s < 64 * w → drop (w * N) (put w l y s) ≡ drop (w * N) l
-unfolding put
-drop-put w N l y s h k = drop-set-lt (w * N) l (place w y s) _ (place-below w N h k)
 
 -- The word at each place: the pair's own word has one more member, every other is as it was.
 put-same : (w : ℕ) (l : List ℕ) (y s : ℕ) → place w y s < length l
@@ -61,9 +71,25 @@ put-same : (w : ℕ) (l : List ℕ) (y s : ℕ) → place w y s < length l
 unfolding put
 put-same w l y s h = getD-set-same l (place w y s) (union (getD l (place w y s) 0) (one (s % 64))) 0 h
 
-pub put-other : (w : ℕ) (l : List ℕ) (y s i : ℕ) → ¬ (i ≡ place w y s) → getD (put w l y s) i 0 ≡ getD l i 0
+put-other : (w : ℕ) (l : List ℕ) (y s i : ℕ) → ¬ (i ≡ place w y s) → getD (put w l y s) i 0 ≡ getD l i 0
 unfolding put
 put-other w l y s i h = getD-set-other l (place w y s) i _ 0 h
+
+module _ (w : ℕ) (l : List ℕ) (y s : ℕ) (h : place w y s < length l) where
+  put-member : Member (s % 64) (getD (put w l y s) (place w y s) 0)
+  put-member =
+      subst (Member (s % 64)) (sym (put-same w l y s h))
+      (member-union (s % 64) (getD l (place w y s) 0) (one (s % 64)) .1 (inr (member-one (s % 64) (s % 64) .1 refl)))
+
+  put-kept : (i j : ℕ) → Member j (getD l i 0) → Member j (getD (put w l y s) i 0)
+  put-kept i j m = go (ℕ-discrete i (place w y s))
+    where
+      go : Dec (i ≡ place w y s) → Member j (getD (put w l y s) i 0)
+      go (yes e) =
+          subst (λ i. Member j (getD (put w l y s) i 0)) (sym e)
+          (subst (Member j) (sym (put-same w l y s h))
+          (member-union j (getD l (place w y s) 0) (one (s % 64)) .1 (inl (subst (λ i. Member j (getD l i 0)) e m))))
+      go (no e) = subst (Member j) (sym (put-other w l y s i e)) m
 
 module _ (w : ℕ) (l : List ℕ) (y s : ℕ) (k : s < 64 * w) (h : place w y s < length l) where
   pub has-put-there : (z t : ℕ) → t < 64 * w → Has w (put w l y s) z t → Has w l z t ⊎ ((z ≡ y) × (t ≡ s))
@@ -90,31 +116,11 @@ module _ (w : ℕ) (l : List ℕ) (y s : ℕ) (k : s < 64 * w) (h : place w y s 
 
   pub has-put-new : Has w (put w l y s) y s
   unfolding Has
-  has-put-new =
-      subst (Member (s % 64)) (sym (put-same w l y s h))
-      (member-union (s % 64) (getD l (place w y s) 0) (one (s % 64)) .1 (inr (member-one (s % 64) (s % 64) .1 refl)))
+  has-put-new = put-member w l y s h
 
   pub has-put-kept : (z t : ℕ) → Has w l z t → Has w (put w l y s) z t
   unfolding Has
-  has-put-kept z t m = go (ℕ-discrete (place w z t) (place w y s))
-    where
-      go : Dec (place w z t ≡ place w y s) → Member (t % 64) (getD (put w l y s) (place w z t) 0)
-      go (yes e) =
-          subst (λ i. Member (t % 64) (getD (put w l y s) i 0)) (sym e)
-          (subst (Member (t % 64)) (sym (put-same w l y s h))
-          (member-union (t % 64) (getD l (place w y s) 0) (one (s % 64)) .1 (inl (subst (λ i. Member (t % 64) (getD l i 0)) e m))))
-      go (no e) = subst (Member (t % 64)) (sym (put-other w l y s (place w z t) e)) m
-
-  -- No word becomes zero.
-  pub put-nonzero : (i : ℕ) → ¬ (getD l i 0 ≡ 0) → ¬ (getD (put w l y s) i 0 ≡ 0)
-  put-nonzero i d z = go (ℕ-discrete i (place w y s))
-    where
-      go : Dec (i ≡ place w y s) → ⊥
-      go (yes e) =
-          member-none (s % 64)
-          (subst (Member (s % 64)) (sym (put-same w l y s h) ∙ ap (λ i. getD (put w l y s) i 0) (sym e) ∙ z)
-          (member-union (s % 64) (getD l (place w y s) 0) (one (s % 64)) .1 (inr (member-one (s % 64) (s % 64) .1 refl))))
-      go (no e) = d (sym (put-other w l y s i e) ∙ z)
+  has-put-kept z t m = put-kept w l y s h (place w z t) (t % 64) m
 
 -- How many pairs there is room for.
 
@@ -135,39 +141,75 @@ unfolding bitsIn
 bits-at-most [] = omega arith
 bits-at-most (x ∷ l) = omega (arith, bits-at-most l, ones-at-most 64 x)
 
-ones-more : (n k v : ℕ) → k < n → ¬ Member k v → onesIn n v < onesIn n (union v (one k))
+-- Words that have all members of others have as many at least; one that has more leaves less room.
+
+ones-kept : (n v u : ℕ) → ((i : ℕ) → Member i v → Member i u) → onesIn n v ≤ onesIn n u
 unfolding onesIn
-ones-more zero k v h d = absurd (omega arith)
-ones-more (suc n) zero v h d =
-    let e : ¬ (v % 2 ≡ 1) = λ q. d (member-zero v .1 q) in
-    let u = or-step v 1 in
-    let z : union (v / 2) 0 ≡ v / 2 = or-zero-r (v / 2) in
-    let a : union v 1 / 2 ≡ v / 2 = omega arith in
-    let b : union v 1 % 2 ≡ 1 = omega arith in
-    omega (arith, ap (onesIn n) a)
-ones-more (suc n) (suc k) v h d =
-    let p : 2 ^ suc k ≡ 2 ^ k * 2 = pow-suc 2 k in
-    let u = or-step v (2 ^ suc k) in
-    let f : 2 ^ suc k / 2 ≡ 2 ^ k = omega arith in
-    let g : 2 ^ suc k % 2 ≡ 0 = omega arith in
-    let q : union (v / 2) (2 ^ suc k / 2) ≡ union (v / 2) (2 ^ k) = ap (union (v / 2)) f in
-    let a : union v (2 ^ suc k) / 2 ≡ union (v / 2) (2 ^ k) = omega arith in
-    let b : union v (2 ^ suc k) % 2 ≡ v % 2 = omega arith in
-    omega (arith, ap (onesIn n) a, ones-more n k (v / 2) (omega arith) (λ m. d (member-suc k v .1 m)))
+ones-kept zero v u h = omega arith
+ones-kept (suc n) v u h =
+    let e : v % 2 ≡ 1 → u % 2 ≡ 1 = λ q. member-zero u .0 (h 0 (member-zero v .1 q)) in
+    let r = ones-kept n (v / 2) (u / 2) (λ i m. member-suc i u .0 (h (suc i) (member-suc i v .1 m))) in
+    low e r (ℕ-discrete (v % 2) 1)
+  where
+    low : (v % 2 ≡ 1 → u % 2 ≡ 1) → onesIn n (v / 2) ≤ onesIn n (u / 2) → Dec (v % 2 ≡ 1)
+        → v % 2 + onesIn n (v / 2) ≤ u % 2 + onesIn n (u / 2)
+    low e r (yes q) = let p = e q in omega arith
+    low e r (no q) = omega arith
 
-bits-set : (l : List ℕ) (i v : ℕ) → i < length l → bitsIn (set l i v) + onesIn 64 (getD l i 0) ≡ bitsIn l + onesIn 64 v
-unfolding bitsIn
-bits-set [] i v h = absurd (omega arith)
-bits-set (x ∷ l) zero v h = omega arith
-bits-set (x ∷ l) (suc i) v h = omega (arith, bits-set l i v (omega arith))
-
-pub room-put : (w : ℕ) (l : List ℕ) (y s : ℕ) → place w y s < length l → ¬ Has w l y s → room (put w l y s) < room l
-unfolding room put Has
-room-put w l y s h d =
-    let i = place w y s in
-    let v = union (getD l i 0) (one (s % 64)) in
-    let a = bits-set l i v h in
-    let b = ones-more 64 (s % 64) (getD l i 0) (omega arith) d in
-    let n = bits-at-most (set l i v) in
-    let e : length (set l i v) ≡ length l = length-set l i v in
+ones-new : (n v u k : ℕ) → k < n → ((i : ℕ) → Member i v → Member i u) → ¬ Member k v → Member k u → onesIn n v < onesIn n u
+unfolding onesIn
+ones-new zero v u k l h d m = absurd (omega arith)
+ones-new (suc n) v u zero l h d m =
+    let a : ¬ (v % 2 ≡ 1) = λ q. d (member-zero v .1 q) in
+    let b : u % 2 ≡ 1 = member-zero u .0 m in
+    let r = ones-kept n (v / 2) (u / 2) (λ i m. member-suc i u .0 (h (suc i) (member-suc i v .1 m))) in
     omega arith
+ones-new (suc n) v u (suc k) l h d m =
+    let e : v % 2 ≡ 1 → u % 2 ≡ 1 = λ q. member-zero u .0 (h 0 (member-zero v .1 q)) in
+    let r =
+    ones-new n (v / 2) (u / 2) k (omega arith) (λ i m. member-suc i u .0 (h (suc i) (member-suc i v .1 m)))
+    (λ q. d (member-suc k v .1 q)) (member-suc k u .0 m) in
+    low e r (ℕ-discrete (v % 2) 1)
+  where
+    low : (v % 2 ≡ 1 → u % 2 ≡ 1) → onesIn n (v / 2) < onesIn n (u / 2) → Dec (v % 2 ≡ 1)
+        → v % 2 + onesIn n (v / 2) < u % 2 + onesIn n (u / 2)
+    low e r (yes q) = let p = e q in omega arith
+    low e r (no q) = omega arith
+
+bits-kept : (l m : List ℕ) → length l ≡ length m → ((i j : ℕ) → Member j (getD l i 0) → Member j (getD m i 0)) → bitsIn l ≤ bitsIn m
+unfolding bitsIn
+bits-kept [] m e h = omega arith
+bits-kept (x ∷ l) [] e h = absurd (omega arith)
+bits-kept (x ∷ l) (y ∷ m) e h =
+    let a = ones-kept 64 x y (λ j. h 0 j) in
+    let b = bits-kept l m (omega arith) (λ i j. h (suc i) j) in
+    omega arith
+
+bits-new : (l m : List ℕ) → length l ≡ length m → ((i j : ℕ) → Member j (getD l i 0) → Member j (getD m i 0)) → (i j : ℕ) → i < length l
+    → j < 64 → ¬ Member j (getD l i 0) → Member j (getD m i 0) → bitsIn l < bitsIn m
+unfolding bitsIn
+bits-new [] m e h i j k b d n = absurd (omega arith)
+bits-new (x ∷ l) [] e h i j k b d n = absurd (omega arith)
+bits-new (x ∷ l) (y ∷ m) e h zero j k b d n =
+    let a = ones-new 64 x y j b (λ j. h 0 j) d n in
+    let b = bits-kept l m (omega arith) (λ i j. h (suc i) j) in
+    omega arith
+bits-new (x ∷ l) (y ∷ m) e h (suc i) j k b d n =
+    let a = ones-kept 64 x y (λ j. h 0 j) in
+    let c = bits-new l m (omega arith) (λ i j. h (suc i) j) i j (omega arith) b d n in
+    omega arith
+
+pub room-less : (l m : List ℕ) → length m ≡ length l → ((i j : ℕ) → Member j (getD l i 0) → Member j (getD m i 0)) → (i j : ℕ)
+    → i < length l → j < 64 → ¬ Member j (getD l i 0) → Member j (getD m i 0) → room m < room l
+unfolding room
+room-less l m e h i j k b d n =
+    let a = bits-new l m (sym e) h i j k b d n in
+    let c = bits-at-most m in
+    omega arith
+
+-- One more pair leaves less room.
+pub room-put : (w : ℕ) (l : List ℕ) (y s : ℕ) → place w y s < length l → ¬ Has w l y s → room (put w l y s) < room l
+unfolding put Has
+room-put w l y s h d =
+    room-less l (put w l y s) (length-set l (place w y s) (union (getD l (place w y s) 0) (one (s % 64)))) (put-kept w l y s h)
+    (place w y s) (s % 64) h (omega arith) d (put-member w l y s h)

@@ -1,7 +1,7 @@
 -- What the product of a table and a machine reaches (Product): the recording y in the state s is reached from the recording x exactly
 -- when some path leads from x to y over the table and the machine, following it from state 0, ends in s.
 use Prim.Native.Nat.{ℕ, _+_, _*_, _/_, _%_, _^_, _<_}
-use mathlib.Core.List.{List, [], _∷_}
+use mathlib.Core.List.{List, [], _∷_, _++_}
 use mathlib.Core.Logic.{_↔_, _⊎_, inl, inr}
 use mathlib.Core.Path.{_≡_, refl, sym, _∙_, ap, subst, subst₂}
 use native.Mathlib.Nat.{mul-comm, mod-lt, add-zero}
@@ -13,13 +13,19 @@ use Rattle.theory.specs.Graph.{Table, Linked, Leads, stay, EndsBelow}
 use Rattle.theory.specs.Places.{Member, one, when}
 use Rattle.theory.specs.PlacesLaws.{member-none, member-one, member-union, member-when, members-below, one-below}
 use Rattle.theory.specs.Closure.{Reaches, here, onward, closure}
-use Rattle.theory.specs.ClosureLaws.{closure-exactly, closure-below}
+use Rattle.theory.specs.ClosureLaws.{closure-exactly}
 use Rattle.answering.specs.Product.{Machine, along, nextNodes, reachedNodes}
 
 -- The state after a path, followed from the state s.
 unfoldable pub endsAt : Machine → ℕ → List ℕ → ℕ
 endsAt M s [] = s
 endsAt M s (a ∷ p) = endsAt M (M .next s a) p
+
+-- One more symbol at the end of a path.
+pub ends-more : (M : Machine) (s : ℕ) (p : List ℕ) (a : ℕ) → endsAt M s (p ++ (a ∷ [])) ≡ M .next (endsAt M s p) a
+unfolding endsAt
+ends-more M s [] a = refl
+ends-more M s (b ∷ p) a = ends-more M (M .next s b) p a
 
 -- The node of a recording and a state tells both.
 
@@ -133,11 +139,6 @@ module _ (M : Machine) (t : Table) (stays : StaysWithin M t) where
     start-within {x} h =
         one-below (M .states * N) (M .states * x)
         (subst (λ n. n < M .states * N) (sym (start-node x)) (node-below (M .states) N h some-state))
-
-    pub reached-below : {x : ℕ} → x < N → reachedNodes M N t x < 2 ^ (M .states * N)
-    unfolding reachedNodes
-    reached-below {x} h =
-        closure-below (nextNodes M t) (M .states * N) (M .states * N) (one (M .states * x)) (start-within h) (λ n l. next-within n)
 
     pub reached-exactly : (x y s : ℕ) → x < N → s < M .states
         → Member (M .states * y + s) (reachedNodes M N t x) ↔ ((p : List ℕ) × Leads t p x y × (endsAt M 0 p ≡ s))

@@ -1,10 +1,10 @@
 -- The laws of tables (Table): the test for a table is exact; a table's ends and labels are within range, its length is a multiple of
--- three, and its triples are sorted, so distinct.
+-- three, and its triples are sorted.
 use Prim.Native.Nat.{ℕ, zero, suc, _+_, _*_, _%_, _<_}
 use mathlib.Core.Bool.{Bool, true, false, _&&_, _||_, false≢true}
 use mathlib.Core.List.{List, [], _∷_}
 use mathlib.Core.Logic.{_↔_, _⊎_, inl, inr, Iff·trans}
-use mathlib.Core.Path.{_≡_, refl, sym, _∙_, subst, subst₂}
+use mathlib.Core.Path.{_≡_, refl, _∙_, subst, subst₂}
 use native.Mathlib.Omega.{arith}
 use lib.Dec.{eqb, leb, ltb}
 use lib.ListN.{length, getD}
@@ -12,7 +12,6 @@ use borrow.Author.Tests.{ltb-true, leb-true, eqb-true, lt-ltb, le-leb, eq-eqb}
 use Rattle.theory.specs.Path as P
 use Rattle.theory.specs.Path.{Below, nothing}
 use Rattle.theory.specs.Graph.{Table, Linked, here, later, Leads, stay, along, EndsBelow}
-use Rattle.theory.specs.PathOrder.{compared}
 use Rattle.answering.specs.Table.{mostLinks, Rises, RisingAfter, last, next, Rising, none, some, IsTable}
 use Rattle.answering.specs.Table.{rises, risingAfter, rising, isTable}
 
@@ -110,12 +109,7 @@ pub table-path : {N k : ℕ} {t : Table} → IsTable N k t → {p : List ℕ} {x
 table-path h stay = nothing
 table-path h (along l more) = P.next (table-labels h l) (table-path h more)
 
--- The order of triples is strict.
-
-pub rises-different : {x a y u b v : ℕ} → Rises x a y u b v → ¬ ((x ≡ u) × (a ≡ b) × (y ≡ v))
-rises-different (inl h) e = omega arith
-rises-different (inr (d, inl h)) e = omega arith
-rises-different (inr (d, inr (f, h))) e = omega arith
+-- The order of triples.
 
 pub rises-transitive : {x a y u b v z c w : ℕ} → Rises x a y u b v → Rises u b v z c w → Rises x a y z c w
 rises-transitive (inl h) (inl k) = inl (omega arith)
@@ -150,7 +144,7 @@ linked-at (u ∷ (b ∷ (v ∷ t))) zero h = here
 linked-at (u ∷ (b ∷ (v ∷ t))) (suc i) h =
     subst (λ n. TripleAt (u ∷ (b ∷ (v ∷ t))) n (Linked (u ∷ (b ∷ (v ∷ t))))) (next-triple i) (later (linked-at t i (omega arith)))
 
--- Each triple of a table comes before every later one ..
+-- Each triple of a table comes before every later one.
 
 first-rises : {N k u b v : ℕ} {t : Table} → RisingAfter N k u b v t → (i j : ℕ) → i < j → 3 * j + 2 < length (u ∷ (b ∷ (v ∷ t)))
     → RisesAt (u ∷ (b ∷ (v ∷ t))) (3 * i) (3 * j)
@@ -168,13 +162,3 @@ table-rises {N} {k} h = go (h .1)
     go : {t : Table} → Rising N k t → (i j : ℕ) → i < j → 3 * j + 2 < length t → RisesAt t (3 * i) (3 * j)
     go none i j l h = absurd (omega arith)
     go (some f g k r) i j l h = first-rises r i j l h
-
--- .. so no triple is there twice.
-pub table-distinct : {N k : ℕ} {t : Table} → IsTable N k t → (i j : ℕ) → 3 * i + 2 < length t → 3 * j + 2 < length t
-    → TripleAt t (3 * i) (λ x a y. TripleAt t (3 * j) (λ u b v. (x ≡ u) × (a ≡ b) × (y ≡ v))) → i ≡ j
-table-distinct {t = t} table i j h k e = side (compared i j)
-  where
-    side : (i ≡ j) ⊎ ((i < j) ⊎ (j < i)) → i ≡ j
-    side (inl d) = d
-    side (inr (inl l)) = absurd (rises-different (table-rises table i j l k) e)
-    side (inr (inr l)) = absurd (rises-different (table-rises table j i l h) (sym (e .0), sym (e .1), sym (e .2)))

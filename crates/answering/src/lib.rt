@@ -1,5 +1,4 @@
-// Answers over lent tables: whether a table is one, where a recording's links begin, what a search reaches, and its marks; and both answers
-// on job texts.
+// Answers over lent tables: whether a table is one, what a search reaches over it, and its marks; and both answers on job texts.
 mod clear;
 mod link_view;
 mod links;
@@ -9,12 +8,16 @@ mod lists_core;
 mod lists_operation;
 mod marks;
 mod pairs;
-pub mod search;
+mod place_sets;
+mod rows;
+mod set_search;
+mod state_search;
+mod state_sets;
 mod table;
+mod useful;
 
 pub use clear::clear_bytes;
 pub use clear::clear_words;
-pub use links::first_link;
 pub use links_core::Links;
 pub use links_core::mark_links;
 pub use links_operation::Answered;
@@ -22,4 +25,5 @@ pub use links_operation::answer_from_links;
 pub use lists_core::mark_lists;
 pub use lists_operation::answer_from_lists;
 pub use marks::mark;
+pub use set_search::search_sets;
 pub use table::is_table;

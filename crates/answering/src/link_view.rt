@@ -1,14 +1,12 @@
 // The links that leave one recording are read from the lent numbers (document 01): a view borrows the triples and holds a place among them.
-// Each of its functions takes it apart and leaves the work to one on the slice and the place; the search calls `first_leaving` and
-// `next_leaving`, which have plain parameters.
+// `at` makes it; `current` and `moved` take it apart and leave the work to a function on the slice and the place. The search calls
+// `leaving_at` and `next_leaving`, which have plain parameters.
 use super::links::Link;
-use super::links::first_link;
 use super::links::link_at;
 use super::links::place_after;
 ghost use mathlib.Core.Path.{_≡_};
-ghost use Rattle.answering.specs.Links.{FirstLink};
-ghost use Rattle.answering.specs.LinkAt.{linkAt, placeAfter, FirstLeaving};
-ghost use Rattle.answering.specs.LinkView.{current, moved};
+ghost use Rattle.answering.specs.LinkAt.{linkAt, placeAfter};
+ghost use Rattle.answering.specs.LinkView.{viewAt, current, moved};
 
 struct LinkView<'a> {
     table: &'a [u16],
@@ -16,14 +14,11 @@ struct LinkView<'a> {
 }
 
 impl<'a> LinkView<'a> {
-    // The view of the triples at the first that leaves x or a later recording.
-    fn leaving(table: &'a [u16], x: u64) -> LinkView<'a>
-        ensures { λ r. ⌜ (r .table ≡ table .entry) × FirstLink (now (table .entry)) x (r .at) ⌝ }
+    // The view of the triples at a place.
+    fn at(table: &'a [u16], place: usize) -> LinkView<'a>
+        ensures { λ r. ⌜ r ≡ viewAt (table .entry) place ⌝ }
     {
-        LinkView {
-            table,
-            at: first_link(table, x),
-        }
+        LinkView { table, at: place }
     }
 
     // What x has at the view's place.
@@ -44,16 +39,16 @@ impl<'a> LinkView<'a> {
     }
 }
 
-// The first link that leaves x, or that there is none.
-pub(super) fn first_leaving(table: &[u16], x: u64) -> Link
-    ensures { λ r. ⌜ FirstLeaving (now (table .entry)) x r ⌝ }
+// What x has at a place.
+pub(super) fn leaving_at(table: &[u16], place: usize, x: u64) -> Link
+    ensures { λ r. ⌜ r ≡ linkAt (now (table .entry)) place x ⌝ }
 {
-    LinkView::leaving(table, x).current(x)
+    LinkView::at(table, place).current(x)
 }
 
 // The next link that leaves x, behind the one at a place, or that there is none.
-pub(super) fn next_leaving(table: &[u16], at: usize, x: u64) -> Link
-    ensures { λ r. ⌜ r ≡ linkAt (now (table .entry)) (placeAfter (now (table .entry)) at) x ⌝ }
+pub(super) fn next_leaving(table: &[u16], place: usize, x: u64) -> Link
+    ensures { λ r. ⌜ r ≡ linkAt (now (table .entry)) (placeAfter (now (table .entry)) place) x ⌝ }
 {
-    LinkView { table, at }.moved().current(x)
+    LinkView::at(table, place).moved().current(x)
 }

@@ -2,8 +2,10 @@
 use super::table::index;
 use super::table::wide;
 ghost use mathlib.Core.Path.{_≡_};
-ghost use Rattle.answering.specs.Links.{FirstLink};
+ghost use Prim.Native.Nat.{_/_, _≤_};
+ghost use lib.ListN.{length};
 ghost use Rattle.answering.specs.LinkAt.{linkAt, placeAfter};
+ghost use Rattle.answering.specs.LinkBegins.{NextBegin, LinkBegins};
 
 // What a recording has at a place among the triples: whether a link that leaves it stands there, the place, and that link's label and end.
 pub(super) struct Link {
@@ -13,21 +15,33 @@ pub(super) struct Link {
     pub(super) end: usize,
 }
 
-// The number of the first triple that leaves x or a later recording.
-pub fn first_link(table: &[u16], x: u64) -> usize
-    ensures { λ r. ⌜ FirstLink (now (table .entry)) x r ⌝ }
+// The first triple from the place on that leaves x or a later recording.
+fn next_begin(table: &[u16], place: usize, x: usize) -> usize
+    requires { ⌜ place ≤ length (now table) / 3 ⌝ }
+    ensures { λ r. ⌜ NextBegin (now (table .entry)) place x r ⌝ }
 {
-    let mut low = 0;
-    let mut high = table.len() / 3;
-    while low < high {
-        let middle = low + (high - low) / 2;
-        if wide(table[3 * middle]) < x {
-            low = middle + 1;
-        } else {
-            high = middle;
+    let mut at = place;
+    while at < table.len() / 3 {
+        if x <= index(table[3 * at]) {
+            return at;
         }
+        at += 1;
     }
-    low
+    at
+}
+
+// The first triple of each recording that leaves it or a later one, in one pass.
+pub(super) fn link_begins(table: &[u16], recordings: usize, begins: &mut [usize])
+    requires { ⌜ recordings ≤ length (now begins) ⌝ }
+    ensures { λ _. ⌜ LinkBegins (now (table .entry)) recordings (now (begins .exit)) ⌝ }
+{
+    let mut place = 0;
+    let mut x = 0;
+    while x < recordings {
+        place = next_begin(table, place, x);
+        begins[x] = place;
+        x += 1;
+    }
 }
 
 // What x has at the place.

@@ -11,7 +11,7 @@ use reading::load;
 use syntax::Refusal;
 ghost use mathlib.Core.Path.{_≡_};
 ghost use mathlib.Core.Bool.{true};
-ghost use Prim.Native.Nat.{ℕ, _≤_};
+ghost use Prim.Native.Nat.{_≤_};
 ghost use Rattle.theory.specs.Job.{Job, WellFormed};
 ghost use Rattle.reading.specs.Read.{read};
 ghost use Rattle.finding.specs.Find.{Found, find};
@@ -26,6 +26,7 @@ fn finding_lists(
     finding: Finding,
     next: &[u16],
     flags: &[u8; 256],
+    lists: u64,
     table: &[u16],
     recordings: u64,
     start: u64,
@@ -33,7 +34,7 @@ fn finding_lists(
     workspace: &mut [u64],
 ) -> Answered
     requires { ⌜ ListsLent recordings start (now marks) (now workspace) ⌝ }
-    ensures { λ r. ⌜ ((F : Found) (lists : ℕ) → FoundGiven F lists finding (now (next .entry)) (now (flags .entry)) (now (table .entry)) recordings
+    ensures { λ r. ⌜ ((F : Found) → FoundGiven F lists finding (now (next .entry)) (now (flags .entry)) (now (table .entry)) recordings
         → outcome r (now (marks .exit)) (now (workspace .exit))
         ≡ listsLeft recordings (now (marks .entry)) (now (workspace .entry)) (markedLists recordings (now (table .entry)) start F)) ⌝ }
 {
@@ -43,6 +44,7 @@ fn finding_lists(
                 next,
                 flags,
                 states,
+                lists,
                 table,
                 recordings,
                 start,
@@ -99,6 +101,7 @@ fn rewriting_lists(
         finding,
         &next,
         &flags,
+        lists,
         table,
         recordings,
         start,

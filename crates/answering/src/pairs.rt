@@ -4,7 +4,7 @@ ghost use Prim.Native.Nat.{_+_, _*_, _≤_, _<_};
 ghost use lib.ListN.{length};
 ghost use Rattle.answering.specs.Pairs.{place, has, put};
 ghost use Rattle.answering.specs.NextState.{NextState};
-ghost use Rattle.answering.specs.Search.{AnyFrom, Zeroed, Listed};
+ghost use Rattle.answering.specs.WordsFrom.{AnyFrom, Zeroed};
 
 // Whether the recording y has the state s.
 pub(super) fn has(pairs: &[u64], words: usize, y: usize, s: usize) -> bool
@@ -51,7 +51,7 @@ pub(super) fn zero_from(pairs: &mut [u64], base: usize, words: usize)
 }
 
 // The least state of the recording x from `from` on, of those below `most`; `most` where there is none.
-fn next_state(pairs: &[u64], words: usize, x: usize, from: usize, most: usize) -> usize
+pub(super) fn next_state(pairs: &[u64], words: usize, x: usize, from: usize, most: usize) -> usize
     requires { ⌜ (words * x + words ≤ length (now pairs)) × (most ≤ 64 * words) × (most ≤ 256) × (from ≤ most) ⌝ }
     ensures { λ r. ⌜ NextState words (now (pairs .entry)) x from most r ⌝ }
 {
@@ -68,25 +68,4 @@ fn next_state(pairs: &[u64], words: usize, x: usize, from: usize, most: usize) -
         s = 64 * (s / 64 + 1);
     }
     most
-}
-
-// The states of the recording x, of all states below `most`, are listed; how many there are is returned.
-pub(super) fn list_states(
-    pairs: &[u64],
-    words: usize,
-    x: usize,
-    most: usize,
-    states: &mut [u16],
-) -> usize
-    requires { ⌜ (words * x + words ≤ length (now pairs)) × (most ≤ 64 * words) × (most ≤ 256) × (most ≤ length (now states)) ⌝ }
-    ensures { λ r. ⌜ Listed words most (now (pairs .entry)) x (now (states .exit)) r ⌝ }
-{
-    let mut n = 0;
-    let mut s = next_state(pairs, words, x, 0, most);
-    while s < most {
-        states[n] = s as u16;
-        n += 1;
-        s = next_state(pairs, words, x, s + 1, most);
-    }
-    n
 }

@@ -1,4 +1,4 @@
--- What the walks of the view's functions share: what a slice and a view own, each had of the other, and the call of `current`.
+-- What the walks of the view's functions share: what a slice and a view own, each had of the other, and the calls of `at` and `current`.
 -- A `&[u16]` and a view of one are Copy, so what they own is had as often as it is needed.
 use mathlib.Core.Path.{_≡_, refl}
 use Prim.Native.Nat.{ℕ, _<_, _^_}
@@ -15,8 +15,8 @@ use prog.Wp.{Heap}
 use ghost.Atoms.{Atoms, sem}
 use contract.Lifetimes.{Lfts}
 use contract.Monad.{Fun, fact}
-use types.Kit.{Given, ‵, _⊛_, given, ⋆, _$_, _∵_, !, qed, by, move, drop, use1, split, join, learn, fjoin, frame, done}
-use denote.RattleType.{RattleType}
+use types.Kit.{Given, ‵, raw, _⊛_, given, ⋆, _$_, _∵_, !, qed, by, move, drop, use1, use2, split, join, learn, fsplit, fjoin, frame, done}
+use denote.RattleType.{RattleType, owns}
 use denote.Laws.{Is}
 use denote.Plain.{uint-makes}
 use denote.Builtin.{u16, u64, usize}
@@ -30,11 +30,12 @@ use denote.Struct.Rest.{all-own, ownAt, rest, own-open, own-out, own-shut}
 use denote.Triple.Statement.{Contract}
 use denote.Triple.Spec.{tripleOf}
 use denote.Triple.Clauses.{ensured, lasts}
-use Rattle.answering.specs.LinkView.{current as currentOf}
+use Rattle.answering.specs.LinkView.{viewAt, current as currentOf}
 use Rattle.answering.specs.declared.links.Link.{Link}
 use Rattle.answering.specs.declared.link_view.LinkView.{LinkView}
 use Rattle.answering.proofs.link_view.LinkView as T
 use Rattle.answering.proofs.link_view.LinkView.Laws as T′
+use Rattle.answering.proofs.link_view.LinkView.at as view-at
 use Rattle.answering.proofs.link_view.LinkView.current as current
 
 -- the view's type, over a signature's lifetimes
@@ -83,9 +84,43 @@ module _ {M : Type 1} (𝓤 : URA M) (H : Heap 𝓤) (A : Atoms 𝓤) (W : Given
       move ! (1 ∷ []) $ drop ! $ frame ! $ done !)
 
 module _ {M : Type 1} (𝓤 : URA M) (H : Heap 𝓤) (A : Atoms 𝓤) (mem : Memory → SProp 𝓤) (run : Routine → Fun 𝓤) where
-  -- the contract of `current`
+  -- the contracts of `at` and `current`
+  abbrev pub At : Contract 𝓤
+  At = tripleOf 𝓤 H A view-at.signature (view-at.spec 𝓤 H A mem run)
+
   abbrev pub Current : Contract 𝓤
   Current = tripleOf 𝓤 H A current.signature (current.spec 𝓤 H A mem run)
+
+-- the call of `at`, at the first two parameters of three: what it is passed, what it asks, and what is known of its result
+module _ {M : Type 1} (𝓤 : URA M) (H : Heap 𝓤) (A : Atoms 𝓤) (W : Given 𝓤 H A) (mem : Memory → SProp 𝓤) (run : Routine → Fun 𝓤)
+    (κ : Lft) (q : Share) (s : RefT (List ℕ)) (n x : ℕ) (fits : n < 2 ^ 64) where
+  abbrev pub to-at : At 𝓤 H A mem run .Ghost
+  to-at = (((κ, tt), (q, tt), tt, (s, (n, tt)), (slice s ∷ [], (vint w64 n ∷ [], tt))), tt)
+
+  asked-at : ent 𝓤 (⋆ 𝓤 H A ((‵ (flft κ q) ⊛ ‵ ftrue)
+      ∷ ‵ (owns (ShrSlice (named 0) κ u16 ∷ usize ∷ []) (s, (n, tt)) (slice s ∷ [], (vint w64 n ∷ [], tt))) ∷ []))
+      (At 𝓤 H A mem run .pre to-at)
+  asked-at =
+      qed W ((‵ (flft κ q) ⊛ ‵ ftrue)
+      ∷ ‵ (owns (ShrSlice (named 0) κ u16 ∷ usize ∷ []) (s, (n, tt)) (slice s ∷ [], (vint w64 n ∷ [], tt))) ∷ []) ∵
+      join ! $ frame ! $ done !
+
+  pub goes-at : ent 𝓤 (⋆ 𝓤 H A ((‵ (flft κ q) ⊛ ‵ ftrue)
+      ∷ ‵ (owns (ShrSlice (named 0) κ u16 ∷ usize ∷ u64 ∷ []) (s, (n, (x, tt))) (slice s ∷ [], (vint w64 n ∷ [], (vint w64 x ∷ [], tt))))
+      ∷ [])) (sep 𝓤 (At 𝓤 H A mem run .pre to-at) (sem 𝓤 H A (SliceOwn κ s)))
+  goes-at =
+      qed W ((‵ (flft κ q) ⊛ ‵ ftrue)
+      ∷ ‵ (owns (ShrSlice (named 0) κ u16 ∷ usize ∷ u64 ∷ []) (s, (n, (x, tt))) (slice s ∷ [], (vint w64 n ∷ [], (vint w64 x ∷ [], tt))))
+      ∷ []) ∵
+      move ! (1 ∷ []) $ fsplit ! $ move ! (1 ∷ []) $ drop ! $
+      use1 W (‵ (SliceOwn κ s) ⊛ ‵ (SliceOwn κ s)) (slice-twice 𝓤 H A W κ s) $ split ! $
+      -- [what the slice owns; the same; the token]
+      nothing ! $ owned ! usize (Is usize) (uint-makes 𝓤 H A W w64) n _ (refl, fits) $ fjoin ! $ move ! (1 ∷ 0 ∷ []) $ fjoin ! $
+      move ! (2 ∷ 0 ∷ []) $ use2 W (raw (At 𝓤 H A mem run .pre to-at)) asked-at $ frame ! $ done !
+
+  pub at-said : (r : LinkView) → ent 𝓤 (ensured 𝓤 H A view-at.ended (view-at.clauses 𝓤 H A mem run) (κ, tt) (s, (n, tt)) tt r)
+      (fact 𝓤 (r ≡ viewAt s n))
+  at-said r = exE 𝓤 _ (λ ws. snd∗ 𝓤 (sem 𝓤 H A (lasts view-at.ended (κ, tt) (s, (n, tt)) ws)) (fact 𝓤 (r ≡ viewAt s n)))
 
 -- the call of `current`, at the view d with the machine value u: what it is passed, what it asks, and what is known of its result
 module _ {M : Type 1} (𝓤 : URA M) (H : Heap 𝓤) (A : Atoms 𝓤) (W : Given 𝓤 H A) (mem : Memory → SProp 𝓤) (run : Routine → Fun 𝓤)

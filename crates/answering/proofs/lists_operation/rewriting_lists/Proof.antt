@@ -34,7 +34,7 @@ returns c =
     let start = at-find-core .before .before .before .before .before .before in
     let p = start .pre in
     λ J w g.
-    at-finding-lists .finding-lists .ensures (find J) (start .args .lists)
+    at-finding-lists .finding-lists .ensures (find J)
     (found-given J w g (p .0) (p .1) refl refl (at-find-core .find-core .ensures) (p .2))
 
 pub rewriting-lists-spec : {M : Type 1} → statement M

@@ -2,8 +2,7 @@
 use Prim.Native.Nat.{_-_, _≤_}
 use mathlib.Core.Path.{_≡_, refl}
 use lib.ListN.{length, length-set}
-use Rattle.answering.specs.Search.{Zeroed}
-use Rattle.answering.specs.SearchLaws.{zeroed-none, zeroed-more}
+use Rattle.answering.specs.WordsFrom.{Zeroed, zeroed-none, zeroed-more}
 use native.Mathlib.Omega.{arith}
 use borrow.Author.Needs.{needs}
 use Rattle.answering.proofs.pairs.zero_from.Statement.{statement}

@@ -1,0 +1,89 @@
+-- `search_sets` meets its contract: the sizes do not fit and nothing is changed; or all that was found is reached.
+use mathlib.Core.Path.{_∙_}
+use borrow.Author.Tests.{not-true, not-false}
+use Rattle.answering.specs.Cleared.{cleared-beyond}
+use Rattle.answering.specs.SetSearchRun.{few-pairs, set-starting, set-searched, set-unsearched}
+use native.Mathlib.Omega.{arith}
+use borrow.Author.Needs.{needs}
+use Rattle.answering.proofs.set_search.search_sets.Statement.{statement}
+use Rattle.answering.proofs.set_search.search_sets.Tie as tie
+
+fitting-requires : tie.Need-fitting-requires
+fitting-requires c κs = search needs
+
+same-length : tie.Need-same-length
+same-length c = search needs
+
+returns : tie.Need-returns
+returns c = set-unsearched (c .before .fitting .ensures .unfit (not-true _ (c .if1 .taken)))
+
+mul-all : tie.Need-mul-all
+mul-all c =
+    let f = c .before .fitting .ensures .fits (not-false _ (c .if1 .left)) in
+    omega (arith, few-pairs f)
+
+clear-words-requires : tie.Need-clear-words-requires
+clear-words-requires c κs = search needs
+
+search-few-requires : tie.Need-search-few-requires
+search-few-requires c κs =
+    let at-if2 = c .before in
+    let at-clear-words = at-if2 .before .before .before in
+    let at-if1 = at-clear-words .before .before in
+    let at-fitting = at-if1 .before in
+    let f = at-fitting .fitting .ensures .fits (not-false _ (at-if1 .if1 .left)) in
+    let d = at-clear-words .clear-words in
+    (set-starting f (d .ensures) (d .kept .0), at-if2 .if2 .taken)
+
+search-many-requires : tie.Need-search-many-requires
+search-many-requires c κs =
+    let at-clear-words = c .before .before .before .before in
+    let at-if1 = at-clear-words .before .before in
+    let at-fitting = at-if1 .before in
+    let f = at-fitting .fitting .ensures .fits (not-false _ (at-if1 .if1 .left)) in
+    let d = at-clear-words .clear-words in
+    set-starting f (d .ensures) (d .kept .0)
+
+same-length-2 : tie.Need-same-length-2
+same-length-2 c = search needs
+
+returns-2 : tie.Need-returns-2
+returns-2 c =
+    let at-search-few = c .before .before in
+    let at-clear-words = at-search-few .before .before .before .before .before in
+    let at-if1 = at-clear-words .before .before in
+    let at-fitting = at-if1 .before in
+    let f = at-fitting .fitting .ensures .fits (not-false _ (at-if1 .if1 .left)) in
+    let d = at-clear-words .clear-words in
+    let r = at-search-few .search-few in
+    set-searched f (cleared-beyond (d .ensures) (f .room)) (r .kept .1 .1 .1 .1 .0 ∙ d .kept .0) (r .ensures)
+
+same-length-3 : tie.Need-same-length-3
+same-length-3 c = search needs
+
+returns-3 : tie.Need-returns-3
+returns-3 c =
+    let at-search-many = c .before .before in
+    let at-clear-words = at-search-many .before .before .before .before .before in
+    let at-if1 = at-clear-words .before .before in
+    let at-fitting = at-if1 .before in
+    let f = at-fitting .fitting .ensures .fits (not-false _ (at-if1 .if1 .left)) in
+    let d = at-clear-words .clear-words in
+    let r = at-search-many .search-many in
+    set-searched f (cleared-beyond (d .ensures) (f .room)) (r .kept .1 .1 .1 .1 .0 ∙ d .kept .0) (r .ensures)
+
+pub search-sets-spec : {M : Type 1} → statement M
+search-sets-spec =
+    tie.close
+    (tie.spec
+    fitting-requires
+    same-length
+    returns
+    mul-all
+    clear-words-requires
+    search-few-requires
+    search-many-requires
+    same-length-2
+    returns-2
+    same-length-3
+    returns-3)

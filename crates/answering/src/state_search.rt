@@ -1,0 +1,151 @@
+// What a deterministic automaton reaches over a table from one recording, where only useful states are followed.
+use super::set_search::search_sets;
+use super::state_sets::put_rows;
+ghost use Prim.Native.Nat.{_*_, _≤_};
+ghost use lib.ListN.{length};
+ghost use Rattle.answering.specs.StateSets.{Filled};
+ghost use Rattle.answering.specs.StateSearch.{StatesLent, StatesSearched};
+
+// The search, with lent words for the next states.
+fn search_lent(
+    next: &[u16],
+    lists: u64,
+    states: u64,
+    words: u64,
+    useful: &[u64],
+    table: &[u16],
+    recordings: u64,
+    start: u64,
+    sets: &mut [u64],
+    reached: &mut [u64],
+)
+    requires { ⌜ StatesLent (now next) lists states words (now useful) × (words * (lists * states) ≤ length (now sets))
+        × Filled (now next) lists states words (now useful) 0 (now sets) ⌝ }
+    ensures { λ _. ⌜ StatesSearched (now (next .entry)) lists states words (now (useful .entry)) (now (table .entry)) recordings start
+        (now (reached .entry)) (now (reached .exit)) ⌝ }
+{
+    put_rows(
+        next,
+        lists as usize,
+        states as usize,
+        words as usize,
+        useful,
+        sets,
+    );
+    search_sets(
+        sets,
+        lists,
+        words,
+        states,
+        table,
+        recordings,
+        start,
+        reached,
+    );
+}
+
+// The search, where 1024 words suffice for the next states: they are zeroed sooner than those for all automata.
+fn search_few(
+    next: &[u16],
+    lists: u64,
+    states: u64,
+    words: u64,
+    useful: &[u64],
+    table: &[u16],
+    recordings: u64,
+    start: u64,
+    reached: &mut [u64],
+)
+    requires { ⌜ StatesLent (now next) lists states words (now useful) × (words * (lists * states) ≤ 1024) ⌝ }
+    ensures { λ _. ⌜ StatesSearched (now (next .entry)) lists states words (now (useful .entry)) (now (table .entry)) recordings start
+        (now (reached .entry)) (now (reached .exit)) ⌝ }
+{
+    let mut sets: [u64; 1024] = [0; 1024];
+    search_lent(
+        next,
+        lists,
+        states,
+        words,
+        useful,
+        table,
+        recordings,
+        start,
+        &mut sets,
+        reached,
+    );
+}
+
+// The search, for any automaton of at most 256 states over 16 lists. The local array takes 128 KiB of the thread's stack.
+fn search_many(
+    next: &[u16],
+    lists: u64,
+    states: u64,
+    words: u64,
+    useful: &[u64],
+    table: &[u16],
+    recordings: u64,
+    start: u64,
+    reached: &mut [u64],
+)
+    requires { ⌜ StatesLent (now next) lists states words (now useful) ⌝ }
+    ensures { λ _. ⌜ StatesSearched (now (next .entry)) lists states words (now (useful .entry)) (now (table .entry)) recordings start
+        (now (reached .entry)) (now (reached .exit)) ⌝ }
+{
+    let mut sets: [u64; 16384] = [0; 16384];
+    search_lent(
+        next,
+        lists,
+        states,
+        words,
+        useful,
+        table,
+        recordings,
+        start,
+        &mut sets,
+        reached,
+    );
+}
+
+// All recordings that are reached from the start in state 0, with the states that they are reached in, as bits of the first
+// words × recordings words, where `words` is as many as the states need.
+pub(super) fn search_states(
+    next: &[u16],
+    lists: u64,
+    states: u64,
+    words: u64,
+    useful: &[u64],
+    table: &[u16],
+    recordings: u64,
+    start: u64,
+    reached: &mut [u64],
+)
+    requires { ⌜ StatesLent (now next) lists states words (now useful) ⌝ }
+    ensures { λ _. ⌜ StatesSearched (now (next .entry)) lists states words (now (useful .entry)) (now (table .entry)) recordings start
+        (now (reached .entry)) (now (reached .exit)) ⌝ }
+{
+    if words * (lists * states) <= 1024 {
+        search_few(
+            next,
+            lists,
+            states,
+            words,
+            useful,
+            table,
+            recordings,
+            start,
+            reached,
+        );
+    } else {
+        search_many(
+            next,
+            lists,
+            states,
+            words,
+            useful,
+            table,
+            recordings,
+            start,
+            reached,
+        );
+    }
+}
