@@ -3,8 +3,10 @@ use Prim.Native.Nat.{ℕ, zero, suc, _+_, _*_, _^_, _≤_, _<_}
 use mathlib.Core.Bool.{Bool, true, false, _&&_, not}
 use mathlib.Core.List.{List, [], _∷_, reverse}
 use mathlib.Core.Option.{some, none}
-use mathlib.Core.Path.{_≡_, refl, sym, ap, _∙_}
-use native.Mathlib.Nat.{mul-le-mul-right, mul-comm, mul-suc, one-mul}
+use mathlib.Core.Logic.{_↔_}
+use mathlib.Core.Path.{_≡_, refl, sym, ap, ap₂, _∙_, subst}
+use native.Mathlib.Decide.{ℕ-discrete}
+use native.Mathlib.Nat.{mul-le-mul-right, mul-comm, mul-suc, mul-zero, one-mul}
 use native.Mathlib.Numerals.{add-one}
 use native.Mathlib.Omega.{arith}
 use lib.Bits.{or-zero-r}
@@ -12,13 +14,16 @@ use lib.Dec.{eqb, lit<}
 use lib.ListN.{length, getD}
 use lib.Pow.{shl-exact}
 use borrow.Author.Tests.{eq-eqb, ne-eqb}
-use Rattle.theory.specs.Places.{one, union, intersection, when}
+use Rattle.theory.specs.Places.{Member, one, union, intersection, when}
+use Rattle.theory.specs.PlacesLaws.{member-none, member-intersection, not-none}
 use Rattle.theory.specs.Automaton.{Automaton, accepts}
 use Rattle.theory.specs.Exploration.{System, Entry}
 use Rattle.theory.specs.Explored.{entryAt}
 use Rattle.places.specs.Words.{numberOf}
 use Rattle.verdict.specs.Cover.{Rewritten, width, yielding}
 use Rattle.verdict.specs.CoverTold.{Gains}
+use Rattle.verdict.specs.Coded.{StandsAs, Coded}
+use Rattle.verdict.specs.MissedPairs.{member-yielding}
 use Rattle.verdict.specs.Pairs.{Pair, misses, firstMissed}
 use Rattle.verdict.specs.PairTable.{pairAt, Holds}
 use Rattle.verdict.specs.Tables.{rewritten}
@@ -62,6 +67,54 @@ pub misses-with : (A : Automaton) (R : Rewritten) (lists : List Automaton) (x : 
 unfolding misses accepts
 misses-with A R lists x = refl
 
+-- How far apart the states alone stand: a width, or side by side where sets are turned.
+abbrev pub gap : ℕ → ℕ → ℕ
+gap zero w = w
+gap (suc c) w = 1
+
+-- A set has an accepting state alone exactly where it has one as it stands.
+stands-yields : (R : Rewritten) (w c C D : ℕ) → (0 < c → c ≡ w) → StandsAs c (R .states) C D
+    → ((p : ℕ) × Member p (intersection C (yielding R w (R .states)))) ↔ ((p : ℕ) × Member p (intersection D (yielding R (gap c w) (R .states))))
+stands-yields R w zero C D turned e = subst (λ z. ((p : ℕ) × Member p (intersection C (yielding R w (R .states)))) ↔ ((p : ℕ) × Member p (intersection z (yielding R w (R .states))))) e (λ x. x, λ x. x)
+stands-yields R w (suc c) C D turned t = (there, back)
+  where
+    same : suc c ≡ w
+    same = turned (omega arith)
+
+    there : (p : ℕ) × Member p (intersection C (yielding R w (R .states))) → (p : ℕ) × Member p (intersection D (yielding R 1 (R .states)))
+    there (p, m) =
+        let (a, b) = member-intersection p C (yielding R w (R .states)) .0 m in
+        let (q, h, e, f) = member-yielding R w (R .states) p .0 b in
+        let k : suc c * q + 0 ≡ p = ap (λ z. z * q + 0) same ∙ omega (arith, e) in
+        let d : Member (R .states * 0 + q) D = t .exact q 0 h (omega arith) .0 (subst (λ z. Member z C) (sym k) a) in
+        let x : R .states * 0 + q ≡ 1 * q = omega (arith, mul-zero (R .states)) in
+        (1 * q, member-intersection (1 * q) D (yielding R 1 (R .states)) .1 (subst (λ z. Member z D) x d, member-yielding R 1 (R .states) (1 * q) .1 (q, h, refl, f)))
+
+    back : (p : ℕ) × Member p (intersection D (yielding R 1 (R .states))) → (p : ℕ) × Member p (intersection C (yielding R w (R .states)))
+    back (p, m) =
+        let (a, b) = member-intersection p D (yielding R 1 (R .states)) .0 m in
+        let (q, h, e, f) = member-yielding R 1 (R .states) p .0 b in
+        let k : R .states * 0 + q ≡ p = omega (arith, e, mul-zero (R .states)) in
+        let d : Member (suc c * q + 0) C = t .exact q 0 h (omega arith) .1 (subst (λ z. Member z D) (sym k) a) in
+        let x : suc c * q + 0 ≡ w * q = ap (λ z. z * q + 0) same ∙ omega arith in
+        (w * q, member-intersection (w * q) C (yielding R w (R .states)) .1 (subst (λ z. Member z C) x d, member-yielding R w (R .states) (w * q) .1 (q, h, refl, f)))
+
+same-empty : (s t : ℕ) → ((p : ℕ) × Member p s) ↔ ((p : ℕ) × Member p t) → eqb s 0 ≡ eqb t 0
+same-empty s t e = side (ℕ-discrete s 0) (ℕ-discrete t 0)
+  where
+    side : Dec (s ≡ 0) → Dec (t ≡ 0) → eqb s 0 ≡ eqb t 0
+    side (yes a) (yes b) = eq-eqb s 0 a ∙ sym (eq-eqb t 0 b)
+    side (yes a) (no b) = let (p, m) = e .1 (not-none t b) in absurd (member-none p (subst (Member p) a m))
+    side (no a) (yes b) = let (p, m) = e .0 (not-none s a) in absurd (member-none p (subst (Member p) b m))
+    side (no a) (no b) = ne-eqb s 0 a ∙ sym (ne-eqb t 0 b)
+
+misses-coded : (R : Rewritten) (w ends c : ℕ) → (0 < c → c ≡ w) → (x y : Pair) → Coded c (R .states) x y
+    → missesWith ends (yielding R w (R .states)) x ≡ missesWith ends (yielding R (gap c w) (R .states)) y
+misses-coded R w ends c turned x y e =
+    ap₂ (λ s b. not (eqb (intersection s ends) 0) && b) (e .standing)
+    (same-empty (intersection (x .cover) (yielding R w (R .states))) (intersection (y .cover) (yielding R (gap c w) (R .states)))
+    (stands-yields R w c (x .cover) (y .cover) turned (e .cover)))
+
 -- The first of n pairs whose paths are missed; n where there is none.
 pub record FirstTold (n : ℕ) (space : List ℕ) (ends yields r : ℕ) : Type 0 where
   pub inside : r ≤ n
@@ -84,13 +137,14 @@ module _ (A : Automaton) (R : Rewritten) (lists : List Automaton) where
   first-some (e ∷ l) d zero b h m = rw (m, firstMissed)
   first-some (e ∷ l) d (suc r) b h m = rw (h 0 (omega arith), firstMissed) (first-some l d r (omega arith) (λ k c. h (suc k) (omega arith)) m)
 
-  module _ (S : System Pair) (space : List ℕ) (l : List (Entry Pair)) (held : Holds S space l) (n : ℕ) (count : length l ≡ n) (r : ℕ)
-      (told : FirstTold n space (A .accepting) (yielding R (width lists) (R .states)) r) where
+  module _ (w : ℕ) (turned : 0 < w → w ≡ width lists) (S : System Pair) (space : List ℕ) (l : List (Entry Pair))
+      (held : Holds w (R .states) S space l) (n : ℕ) (count : length l ≡ n) (r : ℕ)
+      (told : FirstTold n space (A .accepting) (yielding R (gap w (width lists)) (R .states)) r) where
     misses-at : (k : ℕ) → k < length l → misses A R lists (entryAt S l k .value)
-        ≡ missesWith (A .accepting) (yielding R (width lists) (R .states)) (pairAt space k)
+        ≡ missesWith (A .accepting) (yielding R (gap w (width lists)) (R .states)) (pairAt space k)
     misses-at k b =
         misses-with A R lists (entryAt S l k .value)
-        ∙ ap (missesWith (A .accepting) (yielding R (width lists) (R .states))) (held .value k b)
+        ∙ misses-coded R (width lists) (A .accepting) w turned (entryAt S l k .value) (pairAt space k) (held .value k b)
 
     pub none-missed : r ≡ n → firstMissed A R lists l ≡ none
     none-missed e =

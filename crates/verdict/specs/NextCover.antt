@@ -1,83 +1,140 @@
--- The step of a cover set, by rows (PreparedRows) or by columns (Prepared) where these are prepared: what follows a row are offsets, columns
--- have states of the rewriting alone, and the step gives the next cover set.
+-- Cover sets as they stand in the workspace (Coded): the first one and the step over a label. Where sets are turned they go by columns
+-- (Prepared), and the step by columns is the step of the cover set.
 use Prim.Native.Nat.{ℕ, zero, suc, _+_, _*_, _^_, _≤_, _<_}
-use mathlib.Core.Bool.{Bool, true, false}
-use mathlib.Core.List.{List}
-use mathlib.Core.Path.{_≡_, sym, subst}
+use mathlib.Core.List.{List, [], _∷_}
+use mathlib.Core.Path.{_≡_, sym, ap, _∙_, subst}
 use native.Mathlib.Omega.{arith}
 use lib.ListN.{getD}
-use Rattle.theory.specs.Places.{Member, intersection}
-use Rattle.theory.specs.PlacesLaws.{member-below, member-intersection, unionOver-below}
+use Rattle.theory.specs.Places.{Member, one}
+use Rattle.theory.specs.PlacesLaws.{one-below}
+use Rattle.theory.specs.ClosureLaws.{closure-below}
+use Rattle.theory.specs.Automaton.{Automaton}
 use Rattle.places.specs.Words.{numberOf}
-use Rattle.verdict.specs.Tables.{occupied}
-use Rattle.verdict.specs.CoverTold.{StepTold}
+use Rattle.verdict.specs.Cover.{Rewritten, places, ends, settled, coverStart, coverStep}
+use Rattle.verdict.specs.Tables.{automataOf, occupied, rewritten, Proper}
+use Rattle.verdict.specs.CoverBounds.{ends-below}
+use Rattle.verdict.specs.CoverPlaces.{split-below}
+use Rattle.verdict.specs.CoverStepped.{places-ready}
+use Rattle.verdict.specs.CoverTold.{StartTold, StepTold, StartStands, StepStands}
 use Rattle.verdict.specs.Columns.{offsetIn, ColumnsOf, SetOf, Stepped}
 use Rattle.verdict.specs.ColumnOffsets.{occurrence-at, offset-below}
 use Rattle.verdict.specs.ColumnsStep.{columns-step}
+use Rattle.verdict.specs.Coded.{StandsAs}
+use Rattle.verdict.specs.CodedLaws.{stands-turned, turned-stands, stands-same, same-stands}
 use Rattle.verdict.specs.Prepared.{Prepared}
-use Rattle.verdict.specs.PreparedRows.{PreparedRows}
-use Rattle.verdict.specs.Rows.{rowOf}
-use Rattle.verdict.specs.RowTables.{RowsFollowed, RowStepped}
-use Rattle.verdict.specs.RowTablesStep.{rows-step}
+use Rattle.verdict.specs.Turned.{Turned, Stacked}
+use Rattle.verdict.specs.TurnedLaws.{turn, turn-made}
 
--- The rows of the set, followed, where steps by rows are prepared; else its columns, where steps by columns are.
-pub record Laid (states n labels : ℕ) (follow enter sizes accepting table : List ℕ) (w : ℕ) (before ended : List ℕ) (rowed : Bool)
-    (follows enters ends set laid : List ℕ) : Type 0 where
+-- What a step needs of a set: its columns, where it stands turned.
+pub record Laid (states n : ℕ) (follow enter sizes accepting table : List ℕ) (w : ℕ) (before ended set laid : List ℕ) : Type 0 where
   pub prepared : 0 < w → Prepared states n follow enter sizes accepting table w before ended
-  pub rows : rowed ≡ true → PreparedRows n labels follow enter sizes accepting w follows enters ends
-  pub followed : rowed ≡ true → RowsFollowed follows w states set laid
-  pub columned : rowed ≡ false → 0 < w → ColumnsOf w states set laid
+  pub stacked : 0 < w → Stacked w states laid (numberOf set)
+
+-- A set that is one word of any width.
+number-alone : (C : ℕ) → numberOf (C ∷ []) ≡ C
+unfolding numberOf
+number-alone C = omega arith
+
+-- Columns of a turned set are the columns of the set.
+columns-turned : (w n C D : ℕ) (columns : List ℕ) → Turned w n C D → Stacked w n columns D → ColumnsOf w n (C ∷ []) columns
+columns-turned w n C D columns t s =
+    record {
+      exact = λ q o h k. (
+        λ m. subst (Member (w * q + o)) (sym (number-alone C)) (t .exact q o h k .1 (s .exact q o h k .0 m)),
+        λ m. s .exact q o h k .1 (t .exact q o h k .0 (subst (Member (w * q + o)) (number-alone C) m)),
+      );
+      within = s .within;
+    }
 
 module _ {states n : ℕ} {follow enter sizes accepting table : List ℕ} {w : ℕ} {before ended : List ℕ}
-    (prepared : Prepared states n follow enter sizes accepting table w before ended) {set columns : List ℕ}
-    (of : ColumnsOf w states set columns) {a : ℕ} {next : List ℕ} (stepped : Stepped n a enter sizes accepting before ended columns next) where
+    (prepared : Prepared states n follow enter sizes accepting table w before ended) where
   wide : w ≡ suc (occupied sizes 0 n)
   wide = prepared .ready .wide
 
-  -- The columns of occurrences ..
-  moved-within : (v p q : ℕ) → v < n → 0 < p → p ≤ getD sizes (v + 1) 0 → Member q (getD next (occupied sizes 0 v + p) 0) → q < states
-  moved-within v p q h k l m =
-      let (entered, (o, leads, had)) = stepped .moved v p q h k l .0 m in
-      let few : o ≤ getD sizes (v + 1) 0 = prepared .leading .within v o p h (omega (arith, prepared .ready .counted .small v h)) leads in
-      of .within q (offsetIn sizes v o) (omega (arith, wide, offset-below sizes v o n h few)) had
+  some : 0 < w
+  some = omega (arith, wide)
 
-  -- .. and of the states alone have states of the rewriting.
-  pub next-within : (q o : ℕ) → o < w → Member q (getD next o 0) → q < states
-  next-within q zero h m =
-      let (v, p, r, a, b, d, e, f, g) = stepped .alone q .0 m in
-      prepared .finishing .within r v q (moved-within v p r a b d f) a g
-  next-within q (suc o) h m =
-      let (v, x, b, d, e) = occurrence-at sizes n (suc o) (omega arith) (omega (arith, wide)) in
-      moved-within v (suc x) q b (omega arith) d (subst (λ i. Member q (getD next i 0)) e m)
+  module _ (set : List ℕ) {columns : List ℕ} (of : Stacked w states columns (numberOf set)) {a : ℕ} {next : List ℕ}
+      (stepped : Stepped n a enter sizes accepting before ended columns next) where
+    -- The columns of occurrences ..
+    moved-within : (v p q : ℕ) → v < n → 0 < p → p ≤ getD sizes (v + 1) 0 → Member q (getD next (occupied sizes 0 v + p) 0) → q < states
+    moved-within v p q h k l m =
+        let (entered, (o, leads, had)) = stepped .moved v p q h k l .0 m in
+        let few : o ≤ getD sizes (v + 1) 0 = prepared .leading .within v o p h (omega (arith, prepared .ready .counted .small v h)) leads in
+        of .within q (offsetIn sizes v o) (omega (arith, wide, offset-below sizes v o n h few)) had
 
-  pub next-told : {r : List ℕ} → a < 32 → SetOf w states next r → StepTold states n follow enter sizes accepting table a set r
-  next-told {r} h setOf =
+    -- .. and of the states alone have states of the rewriting.
+    pub next-within : (q o : ℕ) → o < w → Member q (getD next o 0) → q < states
+    next-within q zero h m =
+        let (v, p, r, a, b, d, e, f, g) = stepped .alone q .0 m in
+        prepared .finishing .within r v q (moved-within v p r a b d f) a g
+    next-within q (suc o) h m =
+        let (v, x, b, d, e) = occurrence-at sizes n (suc o) (omega arith) (omega (arith, wide)) in
+        moved-within v (suc x) q b (omega arith) d (subst (λ i. Member q (getD next i 0)) e m)
+
+    pub next-stands : (r : List ℕ) → Stacked w states next (numberOf r) → numberOf r < 2 ^ (states * w)
+        → StepStands w states n follow enter sizes accepting table a set r
+    next-stands r packed below =
+        record {
+          told = λ proper l flags C stands.
+              let made = turn-made w states (numberOf r) some below in
+              let e =
+              sym (number-alone (turn w states (numberOf r)))
+              ∙ columns-step states n a follow enter sizes accepting table before ended (C ∷ []) columns next (turn w states (numberOf r) ∷ []) proper l
+              (prepared .leading) (prepared .finishing)
+              (subst (λ z. ColumnsOf z states (C ∷ []) columns) wide
+              (columns-turned w states C (numberOf set) columns (stands-turned w states C (numberOf set) some stands) of))
+              stepped
+              (subst (λ z. SetOf z states next (turn w states (numberOf r) ∷ [])) wide
+              (record {
+                same = columns-turned w states (turn w states (numberOf r)) (numberOf r) next made packed;
+                below = subst (λ z. z < 2 ^ (states * w)) (sym (number-alone (turn w states (numberOf r)))) (made .below);
+              }))
+              flags
+              ∙ ap (λ z. coverStep (rewritten states table flags) (automataOf follow enter sizes accepting n) z a) (number-alone C) in
+              turned-stands w states _ (numberOf r) some (subst (λ z. Turned w states z (numberOf r)) e made);
+        }
+
+  -- The cover set of the empty path has places of the rewriting alone.
+  start-below : Proper states n follow enter sizes accepting table → (flags : List ℕ)
+      → coverStart (rewritten states table flags) (automataOf follow enter sizes accepting n) < 2 ^ (states * w)
+  unfolding coverStart settled
+  start-below proper flags =
+      let count = places-ready states n follow enter sizes accepting table w (prepared .ready) flags in
+      subst (λ z. coverStart (rewritten states table flags) (automataOf follow enter sizes accepting n) < 2 ^ z) count
+      (closure-below (ends (rewritten states table flags) (automataOf follow enter sizes accepting n)) _ _ (one 0)
+      (one-below _ 0 (omega (arith, count, split-below w states 0 0 some (prepared .some))))
+      (ends-below follow enter sizes accepting n (prepared .ready .counted) (prepared .ready .follow-room) (rewritten states table flags) (proper .next)))
+
+  pub start-stands : {start columns r : List ℕ} → StartTold states n follow enter sizes accepting table start → ColumnsOf w states start columns
+      → Stacked w states columns (numberOf r) → numberOf r < 2 ^ (states * w) → StartStands w states n follow enter sizes accepting table r
+  start-stands {start} {columns} {r} told of packed below =
       record {
-        told = λ proper l flags.
-            columns-step states n a follow enter sizes accepting table before ended set columns next r proper l (prepared .leading)
-            (prepared .finishing) (subst (λ z. ColumnsOf z states set columns) wide of) stepped
-            (subst (λ z. SetOf z states next r) wide setOf) flags;
+        told = λ proper flags.
+            turned-stands w states _ (numberOf r) some
+            (subst (λ z. Turned w states z (numberOf r)) (told .told proper flags)
+            (record {
+              exact = λ q o h k. (
+                λ m. packed .exact q o h k .0 (of .exact q o h k .1 m),
+                λ m. of .exact q o h k .0 (packed .exact q o h k .1 m),
+              );
+              below = subst (λ z. z < 2 ^ (states * w)) (sym (told .told proper flags)) (start-below proper flags);
+              turned-below = below;
+            }));
       }
 
-module _ {states n labels : ℕ} {follow enter sizes accepting table : List ℕ} {w : ℕ} {before ended follows enters ends set followed : List ℕ}
-    (prepared : Prepared states n follow enter sizes accepting table w before ended)
-    (rows : PreparedRows n labels follow enter sizes accepting w follows enters ends) (of : RowsFollowed follows w states set followed) where
-  -- What follows a row are offsets.
-  pub followed-small : (entering q x : ℕ) → q < states → Member x (intersection (getD followed q 0) entering) → x < w
-  followed-small entering q x h m =
-      member-below w (getD followed q 0) x
-      (subst (λ z. z < 2 ^ w) (sym (of .exact q h))
-      (unionOver-below (λ o. getD follows o 0) w 64 (rowOf (numberOf set) (w * q) w) (rows .below)))
-      (member-intersection x (getD followed q 0) entering .0 m .0)
+-- Where sets stand as they are.
 
-  pub rows-told : {a : ℕ} {r : List ℕ} → a < labels → RowStepped n (getD enters a 0) ends ended w states followed r
-      → StepTold states n follow enter sizes accepting table a set r
-  rows-told {a} {r} h stepped =
-      let e = prepared .ready .wide in
-      record {
-        told = λ proper l flags.
-            rows-step states n labels a follow enter sizes accepting table follows enters ends ended set followed r proper
-            (subst (λ z. z ≤ 64) e (rows .few)) h (rows .tables) (rows .ending) (prepared .finishing)
-            (subst (λ z. RowsFollowed follows z states set followed) e of)
-            (subst (λ z. RowStepped n (getD enters a 0) ends ended z states followed r) e stepped) flags;
-      }
+pub start-plain : {states n : ℕ} {follow enter sizes accepting table r : List ℕ} {w : ℕ} → w ≡ 0 → StartTold states n follow enter sizes accepting table r
+    → StartStands w states n follow enter sizes accepting table r
+start-plain {w = w} e t = record { told = λ proper flags. same-stands w _ _ _ e (sym (t .told proper flags)) }
+
+pub step-plain : {states n : ℕ} {follow enter sizes accepting table : List ℕ} {a : ℕ} (set r : List ℕ) {w : ℕ} → w ≡ 0
+    → StepTold states n follow enter sizes accepting table a set r → StepStands w states n follow enter sizes accepting table a set r
+step-plain {states} {n} {follow} {enter} {sizes} {accepting} {table} {a} set r {w} e t =
+    record {
+      told = λ proper l flags C s.
+          same-stands w states _ (numberOf r) e
+          (ap (λ z. coverStep (rewritten states table flags) (automataOf follow enter sizes accepting n) z a) (stands-same w states C (numberOf set) e s)
+          ∙ sym (t .told proper l flags));
+    }

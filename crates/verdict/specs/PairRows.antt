@@ -2,7 +2,6 @@
 use Prim.Native.Nat.{ℕ, suc, _+_, _*_, _-_, _≤_, _<_}
 use mathlib.Core.Bool.{Bool, true, false, not}
 use mathlib.Core.List.{List, [], _∷_, _++_}
-use mathlib.Core.Option.{some}
 use mathlib.Core.Path.{_≡_, refl, sym, ap, _∙_, subst}
 use native.Mathlib.Numerals.{add-one}
 use native.Mathlib.Omega.{arith}
@@ -15,11 +14,12 @@ use Rattle.theory.specs.ExplorationSteps.{grow-known, grow-new, grow-over, exte
 use Rattle.theory.specs.ExplorationSteps.{explore-some, explore-none}
 use Rattle.places.specs.Words.{numberOf}
 use Rattle.verdict.specs.Cover.{coverStep}
-use Rattle.verdict.specs.CoverTold.{StartTold, StepTold}
+use Rattle.verdict.specs.CoverTold.{StartStands, StepStands}
+use Rattle.verdict.specs.Coded.{StandsAs, Coded}
 use Rattle.verdict.specs.Pairs.{Pair, pairs}
 use Rattle.verdict.specs.PairCounts.{pair-tests}
 use Rattle.verdict.specs.PairTable.{wordsAt, Holds, Stored, Seen}
-use Rattle.verdict.specs.PairTableLaws.{pair-path, earlier-entry, holds-first, holds-more, stored-pair, seen-known, seen-new}
+use Rattle.verdict.specs.PairTableLaws.{earlier-entry, holds-first, holds-more, stored-pair, seen-known, seen-new}
 use Rattle.verdict.specs.Tables.{automatonAt, automataOf, rewritten}
 use Rattle.verdict.specs.Workspace.{pair}
 use Rattle.verdict.specs.PairsTold.{Lent, Lending, systemOf, QueryStep, RowCase, RowTold, PairsCase, PairsTold}
@@ -27,34 +27,34 @@ use Rattle.verdict.specs.declared.pairs.Explored.{Explored}
 use Rattle.verdict.specs.declared.pairs.Explored.the-variants.{All, Over}
 
 -- The labels of the entry number i: the labels from a on are left, and m entries are found.
-pub record RowLeft (D : Lent) (flags : List ℕ) (limit i a : ℕ) (l : List (Entry Pair)) (m : ℕ) (space : List ℕ) : Type 0 where
+pub record RowLeft (D : Lent) (w : ℕ) (flags : List ℕ) (limit i a : ℕ) (l : List (Entry Pair)) (m : ℕ) (space : List ℕ) : Type 0 where
   pub entries : List (Entry Pair)
-  pub held : Holds (systemOf D flags) space entries
+  pub held : Holds w (D .states) (systemOf D flags) space entries
   pub count : length entries ≡ m
   pub entry : entryAt (systemOf D flags) entries i ≡ entryAt (systemOf D flags) l i
   pub left : row (systemOf D flags) limit (entryAt (systemOf D flags) l i) (D .labels - a) a entries
       ≡ row (systemOf D flags) limit (entryAt (systemOf D flags) l i) (D .labels) 0 l
 
-pub record RowLoop (D : Lent) (limit i n : ℕ) (space₀ : List ℕ) (a m : ℕ) (space : List ℕ) : Type 0 where
+pub record RowLoop (D : Lent) (w limit i n : ℕ) (space₀ : List ℕ) (a m : ℕ) (space : List ℕ) : Type 0 where
   pub symbol : a ≤ D .labels
   pub kept : n ≤ m
   pub within : m ≤ limit
   pub size : length space ≡ length space₀
   pub beyond : (j : ℕ) → 18 * limit ≤ j → getD space j 0 ≡ getD space₀ j 0
-  pub told : Lending D → (flags : List ℕ) (l : List (Entry Pair)) → Holds (systemOf D flags) space₀ l → length l ≡ n
-      → RowLeft D flags limit i a l m space
+  pub told : Lending D → (flags : List ℕ) (l : List (Entry Pair)) → Holds w (D .states) (systemOf D flags) space₀ l → length l ≡ n
+      → RowLeft D w flags limit i a l m space
 
 -- The pair that the label a leads to from the pair number i.
-pub record Stepped (D : Lent) (space : List ℕ) (i a standing : ℕ) (cover : List ℕ) : Type 0 where
+pub record Stepped (D : Lent) (w : ℕ) (space : List ℕ) (i a standing : ℕ) (cover : List ℕ) : Type 0 where
   pub from : ℕ
   pub from-at : getD space (18 * i) 0 ≡ from
   pub words : List ℕ
   pub words-at : words ≡ wordsAt space (18 * i + 1) 16
   pub query : QueryStep (D .follow) (D .enter) (D .sizes) a from standing
-  pub covered : StepTold (D .states) (D .lists) (D .follow) (D .enter) (D .sizes) (D .accepting) (D .table) a words cover
+  pub covered : StepStands w (D .states) (D .lists) (D .follow) (D .enter) (D .sizes) (D .accepting) (D .table) a words cover
 
-pub row-start : (D : Lent) (limit i n : ℕ) (space : List ℕ) → n ≤ limit → RowLoop D limit i n space 0 n space
-row-start D limit i n space h =
+pub row-start : (D : Lent) (w limit i n : ℕ) (space : List ℕ) → n ≤ limit → RowLoop D w limit i n space 0 n space
+row-start D w limit i n space h =
     record {
       symbol = omega arith;
       kept = omega arith;
@@ -73,32 +73,43 @@ row-start D limit i n space h =
           };
     }
 
-module _ (D : Lent) (limit i n : ℕ) (space₀ : List ℕ) (a m : ℕ) (space : List ℕ) (loop : RowLoop D limit i n space₀ a m space)
-    (more : a < D .labels) (inside : i < n) (standing : ℕ) (cover : List ℕ) (stepped : Stepped D space₀ i a standing cover) where
-  module _ (p : Lending D) (flags : List ℕ) (l : List (Entry Pair)) (held : Holds (systemOf D flags) space₀ l) (count : length l ≡ n) where
-    -- The step of the system is the pair computed.
-    next-pair : systemOf D flags .step (entryAt (systemOf D flags) l i .value) a ≡ some (pair standing cover)
-    next-pair =
+module _ (D : Lent) (w limit i n : ℕ) (space₀ : List ℕ) (a m : ℕ) (space : List ℕ) (loop : RowLoop D w limit i n space₀ a m space)
+    (more : a < D .labels) (inside : i < n) (standing : ℕ) (cover : List ℕ) (stepped : Stepped D w space₀ i a standing cover) where
+  module _ (p : Lending D) (flags : List ℕ) (l : List (Entry Pair)) (held : Holds w (D .states) (systemOf D flags) space₀ l) (count : length l ≡ n) where
+    -- The pair that the system's step gives stands as the pair computed.
+    next : Pair
+    next =
+        record {
+          standing = step (automatonAt (D .follow) (D .enter) (D .sizes) (D .accepting) 0) (entryAt (systemOf D flags) l i .value .standing) a;
+          cover = coverStep (rewritten (D .states) (D .table) flags) (automataOf (D .follow) (D .enter) (D .sizes) (D .accepting) (D .lists))
+              (entryAt (systemOf D flags) l i .value .cover) a;
+        }
+
+    next-coded : Coded w (D .states) next (pair standing cover)
+    unfolding next
+    next-coded =
         let b : i < length l = omega (arith, count) in
         let k : a < 32 = omega (arith, p .few-labels) in
         let r = p .proper .ready in
-        ap (λ x. systemOf D flags .step x a) (held .value i b)
-        ∙ ap some (pair-path
-        (ap (λ x. step (automatonAt (D .follow) (D .enter) (D .sizes) (D .accepting) 0) x a) (stepped .from-at)
-        ∙ sym (stepped .query .told (p .query) (omega (arith, r .follow-room)) (omega (arith, r .enter-room)) k (omega (arith, r .counted .room)) (D .accepting)))
-        (ap (λ x. coverStep (rewritten (D .states) (D .table) flags) (automataOf (D .follow) (D .enter) (D .sizes) (D .accepting) (D .lists)) (numberOf x) a)
-        (sym (stepped .words-at))
-        ∙ sym (stepped .covered .told (p .proper) k flags)))
+        let e = held .value i b in
+        record {
+          standing =
+              ap (λ x. step (automatonAt (D .follow) (D .enter) (D .sizes) (D .accepting) 0) x a) (e .standing ∙ stepped .from-at)
+              ∙ sym (stepped .query .told (p .query) (omega (arith, r .follow-room)) (omega (arith, r .enter-room)) k (omega (arith, r .counted .room)) (D .accepting));
+          cover =
+              stepped .covered .told (p .proper) k flags (entryAt (systemOf D flags) l i .value .cover)
+              (subst (λ x. StandsAs w (D .states) (entryAt (systemOf D flags) l i .value .cover) (numberOf x)) (sym (stepped .words-at)) (e .cover));
+        }
 
     new : Entry Pair
-    new = record { value = pair standing cover; trail = a ∷ entryAt (systemOf D flags) l i .trail }
+    new = record { value = next; trail = a ∷ entryAt (systemOf D flags) l i .trail }
 
-    s : RowLeft D flags limit i a l m space
+    s : RowLeft D w flags limit i a l m space
     s = loop .told p flags l held count
 
     extended : extend (systemOf D flags) limit (entryAt (systemOf D flags) l i) a (s .entries) ≡ grow (systemOf D flags) limit new (s .entries)
-    unfolding new
-    extended = extend-some (systemOf D flags) limit (entryAt (systemOf D flags) l i) a (s .entries) (pair standing cover) next-pair
+    unfolding new next
+    extended = extend-some (systemOf D flags) limit (entryAt (systemOf D flags) l i) a (s .entries) next refl
 
     whole : row (systemOf D flags) limit (entryAt (systemOf D flags) l i) (suc (D .labels - (a + 1))) a (s .entries)
         ≡ row (systemOf D flags) limit (entryAt (systemOf D flags) l i) (D .labels) 0 l
@@ -106,7 +117,7 @@ module _ (D : Lent) (limit i n : ℕ) (space₀ : List ℕ) (a m : ℕ) (space :
         let e : suc (D .labels - (a + 1)) ≡ D .labels - a = omega arith in
         ap (λ k. row (systemOf D flags) limit (entryAt (systemOf D flags) l i) k a (s .entries)) e ∙ s .left
 
-    left-known : (r : Bool) → Seen m space (pair standing cover) r → r ≡ true → RowLeft D flags limit i (a + 1) l m space
+    left-known : (r : Bool) → Seen m space (pair standing cover) r → r ≡ true → RowLeft D w flags limit i (a + 1) l m space
     unfolding new
     left-known r seen e =
         record {
@@ -118,25 +129,27 @@ module _ (D : Lent) (limit i n : ℕ) (space₀ : List ℕ) (a m : ℕ) (space :
               ap (λ k. row (systemOf D flags) limit (entryAt (systemOf D flags) l i) (D .labels - (a + 1)) k (s .entries)) (add-one a)
               ∙ sym (row-on (systemOf D flags) limit (entryAt (systemOf D flags) l i) (D .labels - (a + 1)) a (s .entries) (s .entries)
               (extended ∙ grow-known (systemOf D flags) limit new (s .entries)
-              (seen-known (systemOf D flags) (pair-tests _ _ _ _) space (s .entries) (s .held) m (s .count) (pair standing cover) r seen e)))
+              (seen-known w (D .states) (systemOf D flags) (pair-tests _ _ _ _) space (s .entries) (s .held) m (s .count) next (pair standing cover) next-coded r seen e)))
               ∙ whole;
         }
 
     fresh : (r : Bool) → Seen m space (pair standing cover) r → r ≡ false → known (systemOf D flags) (new .value) (s .entries) ≡ false
     unfolding new
-    fresh r seen e = seen-new (systemOf D flags) (pair-tests _ _ _ _) space (s .entries) (s .held) m (s .count) (pair standing cover) r seen e
+    fresh r seen e =
+        seen-new w (D .states) (systemOf D flags) (pair-tests _ _ _ _) space (s .entries) (s .held) m (s .count) next (pair standing cover) next-coded r seen
+        (p .proper .some-state) e
 
     left-new : (r : Bool) (space′ : List ℕ) → Seen m space (pair standing cover) r → r ≡ false → m < limit → limit ≤ 4096
-        → length cover ≡ 16 → Stored space m standing cover (a * 8192 + i) space′ → RowLeft D flags limit i (a + 1) l (m + 1) space′
+        → length cover ≡ 16 → Stored space m standing cover (a * 8192 + i) space′ → RowLeft D w flags limit i (a + 1) l (m + 1) space′
     unfolding new
     left-new r space′ seen e room few sized stored =
         record {
           entries = s .entries ++ (new ∷ []);
           held =
-              subst (λ t. Holds (systemOf D flags) space′ (s .entries ++ (record { value = pair standing cover; trail = a ∷ t } ∷ [])))
+              subst (λ t. Holds w (D .states) (systemOf D flags) space′ (s .entries ++ (record { value = next; trail = a ∷ t } ∷ [])))
               (ap (λ x. x .trail) (s .entry))
-              (holds-more (systemOf D flags) space space′ (s .entries) i a standing cover (s .held)
-              (subst (λ k. Stored space k standing cover (a * 8192 + i) space′) (sym (s .count)) stored) sized
+              (holds-more w (D .states) (systemOf D flags) space space′ (s .entries) i a next standing cover (s .held)
+              (subst (λ k. Stored space k standing cover (a * 8192 + i) space′) (sym (s .count)) stored) sized next-coded
               (omega (arith, s .count, loop .kept)) (omega (arith, loop .kept)) (omega (arith, p .few-labels)));
           count = length-append (s .entries) (new ∷ []) ∙ omega (arith, s .count);
           entry = earlier-entry (systemOf D flags) (s .entries) new i (omega (arith, s .count, loop .kept)) ∙ s .entry;
@@ -156,7 +169,7 @@ module _ (D : Lent) (limit i n : ℕ) (space₀ : List ℕ) (a m : ℕ) (space :
         (extended ∙ grow-over (systemOf D flags) limit new (s .entries) (fresh r seen e) (omega (arith, s .count)))
 
   -- The pair is known.
-  pub row-known : (r : Bool) → Seen m space (pair standing cover) r → r ≡ true → RowLoop D limit i n space₀ (a + 1) m space
+  pub row-known : (r : Bool) → Seen m space (pair standing cover) r → r ≡ true → RowLoop D w limit i n space₀ (a + 1) m space
   row-known r seen e =
       record {
         symbol = omega arith;
@@ -169,7 +182,7 @@ module _ (D : Lent) (limit i n : ℕ) (space₀ : List ℕ) (a m : ℕ) (space :
 
   -- It is new, and stored.
   pub row-new : (r : Bool) (space′ : List ℕ) → Seen m space (pair standing cover) r → r ≡ false → m < limit → limit ≤ 4096 → length cover ≡ 16
-      → Stored space m standing cover (a * 8192 + i) space′ → RowLoop D limit i n space₀ (a + 1) (m + 1) space′
+      → Stored space m standing cover (a * 8192 + i) space′ → RowLoop D w limit i n space₀ (a + 1) (m + 1) space′
   row-new r space′ seen e room few sized stored =
       record {
         symbol = omega arith;
@@ -181,7 +194,7 @@ module _ (D : Lent) (limit i n : ℕ) (space₀ : List ℕ) (a m : ℕ) (space :
       }
 
   -- It is new, and there is no room.
-  pub row-exceeds : (r : Bool) → Seen m space (pair standing cover) r → r ≡ false → limit ≤ m → RowTold D limit i n space₀ Over space
+  pub row-exceeds : (r : Bool) → Seen m space (pair standing cover) r → r ≡ false → limit ≤ m → RowTold D w limit i n space₀ Over space
   unfolding RowCase
   row-exceeds r seen e full =
       record {
@@ -194,10 +207,10 @@ module _ (D : Lent) (limit i n : ℕ) (space₀ : List ℕ) (a m : ℕ) (space :
       over-not-all q = let z : _≡_ {A = ℕ} 0 1 = cc in omega arith
 
 -- All labels are tried.
-pub row-told : (D : Lent) (limit i n : ℕ) (space₀ : List ℕ) (a m : ℕ) (space : List ℕ) → RowLoop D limit i n space₀ a m space → D .labels ≤ a
-    → RowTold D limit i n space₀ (All m) space
+pub row-told : (D : Lent) (w limit i n : ℕ) (space₀ : List ℕ) (a m : ℕ) (space : List ℕ) → RowLoop D w limit i n space₀ a m space → D .labels ≤ a
+    → RowTold D w limit i n space₀ (All m) space
 unfolding RowCase
-row-told D limit i n space₀ a m space loop h =
+row-told D w limit i n space₀ a m space loop h =
     record {
       bounds = λ k q. let z : m ≡ k = cc in (omega (arith, loop .kept), omega (arith, loop .within));
       beyond = loop .beyond;
@@ -213,24 +226,24 @@ row-told D limit i n space₀ a m space loop h =
     }
 
 -- All entries: those from i on are left, and n are found.
-pub record SweepLeft (D : Lent) (flags : List ℕ) (limit i n : ℕ) (space : List ℕ) : Type 0 where
+pub record SweepLeft (D : Lent) (w : ℕ) (flags : List ℕ) (limit i n : ℕ) (space : List ℕ) : Type 0 where
   pub entries : List (Entry Pair)
-  pub held : Holds (systemOf D flags) space entries
+  pub held : Holds w (D .states) (systemOf D flags) space entries
   pub count : length entries ≡ n
   pub left : sweep (systemOf D flags) limit (limit - i) i entries ≡ explore (systemOf D flags) limit
 
-pub record SweepLoop (D : Lent) (limit : ℕ) (space₀ : List ℕ) (i n : ℕ) (space : List ℕ) : Type 0 where
+pub record SweepLoop (D : Lent) (w limit : ℕ) (space₀ : List ℕ) (i n : ℕ) (space : List ℕ) : Type 0 where
   pub inside : i ≤ n
   pub within : n ≤ limit
   pub size : length space ≡ length space₀
   pub beyond : (j : ℕ) → 18 * limit ≤ j → getD space j 0 ≡ getD space₀ j 0
-  pub told : Lending D → (flags : List ℕ) → SweepLeft D flags limit i n space
+  pub told : Lending D → (flags : List ℕ) → SweepLeft D w flags limit i n space
 
 -- The first pair is stored.
-pub sweep-start : (D : Lent) (limit : ℕ) (space₀ space : List ℕ) (cover : List ℕ) → 0 < limit → length cover ≡ 16
-    → StartTold (D .states) (D .lists) (D .follow) (D .enter) (D .sizes) (D .accepting) (D .table) cover → Stored space₀ 0 1 cover 0 space
-    → SweepLoop D limit space 0 1 space
-sweep-start D limit space₀ space cover room sized started stored =
+pub sweep-start : (D : Lent) (w limit : ℕ) (space₀ space : List ℕ) (cover : List ℕ) → 0 < limit → length cover ≡ 16
+    → StartStands w (D .states) (D .lists) (D .follow) (D .enter) (D .sizes) (D .accepting) (D .table) cover → Stored space₀ 0 1 cover 0 space
+    → SweepLoop D w limit space 0 1 space
+sweep-start D w limit space₀ space cover room sized started stored =
     record {
       inside = omega arith;
       within = room;
@@ -240,8 +253,9 @@ sweep-start D limit space₀ space cover room sized started stored =
           record {
             entries = record { value = systemOf D flags .start; trail = [] } ∷ [];
             held =
-                holds-first (systemOf D flags) space
-                (stored-pair stored sized ∙ pair-path refl (started .told (p .proper) flags));
+                holds-first w (D .states) (systemOf D flags) space
+                (subst (Coded w (D .states) (systemOf D flags .start)) (sym (stored-pair stored sized))
+                (record { standing = refl; cover = started .told (p .proper) flags }));
             count = refl;
             left =
                 let e : limit - 0 ≡ limit = omega arith in
@@ -250,8 +264,8 @@ sweep-start D limit space₀ space cover room sized started stored =
           };
     }
 
-module _ (D : Lent) (limit : ℕ) (space₀ : List ℕ) (i n : ℕ) (space : List ℕ) (loop : SweepLoop D limit space₀ i n space) (more : i < n)
-    (r : Explored) (space′ : List ℕ) (told : RowTold D limit i n space r space′) where
+module _ (D : Lent) (w limit : ℕ) (space₀ : List ℕ) (i n : ℕ) (space : List ℕ) (loop : SweepLoop D w limit space₀ i n space) (more : i < n)
+    (r : Explored) (space′ : List ℕ) (told : RowTold D w limit i n space r space′) where
   beyond-both : (j : ℕ) → 18 * limit ≤ j → getD space′ j 0 ≡ getD space₀ j 0
   beyond-both j k = told .beyond j k ∙ loop .beyond j k
 
@@ -259,7 +273,7 @@ module _ (D : Lent) (limit : ℕ) (space₀ : List ℕ) (i n : ℕ) (space : Lis
   fuel = omega (arith, loop .within)
 
   -- The entry number i is done.
-  pub sweep-turn : (m : ℕ) → r ≡ All m → length space′ ≡ length space → SweepLoop D limit space₀ (i + 1) m space′
+  pub sweep-turn : (m : ℕ) → r ≡ All m → length space′ ≡ length space → SweepLoop D w limit space₀ (i + 1) m space′
   unfolding RowCase
   sweep-turn m e kept =
       record {
@@ -270,7 +284,7 @@ module _ (D : Lent) (limit : ℕ) (space₀ : List ℕ) (i n : ℕ) (space : Lis
         told = λ p flags.
             let s = loop .told p flags in
             let (entries, done, held, count) =
-            subst (RowCase D flags limit i (s .entries) space′) e (told .told p flags (s .entries) (s .held) (s .count)) in
+            subst (RowCase D w flags limit i (s .entries) space′) e (told .told p flags (s .entries) (s .held) (s .count)) in
             record {
               entries = entries;
               held = held;
@@ -284,7 +298,7 @@ module _ (D : Lent) (limit : ℕ) (space₀ : List ℕ) (i n : ℕ) (space : Lis
       }
 
   -- There are more pairs than the limit.
-  pub sweep-exceeds : r ≡ Over → PairsTold D limit space₀ Over space′
+  pub sweep-exceeds : r ≡ Over → PairsTold D w limit space₀ Over space′
   unfolding RowCase PairsCase pairs
   sweep-exceeds e =
       record {
@@ -292,17 +306,17 @@ module _ (D : Lent) (limit : ℕ) (space₀ : List ℕ) (i n : ℕ) (space : Lis
         beyond = beyond-both;
         told = λ p few room flags.
             let s = loop .told p flags in
-            let done = subst (RowCase D flags limit i (s .entries) space′) e (told .told p flags (s .entries) (s .held) (s .count)) in
+            let done = subst (RowCase D w flags limit i (s .entries) space′) e (told .told p flags (s .entries) (s .held) (s .count)) in
             sym (s .left)
             ∙ sym (ap (λ k. sweep (systemOf D flags) limit k i (s .entries)) fuel)
             ∙ sweep-over (systemOf D flags) limit (limit - (i + 1)) i (s .entries) (omega (arith, s .count)) done;
       }
 
 -- All entries are done.
-pub pairs-told : (D : Lent) (limit : ℕ) (space₀ : List ℕ) (i n : ℕ) (space : List ℕ) → SweepLoop D limit space₀ i n space → n ≤ i
-    → limit ≤ 4096 → 18 * limit ≤ length space₀ → PairsTold D limit space₀ (All n) space
+pub pairs-told : (D : Lent) (w limit : ℕ) (space₀ : List ℕ) (i n : ℕ) (space : List ℕ) → SweepLoop D w limit space₀ i n space → n ≤ i
+    → limit ≤ 4096 → 18 * limit ≤ length space₀ → PairsTold D w limit space₀ (All n) space
 unfolding PairsCase pairs
-pairs-told D limit space₀ i n space loop h most room =
+pairs-told D w limit space₀ i n space loop h most room =
     record {
       few = λ k q. let z : n ≡ k = cc in (omega (arith, loop .within), most, room);
       beyond = loop .beyond;
@@ -312,9 +326,9 @@ pairs-told D limit space₀ i n space loop h most room =
     }
 
 -- What is told after the first pair is stored is told of the workspace before.
-pub told-before : (D : Lent) (limit : ℕ) (space₀ space : List ℕ) (cover : List ℕ) (r : Explored) (space′ : List ℕ) → 0 < limit
-    → Stored space₀ 0 1 cover 0 space → PairsTold D limit space r space′ → PairsTold D limit space₀ r space′
-told-before D limit space₀ space cover r space′ room stored t =
+pub told-before : (D : Lent) (w limit : ℕ) (space₀ space : List ℕ) (cover : List ℕ) (r : Explored) (space′ : List ℕ) → 0 < limit
+    → Stored space₀ 0 1 cover 0 space → PairsTold D w limit space r space′ → PairsTold D w limit space₀ r space′
+told-before D w limit space₀ space cover r space′ room stored t =
     record {
       few = λ m e. let (few, most, fits) = t .few m e in (few, most, omega (arith, stored .size));
       beyond = λ j k. t .beyond j k ∙ stored .others j (λ x y. omega arith);
@@ -322,9 +336,9 @@ told-before D limit space₀ space cover r space′ room stored t =
     }
 
 -- No pair is allowed.
-pub pairs-none : (D : Lent) (limit : ℕ) (space : List ℕ) → limit ≡ 0 → PairsTold D limit space Over space
+pub pairs-none : (D : Lent) (w limit : ℕ) (space : List ℕ) → limit ≡ 0 → PairsTold D w limit space Over space
 unfolding PairsCase pairs
-pairs-none D limit space e =
+pairs-none D w limit space e =
     record {
       few = λ k q. let z : _≡_ {A = ℕ} 0 1 = cc in absurd (omega arith);
       beyond = λ j k. refl;
@@ -332,9 +346,9 @@ pairs-none D limit space e =
     }
 
 -- Nothing is promised.
-pub pairs-unfit : (D : Lent) (limit : ℕ) (space : List ℕ) → (Lending D → limit ≤ 4096 → 18 * limit ≤ length space → ⊥)
-    → PairsTold D limit space Over space
-pairs-unfit D limit space h =
+pub pairs-unfit : (D : Lent) (w limit : ℕ) (space : List ℕ) → (Lending D → limit ≤ 4096 → 18 * limit ≤ length space → ⊥)
+    → PairsTold D w limit space Over space
+pairs-unfit D w limit space h =
     record {
       few = λ k q. let z : _≡_ {A = ℕ} 0 1 = cc in absurd (omega arith);
       beyond = λ j k. refl;

@@ -9,6 +9,7 @@ use Rattle.theory.specs.Exploration.{System, Entry}
 use Rattle.theory.specs.Explored.{entryAt}
 use Rattle.places.specs.Words.{numberOf}
 use Rattle.verdict.specs.Pairs.{Pair}
+use Rattle.verdict.specs.Coded.{Coded}
 
 -- The n words from x on.
 unfoldable pub wordsAt : List ℕ → ℕ → ℕ → List ℕ
@@ -24,12 +25,16 @@ parentAt space i = getD space (18 * i + 17) 0 % 2 ^ 13
 abbrev pub labelAt : List ℕ → ℕ → ℕ
 labelAt space i = getD space (18 * i + 17) 0 / 2 ^ 13 % 2 ^ 6
 
--- The workspace holds the entries l: the value of each, and for each but the first the entry before it and the label.
-pub record Holds (S : System Pair) (space : List ℕ) (l : List (Entry Pair)) : Type 0 where
-  pub value : (i : ℕ) → i < length l → entryAt S l i .value ≡ pairAt space i
+-- The workspace tells how the entries l were reached: for each but the first the entry before it and the label.
+pub record Trails (S : System Pair) (space : List ℕ) (l : List (Entry Pair)) : Type 0 where
   pub first : entryAt S l 0 .trail ≡ []
   pub parent : (i : ℕ) → 0 < i → i < length l → parentAt space i < i
   pub trail : (i : ℕ) → 0 < i → i < length l → entryAt S l i .trail ≡ labelAt space i ∷ entryAt S l (parentAt space i) .trail
+
+-- It holds the entries l: the value of each, as it stands there (Coded), and how it was reached.
+pub record Holds (w n : ℕ) (S : System Pair) (space : List ℕ) (l : List (Entry Pair)) : Type 0 where
+  pub value : (i : ℕ) → i < length l → Coded w n (entryAt S l i .value) (pairAt space i)
+  pub trails : Trails S space l
 
 -- The pair number m is stored: `space` becomes `space′`.
 pub record Stored (space : List ℕ) (m standing : ℕ) (cover : List ℕ) (link : ℕ) (space′ : List ℕ) : Type 0 where

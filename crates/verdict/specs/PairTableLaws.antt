@@ -2,7 +2,7 @@
 use Prim.Native.Nat.{ℕ, zero, suc, _+_, _*_, _/_, _%_, _^_, _<_}
 use mathlib.Core.Bool.{Bool, true, false, _||_}
 use mathlib.Core.List.{List, [], _∷_, _++_}
-use mathlib.Core.Path.{_≡_, refl, sym, ap, ap₂, _∙_, subst}
+use mathlib.Core.Path.{_≡_, refl, sym, ap, ap₂, _∙_, subst, subst₂}
 use native.Mathlib.Decide.{ℕ-discrete}
 use native.Mathlib.Omega.{arith}
 use lib.ListN.{length, getD, length-append, List·getD-append}
@@ -12,6 +12,8 @@ use Rattle.theory.specs.Exploration.{System, Entry, known}
 use Rattle.theory.specs.Explored.{Tests, entryAt}
 use Rattle.places.specs.Words.{numberOf}
 use Rattle.verdict.specs.Pairs.{Pair}
+use Rattle.verdict.specs.Coded.{Coded}
+use Rattle.verdict.specs.CodedLaws.{pair-path, coded-from, coded-to}
 use Rattle.verdict.specs.PairTable.{wordsAt, pairAt, parentAt, labelAt, Holds, Stored, Seen}
 
 pub length-words : (space : List ℕ) (x n : ℕ) → length (wordsAt space x n) ≡ n
@@ -42,9 +44,6 @@ pub same-words : (space space′ : List ℕ) (x n : ℕ) → ((j : ℕ) → j < 
 same-words space space′ x n h =
     words-known space′ x n (wordsAt space x n) (length-words space x n) (λ j k. h j k ∙ sym (word-at space x n j k))
 
-pub pair-path : {s t c d : ℕ} → s ≡ t → c ≡ d → _≡_ {A = Pair} (record { standing = s; cover = c }) (record { standing = t; cover = d })
-pair-path p q i = record { standing = p i; cover = q i }
-
 -- What is stored is read again, and the other pairs are as they were.
 
 module _ {space : List ℕ} {m standing : ℕ} {cover : List ℕ} {link : ℕ} {space′ : List ℕ} (s : Stored space m standing cover link space′) where
@@ -68,28 +67,31 @@ module _ (S : System Pair) where
   pub earlier-entry : (l : List (Entry Pair)) (e : Entry Pair) (i : ℕ) → i < length l → entryAt S (l ++ (e ∷ [])) i ≡ entryAt S l i
   earlier-entry l e i h = List·getD-append l (e ∷ []) (record { value = S .start; trail = [] }) i h
 
-  pub holds-first : (space : List ℕ) → pairAt space 0 ≡ S .start → Holds S space (record { value = S .start; trail = [] } ∷ [])
+module _ (w n : ℕ) (S : System Pair) where
+  pub holds-first : (space : List ℕ) → Coded w n (S .start) (pairAt space 0) → Holds w n S space (record { value = S .start; trail = [] } ∷ [])
   holds-first space e =
       record {
-        value = λ i h. let z : i ≡ 0 = omega arith in subst (λ j. entryAt S (record { value = S .start; trail = [] } ∷ []) j .value ≡ pairAt space j) (sym z) (sym e);
-        first = refl;
-        parent = λ i h k. absurd (omega arith);
-        trail = λ i h k. absurd (omega arith);
+        value = λ i h. let z : i ≡ 0 = omega arith in subst (λ j. Coded w n (entryAt S (record { value = S .start; trail = [] } ∷ []) j .value) (pairAt space j)) (sym z) e;
+        trails = record { first = refl; parent = λ i h k. absurd (omega arith); trail = λ i h k. absurd (omega arith) };
       }
 
-  pub holds-more : (space space′ : List ℕ) (l : List (Entry Pair)) (i a standing : ℕ) (cover : List ℕ) → Holds S space l
-      → Stored space (length l) standing cover (a * 8192 + i) space′ → length cover ≡ 16 → i < length l → i < 8192 → a < 64
-      → Holds S space′ (l ++ (record { value = record { standing = standing; cover = numberOf cover }; trail = a ∷ entryAt S l i .trail } ∷ []))
-  holds-more space space′ l i a standing cover held s sized inside small few =
+  pub holds-more : (space space′ : List ℕ) (l : List (Entry Pair)) (i a : ℕ) (x : Pair) (standing : ℕ) (cover : List ℕ) → Holds w n S space l
+      → Stored space (length l) standing cover (a * 8192 + i) space′ → length cover ≡ 16
+      → Coded w n x (record { standing = standing; cover = numberOf cover }) → i < length l → i < 8192 → a < 64
+      → Holds w n S space′ (l ++ (record { value = x; trail = a ∷ entryAt S l i .trail } ∷ []))
+  holds-more space space′ l i a x standing cover held s sized coded inside small few =
       record {
         value = λ j h. value j (ℕ-discrete j (length l)) h;
-        first = ap (λ x. x .trail) (earlier-entry l new 0 (omega arith)) ∙ held .first;
-        parent = λ j p h. parent j p (ℕ-discrete j (length l)) h;
-        trail = λ j p h. trail j p (ℕ-discrete j (length l)) h;
+        trails =
+            record {
+              first = ap (λ e. e .trail) (earlier-entry S l new 0 (omega arith)) ∙ held .trails .first;
+              parent = λ j p h. parent j p (ℕ-discrete j (length l)) h;
+              trail = λ j p h. trail j p (ℕ-discrete j (length l)) h;
+            };
       }
     where
       new : Entry Pair
-      new = record { value = record { standing = standing; cover = numberOf cover }; trail = a ∷ entryAt S l i .trail }
+      new = record { value = x; trail = a ∷ entryAt S l i .trail }
 
       size : length (l ++ (new ∷ [])) ≡ suc (length l)
       size = length-append l (new ∷ []) ∙ omega arith
@@ -106,32 +108,32 @@ module _ (S : System Pair) where
       old-label : (j : ℕ) → j < length l → labelAt space′ j ≡ labelAt space j
       old-label j h = ap (λ x. x / 8192 % 64) (other-link s j h)
 
-      value : (j : ℕ) → Dec (j ≡ length l) → j < length (l ++ (new ∷ [])) → entryAt S (l ++ (new ∷ [])) j .value ≡ pairAt space′ j
+      value : (j : ℕ) → Dec (j ≡ length l) → j < length (l ++ (new ∷ [])) → Coded w n (entryAt S (l ++ (new ∷ [])) j .value) (pairAt space′ j)
       value j (yes e) h =
-          subst (λ k. entryAt S (l ++ (new ∷ [])) k .value ≡ pairAt space′ k) (sym e)
-          (ap (λ x. x .value) (last-entry l new) ∙ sym (stored-pair s sized))
+          subst (λ k. Coded w n (entryAt S (l ++ (new ∷ [])) k .value) (pairAt space′ k)) (sym e)
+          (subst₂ (λ y z. Coded w n y z) (sym (ap (λ e. e .value) (last-entry S l new))) (sym (stored-pair s sized)) coded)
       value j (no d) h =
           let b : j < length l = omega (arith, size) in
-          ap (λ x. x .value) (earlier-entry l new j b) ∙ held .value j b ∙ sym (other-pair s j b)
+          subst₂ (λ y z. Coded w n y z) (sym (ap (λ e. e .value) (earlier-entry S l new j b))) (sym (other-pair s j b)) (held .value j b)
 
       parent : (j : ℕ) → 0 < j → Dec (j ≡ length l) → j < length (l ++ (new ∷ [])) → parentAt space′ j < j
       parent j p (yes e) h = subst (λ k. parentAt space′ k < k) (sym e) (omega (arith, new-parent))
-      parent j p (no d) h = let b : j < length l = omega (arith, size) in omega (arith, old-parent j b, held .parent j p b)
+      parent j p (no d) h = let b : j < length l = omega (arith, size) in omega (arith, old-parent j b, held .trails .parent j p b)
 
       trail : (j : ℕ) → 0 < j → Dec (j ≡ length l) → j < length (l ++ (new ∷ []))
           → entryAt S (l ++ (new ∷ [])) j .trail ≡ labelAt space′ j ∷ entryAt S (l ++ (new ∷ [])) (parentAt space′ j) .trail
       trail j p (yes e) h =
           subst (λ k. entryAt S (l ++ (new ∷ [])) k .trail ≡ labelAt space′ k ∷ entryAt S (l ++ (new ∷ [])) (parentAt space′ k) .trail) (sym e)
-          (ap (λ x. x .trail) (last-entry l new)
+          (ap (λ x. x .trail) (last-entry S l new)
           ∙ ap₂ (λ x y. x ∷ y) (sym new-label)
-          (sym (ap (λ k. entryAt S (l ++ (new ∷ [])) k .trail) new-parent ∙ ap (λ x. x .trail) (earlier-entry l new i inside))))
+          (sym (ap (λ k. entryAt S (l ++ (new ∷ [])) k .trail) new-parent ∙ ap (λ x. x .trail) (earlier-entry S l new i inside))))
       trail j p (no d) h =
           let b : j < length l = omega (arith, size) in
-          let q : parentAt space j < length l = omega (arith, held .parent j p b) in
-          ap (λ x. x .trail) (earlier-entry l new j b)
-          ∙ held .trail j p b
+          let q : parentAt space j < length l = omega (arith, held .trails .parent j p b) in
+          ap (λ x. x .trail) (earlier-entry S l new j b)
+          ∙ held .trails .trail j p b
           ∙ ap₂ (λ x y. x ∷ y) (sym (old-label j b))
-          (sym (ap (λ k. entryAt S (l ++ (new ∷ [])) k .trail) (old-parent j b) ∙ ap (λ x. x .trail) (earlier-entry l new (parentAt space j) q)))
+          (sym (ap (λ k. entryAt S (l ++ (new ∷ [])) k .trail) (old-parent j b) ∙ ap (λ x. x .trail) (earlier-entry S l new (parentAt space j) q)))
 
 -- A value is known exactly where an entry has it.
 
@@ -155,14 +157,17 @@ module _ {A : Type 0} (S : System A) (tests : Tests S) where
       neither true e p = absurd (h 0 (omega arith) (sym (tests .sound x (f .value) e)))
       neither false e p = p
 
-module _ (S : System Pair) (tests : Tests S) (space : List ℕ) (l : List (Entry Pair)) (held : Holds S space l) (n : ℕ) (count : length l ≡ n)
-    (x : Pair) (r : Bool) (seen : Seen n space x r) where
+module _ (w n : ℕ) (S : System Pair) (tests : Tests S) (space : List ℕ) (l : List (Entry Pair)) (held : Holds w n S space l) (m : ℕ)
+    (count : length l ≡ m) (x y : Pair) (coded : Coded w n x y) (r : Bool) (seen : Seen m space y r) where
   pub seen-known : r ≡ true → known S x l ≡ true
   seen-known e =
       let (i, h, q) = seen .found e in
       let b : i < length l = omega (arith, count) in
-      known-found S tests x l i (record { value = S .start; trail = [] }) b (held .value i b ∙ q)
+      known-found S tests x l i (record { value = S .start; trail = [] }) b
+      (coded-from w n (entryAt S l i .value) x y (subst (Coded w n (entryAt S l i .value)) q (held .value i b)) coded)
 
-  pub seen-new : r ≡ false → known S x l ≡ false
-  seen-new e =
-      known-new S tests x l (record { value = S .start; trail = [] }) (λ i b q. seen .new e i (omega (arith, count)) (sym (held .value i b) ∙ q))
+  pub seen-new : 0 < n → r ≡ false → known S x l ≡ false
+  seen-new some e =
+      known-new S tests x l (record { value = S .start; trail = [] })
+      (λ i b q. seen .new e i (omega (arith, count))
+      (coded-to w n x (pairAt space i) y some (subst (λ z. Coded w n z (pairAt space i)) q (held .value i b)) coded))

@@ -1,10 +1,10 @@
--- What the exploration of pairs promises: the entries that `pairs` tells (Pairs) are held in the workspace (PairTable), or there are more
--- pairs than the allowance.
-use Prim.Native.Nat.{ℕ, _*_, _≤_, _<_}
+-- What the exploration of pairs promises: the entries that `pairs` tells (Pairs) are held in the workspace (PairTable), the cover sets turned
+-- where w, the width, is not 0; or there are more pairs than the allowance.
+use Prim.Native.Nat.{ℕ, _+_, _*_, _≤_, _<_}
 use mathlib.Core.List.{List}
 use mathlib.Core.Path.{_≡_}
-use lib.ListN.{length, getD}
-use Rattle.theory.specs.Automaton.{step}
+use lib.ListN.{length, getD, take}
+use Rattle.theory.specs.Automaton.{nexts, step}
 use Rattle.theory.specs.Exploration.{System, Entry, all, over, row}
 use Rattle.theory.specs.Explored.{entryAt}
 use Rattle.verdict.specs.Pairs.{Pair, pairSystem, pairs}
@@ -49,6 +49,10 @@ systemOf D flags =
     pairSystem (automatonAt (D .follow) (D .enter) (D .sizes) (D .accepting) 0) (D .labels) (rewritten (D .states) (D .table) flags)
     (automataOf (D .follow) (D .enter) (D .sizes) (D .accepting) (D .lists))
 
+-- The places of the query that can come next from a standing.
+pub record QueryFollows (follow sizes : List ℕ) (s r : ℕ) : Type 0 where
+  pub told : getD sizes 0 0 ≤ 63 → 64 ≤ length follow → 0 < length sizes → r ≡ nexts s (take (getD sizes 0 0 + 1) follow)
+
 -- The step of the query's standing.
 pub record QueryStep (follow enter sizes : List ℕ) (a s r : ℕ) : Type 0 where
   pub told : getD sizes 0 0 ≤ 63 → 64 ≤ length follow → 32 ≤ length enter → a < 32 → 0 < length sizes → (accepting : List ℕ)
@@ -56,31 +60,31 @@ pub record QueryStep (follow enter sizes : List ℕ) (a s r : ℕ) : Type 0 wher
 
 -- The labels of one entry.
 
-unfoldable pub RowCase : (D : Lent) (flags : List ℕ) (limit i : ℕ) (l : List (Entry Pair)) (space′ : List ℕ) → Explored → Type 0
-RowCase D flags limit i l space′ (All m) =
+unfoldable pub RowCase : (D : Lent) (w : ℕ) (flags : List ℕ) (limit i : ℕ) (l : List (Entry Pair)) (space′ : List ℕ) → Explored → Type 0
+RowCase D w flags limit i l space′ (All m) =
     (more : List (Entry Pair)) × (row (systemOf D flags) limit (entryAt (systemOf D flags) l i) (D .labels) 0 l ≡ all more)
-    × Holds (systemOf D flags) space′ more × (length more ≡ m)
-RowCase D flags limit i l space′ Over = row (systemOf D flags) limit (entryAt (systemOf D flags) l i) (D .labels) 0 l ≡ over
+    × Holds w (D .states) (systemOf D flags) space′ more × (length more ≡ m)
+RowCase D w flags limit i l space′ Over = row (systemOf D flags) limit (entryAt (systemOf D flags) l i) (D .labels) 0 l ≡ over
 
-pub record RowTold (D : Lent) (limit i n : ℕ) (space : List ℕ) (r : Explored) (space′ : List ℕ) : Type 0 where
+pub record RowTold (D : Lent) (w limit i n : ℕ) (space : List ℕ) (r : Explored) (space′ : List ℕ) : Type 0 where
   pub bounds : (m : ℕ) → r ≡ All m → (n ≤ m) × (m ≤ limit)
   pub beyond : (j : ℕ) → 18 * limit ≤ j → getD space′ j 0 ≡ getD space j 0
-  pub told : Lending D → (flags : List ℕ) (l : List (Entry Pair)) → Holds (systemOf D flags) space l → length l ≡ n
-      → RowCase D flags limit i l space′ r
+  pub told : Lending D → (flags : List ℕ) (l : List (Entry Pair)) → Holds w (D .states) (systemOf D flags) space l
+      → length l ≡ n → RowCase D w flags limit i l space′ r
 
 -- All entries.
 
-unfoldable pub PairsCase : (D : Lent) (flags : List ℕ) (limit : ℕ) (space′ : List ℕ) → Explored → Type 0
-PairsCase D flags limit space′ (All m) =
+unfoldable pub PairsCase : (D : Lent) (w : ℕ) (flags : List ℕ) (limit : ℕ) (space′ : List ℕ) → Explored → Type 0
+PairsCase D w flags limit space′ (All m) =
     (l : List (Entry Pair))
     × (pairs (automatonAt (D .follow) (D .enter) (D .sizes) (D .accepting) 0) (D .labels) (rewritten (D .states) (D .table) flags)
     (automataOf (D .follow) (D .enter) (D .sizes) (D .accepting) (D .lists)) limit ≡ all l)
-    × Holds (systemOf D flags) space′ l × (length l ≡ m)
-PairsCase D flags limit space′ Over =
+    × Holds w (D .states) (systemOf D flags) space′ l × (length l ≡ m)
+PairsCase D w flags limit space′ Over =
     pairs (automatonAt (D .follow) (D .enter) (D .sizes) (D .accepting) 0) (D .labels) (rewritten (D .states) (D .table) flags)
     (automataOf (D .follow) (D .enter) (D .sizes) (D .accepting) (D .lists)) limit ≡ over
 
-pub record PairsTold (D : Lent) (limit : ℕ) (space : List ℕ) (r : Explored) (space′ : List ℕ) : Type 0 where
+pub record PairsTold (D : Lent) (w limit : ℕ) (space : List ℕ) (r : Explored) (space′ : List ℕ) : Type 0 where
   pub few : (m : ℕ) → r ≡ All m → (m ≤ limit) × (limit ≤ 4096) × (18 * limit ≤ length space)
   pub beyond : (j : ℕ) → 18 * limit ≤ j → getD space′ j 0 ≡ getD space j 0
-  pub told : Lending D → limit ≤ 4096 → 18 * limit ≤ length space → (flags : List ℕ) → PairsCase D flags limit space′ r
+  pub told : Lending D → limit ≤ 4096 → 18 * limit ≤ length space → (flags : List ℕ) → PairsCase D w flags limit space′ r

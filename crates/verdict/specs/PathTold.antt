@@ -10,16 +10,16 @@ use lib.Seq.{drop-cons, take-set-lt, drop-set-lt, getD-set-same, getD-set-other,
 use Rattle.theory.specs.Exploration.{System, Entry}
 use Rattle.theory.specs.Explored.{entryAt}
 use Rattle.verdict.specs.Pairs.{Pair}
-use Rattle.verdict.specs.PairTable.{parentAt, labelAt, Holds}
+use Rattle.verdict.specs.PairTable.{parentAt, labelAt, Trails}
 
 pub record DepthTold (space : List ℕ) (i r : ℕ) : Type 0 where
   pub few : r ≤ i
-  pub told : (S : System Pair) (l : List (Entry Pair)) → Holds S space l → i < length l → r ≡ length (entryAt S l i .trail)
+  pub told : (S : System Pair) (l : List (Entry Pair)) → Trails S space l → i < length l → r ≡ length (entryAt S l i .trail)
 
 -- The pair number j is d labels before the pair number i.
 pub record DepthLoop (space : List ℕ) (i j d : ℕ) : Type 0 where
   pub few : d + j ≤ i
-  pub told : (S : System Pair) (l : List (Entry Pair)) → Holds S space l → i < length l
+  pub told : (S : System Pair) (l : List (Entry Pair)) → Trails S space l → i < length l
       → length (entryAt S l i .trail) ≡ d + length (entryAt S l j .trail)
 
 pub depth-start : (space : List ℕ) (i : ℕ) → DepthLoop space i i 0
@@ -51,7 +51,7 @@ depth-wrong space i j d s some more =
 pub record PathWritten (space : List ℕ) (i d : ℕ) (path path′ : List ℕ) : Type 0 where
   pub size : length path′ ≡ length path
   pub rest : (n : ℕ) → d ≤ n → getD path′ n 0 ≡ getD path n 0
-  pub told : d ≤ length path → (S : System Pair) (l : List (Entry Pair)) → Holds S space l → i < length l → d ≡ length (entryAt S l i .trail)
+  pub told : d ≤ length path → (S : System Pair) (l : List (Entry Pair)) → Trails S space l → i < length l → d ≡ length (entryAt S l i .trail)
       → take d path′ ≡ reverse (entryAt S l i .trail)
 
 -- The labels from k on are written, and the path of the pair number j comes before them.
@@ -60,10 +60,10 @@ pub record WriteLoop (space : List ℕ) (i d : ℕ) (path₀ : List ℕ) (j k : 
   pub room : d ≤ length path
   pub size : length path ≡ length path₀
   pub rest : (n : ℕ) → d ≤ n → getD path n 0 ≡ getD path₀ n 0
-  pub reached : (S : System Pair) (l : List (Entry Pair)) → Holds S space l → i < length l → d ≡ length (entryAt S l i .trail) → j < length l
-  pub length-left : (S : System Pair) (l : List (Entry Pair)) → Holds S space l → i < length l → d ≡ length (entryAt S l i .trail)
+  pub reached : (S : System Pair) (l : List (Entry Pair)) → Trails S space l → i < length l → d ≡ length (entryAt S l i .trail) → j < length l
+  pub length-left : (S : System Pair) (l : List (Entry Pair)) → Trails S space l → i < length l → d ≡ length (entryAt S l i .trail)
       → length (entryAt S l j .trail) ≡ k
-  pub left : (S : System Pair) (l : List (Entry Pair)) → Holds S space l → i < length l → d ≡ length (entryAt S l i .trail)
+  pub left : (S : System Pair) (l : List (Entry Pair)) → Trails S space l → i < length l → d ≡ length (entryAt S l i .trail)
       → reverse (entryAt S l i .trail) ≡ reverse (entryAt S l j .trail) ++ drop k (take d path)
 
 pub write-start : (space : List ℕ) (i d : ℕ) (path : List ℕ) → d ≤ length path → WriteLoop space i d path i d path
@@ -109,14 +109,14 @@ write-turn space i d path₀ j k path s more =
           ∙ ap (λ x. reverse t ++ x) (sym (written-front d (k - 1) (labelAt space j) path (omega (arith, s .inside)) (s .room)));
     }
   where
-    later : (S : System Pair) (l : List (Entry Pair)) → Holds S space l → i < length l → d ≡ length (entryAt S l i .trail) → 0 < j
+    later : (S : System Pair) (l : List (Entry Pair)) → Trails S space l → i < length l → d ≡ length (entryAt S l i .trail) → 0 < j
     later S l held b e = go (ℕ-discrete j 0)
       where
         go : Dec (j ≡ 0) → 0 < j
         go (yes z) = absurd (omega (arith, s .length-left S l held b e, ap length (ap (λ x. entryAt S l x .trail) z ∙ held .first)))
         go (no z) = omega arith
 
-    step : (S : System Pair) (l : List (Entry Pair)) → Holds S space l → i < length l → d ≡ length (entryAt S l i .trail)
+    step : (S : System Pair) (l : List (Entry Pair)) → Trails S space l → i < length l → d ≡ length (entryAt S l i .trail)
         → entryAt S l j .trail ≡ labelAt space j ∷ entryAt S l (parentAt space j) .trail
     step S l held b e = held .trail j (later S l held b e) (s .reached S l held b e)
 

@@ -63,14 +63,14 @@ pub record Placed (states n : ℕ) (sizes : List ℕ) (most w : ℕ) : Type 0 wh
   pub few : 0 < w → (states * w ≤ most) × (most ≤ 1024)
   pub many : Counted n sizes → most ≤ 1024 → w ≡ 0 → most < states * suc (occupied sizes 0 n)
 
--- Of n pairs that are held, the first missed one.
+-- Of n pairs that are held, turned where c is not 0, the first missed one.
 
 abbrev pub JudgedAs : ℕ → List ℕ → Told → List ℕ → Option Path → Type 0
 JudgedAs n path r path′ none = (r ≡ Complete n) × (path′ ≡ path)
 JudgedAs n path r path′ (some p) = (r ≡ Missed (length p) n) × (take (length p) path′ ≡ p) × (drop (length p) path′ ≡ drop (length p) path)
 
-pub record Judged (states : ℕ) (flags : List ℕ) (w ends n : ℕ) (space path : List ℕ) (r : Told) (path′ : List ℕ) : Type 0 where
+pub record Judged (states : ℕ) (flags : List ℕ) (w c ends n : ℕ) (space path : List ℕ) (r : Told) (path′ : List ℕ) : Type 0 where
   pub told : n ≤ length path → (A : Automaton) (table : List ℕ) (lists : List Automaton) → A .accepting ≡ ends → width lists ≡ w
-      → (S : System Pair) (l : List (Entry Pair)) → Holds S space l → length l ≡ n
+      → (S : System Pair) (l : List (Entry Pair)) → Holds c states S space l → length l ≡ n
       → JudgedAs n path r path′ (firstMissed A (rewritten states table flags) lists l)
   pub beyond : (j : ℕ) → n ≤ j → getD path′ j 0 ≡ getD path j 0

@@ -11,7 +11,8 @@ use Rattle.places.specs.Words.{numberOf}
 use Rattle.places.specs.WordsLaws.{number-same}
 use Rattle.verdict.specs.Pairs.{Pair}
 use Rattle.verdict.specs.PairTable.{wordsAt, pairAt, Stored}
-use Rattle.verdict.specs.PairTableLaws.{length-words, word-at, words-below, words-known, pair-path}
+use Rattle.verdict.specs.CodedLaws.{pair-path}
+use Rattle.verdict.specs.PairTableLaws.{length-words, word-at, words-below, words-known}
 
 -- The pair of a standing and a cover set as words.
 abbrev pub pair : ℕ → List ℕ → Pair

@@ -1,14 +1,16 @@
 // Cover sets by columns, where there are at most 64 states: the column of the offset o is the word of the states q with width × q + o in
 // the set.
-ghost use Prim.Native.Nat.{ℕ, _+_, _*_, _≤_, _<_};
+ghost use Prim.Native.Nat.{ℕ, _+_, _*_, _^_, _≤_, _<_};
 ghost use mathlib.Core.Path.{_≡_};
 ghost use lib.ListN.{length, getD};
-ghost use Rattle.theory.specs.Places.{Member, one, unionOver};
+ghost use Rattle.theory.specs.Places.{Member};
+ghost use Rattle.places.specs.Words.{numberOf};
+ghost use Rattle.verdict.specs.Turned.{Stacked};
 ghost use Rattle.verdict.specs.CoverTold.{Gains};
-ghost use Rattle.verdict.specs.Columns.{ColumnsOf, SetOf};
+ghost use Rattle.verdict.specs.Columns.{ColumnsOf};
 use crate::clear::clear_words;
+use crate::rows::row_at;
 use places::wide::Wide;
-use places::words::add_word;
 use places::words::next_place;
 
 // The columns of a cover set: its places in their order, the state q and its first place `base` moving on with them.
@@ -33,29 +35,57 @@ pub fn columns_of(places: &[u64], w: u64, states: u64, columns: &mut [u64; 1024]
     }
 }
 
-// Adds the places that the states of a column have with the offset o.
-pub fn put_column(column: u64, w: u64, o: u64, into: &mut [u64])
-    requires { ⌜ (w ≤ 1024) × (o < 1024) × (length (now into) ≡ 16) ⌝ }
-    ensures { λ _. ⌜ Gains (now (into .entry)) (unionOver (λ q. one (w * q + o)) 64 column) (now (into .exit)) ⌝ }
+// The columns of a turned set: that of the offset o stands at n × o.
+pub fn columns_at(words: &[u64], w: u64, n: u64, columns: &mut [u64; 1024])
+    requires { ⌜ (length (now words) ≡ 16) × (0 < w) × (0 < n) × (n ≤ 64) × (n * w ≤ 1024) ⌝ }
+    ensures { λ _. ⌜ Stacked w n (now (columns .exit)) (numberOf (now (words .entry))) ⌝ }
 {
-    let mut rest = column;
-    while rest != 0 {
-        let p = w * (u64::trailing_zeros(rest) as u64) + o;
-        add_word(into, (p / 64) as usize, 1 << (p % 64));
-        rest = rest & (rest - 1);
+    let stack: &mut [u64] = columns;
+    let mut at: u64 = 0;
+    let mut o: u64 = 0;
+    while o < w {
+        stack[o as usize] = row_at(words, at, n);
+        at += n;
+        o += 1;
     }
 }
 
-// The cover set of columns.
-pub fn set_of(columns: &[u64; 1024], w: u64, states: u64) -> Wide
-    requires { ⌜ (0 < w) × (0 < states) × (states ≤ 64) × (states * w ≤ 1024)
-        × ((q o : ℕ) → o < w → Member q (getD (now columns) o 0) → q < states) ⌝ }
-    ensures { λ r. ⌜ SetOf w states (now (columns .entry)) (r .words) ⌝ }
+// Adds the places of one word, as the word number `index`.
+fn put_word(words: &mut [u64], index: usize, word: u64)
+    requires { ⌜ (length (now words) ≡ 16) × (index < 16) ⌝ }
+    ensures { λ _. ⌜ Gains (now (words .entry)) (word * 2 ^ (64 * index)) (now (words .exit)) ⌝ }
+{
+    words[index] = words[index] | word;
+}
+
+// Adds a column, of n states, at the place `at`: a second word is touched only where the column reaches into it.
+fn put_at(words: &mut [u64], column: u64, at: u64, n: u64)
+    requires { ⌜ (length (now words) ≡ 16) × (column < 2 ^ n) × (0 < n) × (n ≤ 64) × (at + n ≤ 1024) ⌝ }
+    ensures { λ _. ⌜ Gains (now (words .entry)) (column * 2 ^ at) (now (words .exit)) ⌝ }
+{
+    let index = (at / 64) as usize;
+    let bits = at % 64;
+    put_word(words, index, column << bits);
+    if 64 < bits + n {
+        put_word(words, index + 1, column >> (64 - bits));
+    }
+}
+
+// The turned set of columns.
+pub fn pack(columns: &[u64; 1024], w: u64, n: u64) -> Wide
+    requires { ⌜ (0 < w) × (0 < n) × (n ≤ 64) × (n * w ≤ 1024)
+        × ((q o : ℕ) → o < w → Member q (getD (now columns) o 0) → q < n) ⌝ }
+    ensures { λ r. ⌜ Stacked w n (now (columns .entry)) (numberOf (r .words)) × (numberOf (r .words) < 2 ^ (n * w)) ⌝ }
 {
     let mut words = [0; 16];
+    let mut at: u64 = 0;
     let mut o: u64 = 0;
     while o < w {
-        put_column(columns[o as usize], w, o, &mut words);
+        let column = columns[o as usize];
+        if column != 0 {
+            put_at(&mut words, column, at, n);
+        }
+        at += n;
         o += 1;
     }
     Wide { words }

@@ -1,38 +1,58 @@
-// The step of a cover set over a label: by rows or by columns where these are prepared, else place by place or by rows of any number of
-// states.
+// Cover sets as they stand in the workspace, turned where a width is given: the first one, and the step over a label.
 ghost use Prim.Native.Nat.{_*_, _≤_, _<_};
-ghost use mathlib.Core.Bool.{true, false};
 ghost use mathlib.Core.Path.{_≡_};
-ghost use Rattle.verdict.specs.Columns.{ColumnsOf};
-ghost use Rattle.verdict.specs.CoverTold.{StepTold};
+ghost use Rattle.places.specs.Words.{numberOf};
+ghost use Rattle.verdict.specs.CoverTold.{StartStands, StepStands};
 ghost use Rattle.verdict.specs.NextCover.{Laid};
-ghost use Rattle.verdict.specs.RowTables.{RowsFollowed};
+ghost use Rattle.verdict.specs.Prepared.{Prepared};
+ghost use Rattle.verdict.specs.Turned.{Stacked};
 use crate::column_steps::step_columns;
+use crate::columns::columns_at;
 use crate::columns::columns_of;
-use crate::columns::set_of;
+use crate::columns::pack;
+use crate::cover::cover_start;
 use crate::cover::cover_step;
-use crate::row_step::step_rows;
-use crate::row_tables::follow_rows;
 use places::wide::Wide;
 
-// What a step needs of a set, for all labels: its rows followed, where steps by rows are prepared; its columns, where steps by columns with
-// the width w are.
-pub fn lay(states: u64, w: u64, rowed: bool, follows: &[u64; 64], set: Wide, laid: &mut [u64; 1024])
-    requires { ⌜ (0 < w → (0 < states) × (states ≤ 64) × (states * w ≤ 1024)) × (rowed ≡ true → (0 < w) × (w ≤ 64)) ⌝ }
-    ensures { λ _. ⌜ (rowed ≡ true → RowsFollowed (now (follows .entry)) w states (set .words) (now (laid .exit)))
-        × (rowed ≡ false → 0 < w → ColumnsOf w states (set .words) (now (laid .exit))) ⌝ }
+// The cover set of the empty path. `laid` is for its columns.
+pub fn first_cover(
+    states: u64,
+    table: &[u16],
+    follow: &[u64],
+    enter: &[u64],
+    sizes: &[u64],
+    accepting: &[u64],
+    lists: usize,
+    w: u64,
+    before: &[u64; 1024],
+    ended: &[u64; 1024],
+    laid: &mut [u64; 1024],
+) -> Wide
+    requires { ⌜ (0 < w → Prepared states lists (now follow) (now enter) (now sizes) (now accepting) (now table) w (now before) (now ended)) ⌝ }
+    ensures { λ r. ⌜ StartStands w states lists (now (follow .entry)) (now (enter .entry)) (now (sizes .entry)) (now (accepting .entry)) (now (table .entry))
+        (r .words) ⌝ }
 {
-    let words = set.words;
-    if rowed {
-        follow_rows(follows, &words, w, states, laid);
-        return;
-    }
+    let start = cover_start(states, table, follow, enter, sizes, accepting, lists);
     if 0 < w {
+        let words = start.words;
         columns_of(&words, w, states, laid);
+        return pack(laid, w, states);
+    }
+    start
+}
+
+// The columns of a set that stands turned, for all labels.
+pub fn lay(states: u64, w: u64, set: Wide, laid: &mut [u64; 1024])
+    requires { ⌜ (0 < w → (0 < states) × (states ≤ 64) × (states * w ≤ 1024)) ⌝ }
+    ensures { λ _. ⌜ (0 < w → Stacked w states (now (laid .exit)) (numberOf (set .words))) ⌝ }
+{
+    if 0 < w {
+        let words = set.words;
+        columns_at(&words, w, states, laid);
     }
 }
 
-// The next cover set. `laid` has what was laid of the set, `next` is for the columns of the next one.
+// The next cover set. `laid` has the columns of the set, `next` is for those of the next one.
 pub fn next_cover(
     states: u64,
     table: &[u16],
@@ -41,27 +61,19 @@ pub fn next_cover(
     sizes: &[u64],
     accepting: &[u64],
     lists: usize,
-    labels: usize,
     a: usize,
     set: Wide,
     w: u64,
     before: &[u64; 1024],
     ended: &[u64; 1024],
-    rowed: bool,
-    follows: &[u64; 64],
-    enters: &[u64; 32],
-    ends: &[u64; 16],
     laid: &[u64; 1024],
     next: &mut [u64; 1024],
 ) -> Wide
-    requires { ⌜ Laid states lists labels (now follow) (now enter) (now sizes) (now accepting) (now table) w (now before) (now ended) rowed
-        (now follows) (now enters) (now ends) (set .words) (now laid) × (a < labels) × (labels ≤ 32) ⌝ }
-    ensures { λ r. ⌜ StepTold states lists (now (follow .entry)) (now (enter .entry)) (now (sizes .entry)) (now (accepting .entry)) (now (table .entry)) a (set .words)
-        (r .words) ⌝ }
+    requires { ⌜ Laid states lists (now follow) (now enter) (now sizes) (now accepting) (now table) w (now before) (now ended) (set .words)
+        (now laid) × (a < 32) ⌝ }
+    ensures { λ r. ⌜ StepStands w states lists (now (follow .entry)) (now (enter .entry)) (now (sizes .entry)) (now (accepting .entry)) (now (table .entry)) a
+        (set .words) (r .words) ⌝ }
 {
-    if rowed {
-        return step_rows(laid, enters[a], ends, ended, lists, w, states);
-    }
     if 0 < w {
         step_columns(
             enter,
@@ -75,7 +87,7 @@ pub fn next_cover(
             laid,
             next,
         );
-        return set_of(next, w, states);
+        return pack(next, w, states);
     }
     cover_step(
         states,

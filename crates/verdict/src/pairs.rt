@@ -1,24 +1,21 @@
 // Pairs (document 01, "Pair") by exploration over the labels, in a lent workspace.
-ghost use Prim.Native.Nat.{_+_, _*_, _≤_, _<_};
-ghost use mathlib.Core.Bool.{true};
+ghost use Prim.Native.Nat.{ℕ, _+_, _*_, _≤_, _<_};
+ghost use mathlib.Core.List.{List};
 ghost use mathlib.Core.Path.{_≡_};
 ghost use lib.ListN.{length};
 ghost use Rattle.verdict.specs.PairTable.{Stored};
 ghost use Rattle.verdict.specs.Workspace.{Put, pair};
 ghost use Rattle.verdict.specs.PairIndex.{bucketOf, Indexed, IndexedAll};
-ghost use Rattle.verdict.specs.PairsTold.{lent, QueryStep, RowTold, PairsTold};
+ghost use Rattle.verdict.specs.PairsTold.{lent, QueryFollows, QueryStep, RowTold, PairsTold};
 ghost use Rattle.verdict.specs.Prepared.{Prepared};
-ghost use Rattle.verdict.specs.PreparedRows.{PreparedRows};
-use crate::cover::cover_start;
 use crate::index::bucket;
 use crate::index::note;
 use crate::index::seen;
+use crate::next_cover::first_cover;
 use crate::next_cover::lay;
 use crate::next_cover::next_cover;
-use crate::prepared::prepared;
-use crate::prepared_rows::prepared_rows;
 use crate::workspace::load;
-use finding::step::step;
+use finding::step::follows;
 use places::Places;
 use places::wide::Wide;
 
@@ -73,9 +70,9 @@ fn add(
     note(heads, nexts, at, m);
 }
 
-// The step of the query's standing over the label a.
-fn query_step(follow: &[u64], enter: &[u64], sizes: &[u64], a: usize, standing: u64) -> u64
-    ensures { λ r. ⌜ QueryStep (now (follow .entry)) (now (enter .entry)) (now (sizes .entry)) a standing r ⌝ }
+// The places of the query that can come next from a standing.
+fn query_follows(follow: &[u64], sizes: &[u64], standing: u64) -> u64
+    ensures { λ r. ⌜ QueryFollows (now (follow .entry)) (now (sizes .entry)) standing r ⌝ }
 {
     if sizes.len() == 0 {
         return 0;
@@ -87,16 +84,24 @@ fn query_step(follow: &[u64], enter: &[u64], sizes: &[u64], a: usize, standing: 
     if follow.len() < 64 {
         return 0;
     }
-    if enter.len() <= a {
-        return 0;
-    }
     let n = (size + 1) as usize;
-    let next = step(&follow[..n], Places(enter[a]), Places(standing));
+    let next = follows(&follow[..n], Places(standing));
     next.0
 }
 
-// The pairs that the labels lead to from the pair number i: those that are new go behind the n that are found. Where w is not 0, steps by
-// columns are prepared, and by rows where `rowed` says so; `laid` and `next` are for the columns or rows of two cover sets.
+// The standing that the label a leads to, of the places that can come next.
+fn query_step(after: u64, enter: &[u64], a: usize) -> u64
+    ensures { λ r. ⌜ ((follow sizes : List ℕ) (standing : ℕ) → QueryFollows follow sizes standing after
+        → QueryStep follow (now (enter .entry)) sizes a standing r) ⌝ }
+{
+    if enter.len() <= a {
+        return 0;
+    }
+    after & enter[a]
+}
+
+// The pairs that the labels lead to from the pair number i: those that are new go behind the n that are found. Where w is not 0, cover sets
+// stand turned and steps by columns are prepared; `laid` and `next` are for the columns of two of them.
 fn row(
     states: u64,
     table: &[u16],
@@ -112,10 +117,6 @@ fn row(
     w: u64,
     before: &[u64; 1024],
     ended: &[u64; 1024],
-    rowed: bool,
-    follows: &[u64; 64],
-    enters: &[u64; 32],
-    ends: &[u64; 16],
     laid: &mut [u64; 1024],
     next: &mut [u64; 1024],
     workspace: &mut [u64],
@@ -124,19 +125,19 @@ fn row(
 ) -> Explored
     requires { ⌜ (i < n) × (n ≤ limit) × (limit ≤ 4096) × (labels ≤ 32) × (18 * limit ≤ length (now workspace))
         × Indexed (now workspace) n (now heads) (now nexts)
-        × (0 < w → Prepared states lists (now follow) (now enter) (now sizes) (now accepting) (now table) w (now before) (now ended))
-        × (rowed ≡ true → PreparedRows lists labels (now follow) (now enter) (now sizes) (now accepting) w (now follows) (now enters) (now ends)) ⌝ }
+        × (0 < w → Prepared states lists (now follow) (now enter) (now sizes) (now accepting) (now table) w (now before) (now ended)) ⌝ }
     ensures { λ r. ⌜ RowTold (lent states labels lists (now (follow .entry)) (now (enter .entry)) (now (sizes .entry)) (now (accepting .entry)) (now (table .entry)))
-        limit i n (now (workspace .entry)) r (now (workspace .exit)) ⌝ }
+        w limit i n (now (workspace .entry)) r (now (workspace .exit)) ⌝ }
     ensures indexed { λ r. ⌜ IndexedAll (now (workspace .exit)) (now (heads .exit)) (now (nexts .exit)) r ⌝ }
 {
     let from = workspace[18 * i];
     let set = load(workspace, i);
-    lay(states, w, rowed, follows, set, laid);
+    lay(states, w, set, laid);
+    let after = query_follows(follow, sizes, from);
     let mut m = n;
     let mut a = 0;
     while a < labels {
-        let standing = query_step(follow, enter, sizes, a, from);
+        let standing = query_step(after, enter, a);
         let cover = next_cover(
             states,
             table,
@@ -145,16 +146,11 @@ fn row(
             sizes,
             accepting,
             lists,
-            labels,
             a,
             set,
             w,
             before,
             ended,
-            rowed,
-            follows,
-            enters,
-            ends,
             laid,
             next,
         );
@@ -172,8 +168,8 @@ fn row(
     Explored::All(m as u64)
 }
 
-// All pairs from the first on, as long as there are no more than the limit. The index, the columns and the rows take about 49 KiB of the
-// thread's stack.
+// All pairs from the first on, as long as there are no more than the limit. The index and the columns take about 33 KiB of the thread's
+// stack.
 fn sweep(
     states: u64,
     table: &[u16],
@@ -184,22 +180,21 @@ fn sweep(
     lists: usize,
     labels: usize,
     limit: usize,
+    w: u64,
+    before: &[u64; 1024],
+    ended: &[u64; 1024],
     workspace: &mut [u64],
 ) -> Explored
-    requires { ⌜ (0 < limit) × (limit ≤ 4096) × (labels ≤ 32) × (18 * limit ≤ length (now workspace)) ⌝ }
+    requires { ⌜ (0 < limit) × (limit ≤ 4096) × (labels ≤ 32) × (18 * limit ≤ length (now workspace))
+        × (0 < w → Prepared states lists (now follow) (now enter) (now sizes) (now accepting) (now table) w (now before) (now ended)) ⌝ }
     ensures { λ r. ⌜ PairsTold (lent states labels lists (now (follow .entry)) (now (enter .entry)) (now (sizes .entry)) (now (accepting .entry)) (now (table .entry)))
-        limit (now (workspace .entry)) r (now (workspace .exit)) ⌝ }
+        w limit (now (workspace .entry)) r (now (workspace .exit)) ⌝ }
 {
     let mut heads: [u16; 4093] = [0; 4093];
     let mut nexts: [u16; 4096] = [0; 4096];
-    let mut before: [u64; 1024] = [0; 1024];
-    let mut ended: [u64; 1024] = [0; 1024];
-    let mut follows: [u64; 64] = [0; 64];
-    let mut enters: [u64; 32] = [0; 32];
-    let mut ends: [u64; 16] = [0; 16];
     let mut laid: [u64; 1024] = [0; 1024];
     let mut next: [u64; 1024] = [0; 1024];
-    let w = prepared(
+    let first = first_cover(
         states,
         table,
         follow,
@@ -207,22 +202,11 @@ fn sweep(
         sizes,
         accepting,
         lists,
-        &mut before,
-        &mut ended,
-    );
-    let rowed = prepared_rows(
-        follow,
-        enter,
-        sizes,
-        accepting,
-        lists,
-        labels,
         w,
-        &mut follows,
-        &mut enters,
-        &mut ends,
+        before,
+        ended,
+        &mut laid,
     );
-    let first = cover_start(states, table, follow, enter, sizes, accepting, lists);
     let at = bucket(1, first);
     add(workspace, &mut heads, &mut nexts, at, 0, 1, first, 0);
     let mut n: usize = 1;
@@ -241,12 +225,8 @@ fn sweep(
             i,
             n,
             w,
-            &before,
-            &ended,
-            rowed,
-            &follows,
-            &enters,
-            &ends,
+            before,
+            ended,
             &mut laid,
             &mut next,
             workspace,
@@ -262,7 +242,7 @@ fn sweep(
     Explored::All(n as u64)
 }
 
-// All pairs, as long as there are no more than the allowance, which is at most 4,096.
+// All pairs, as long as there are no more than the allowance, which is at most 4,096. Where w is not 0, cover sets stand turned.
 pub fn pairs(
     states: u64,
     table: &[u16],
@@ -273,10 +253,14 @@ pub fn pairs(
     lists: usize,
     labels: usize,
     allowance: u64,
+    w: u64,
+    before: &[u64; 1024],
+    ended: &[u64; 1024],
     workspace: &mut [u64],
 ) -> Explored
+    requires { ⌜ (0 < w → Prepared states lists (now follow) (now enter) (now sizes) (now accepting) (now table) w (now before) (now ended)) ⌝ }
     ensures { λ r. ⌜ PairsTold (lent states labels lists (now (follow .entry)) (now (enter .entry)) (now (sizes .entry)) (now (accepting .entry)) (now (table .entry)))
-        allowance (now (workspace .entry)) r (now (workspace .exit)) ⌝ }
+        w allowance (now (workspace .entry)) r (now (workspace .exit)) ⌝ }
 {
     let limit = allowance as usize;
     if limit == 0 {
@@ -301,6 +285,9 @@ pub fn pairs(
         lists,
         labels,
         limit,
+        w,
+        before,
+        ended,
         workspace,
     )
 }

@@ -5,13 +5,14 @@ ghost use lib.ListN.{length};
 ghost use Rattle.places.specs.Words.{numberOf};
 ghost use Rattle.verdict.specs.PairTable.{pairAt};
 ghost use Rattle.verdict.specs.PairsTold.{lent};
-ghost use Rattle.verdict.specs.Missing.{Yields, missesWith, FirstTold};
+ghost use Rattle.verdict.specs.Missing.{gap, Yields, missesWith, FirstTold};
 ghost use Rattle.verdict.specs.VerdictTold.{Placed, Judged, VerdictTold};
 use crate::cover::width;
 use crate::pairs::Explored;
 use crate::pairs::pairs;
 use crate::path::depth;
 use crate::path::write_path;
+use crate::prepared::prepared;
 use crate::workspace::load;
 use places::wide::Wide;
 use syntax::Refusal;
@@ -24,7 +25,7 @@ pub enum Told {
     Refused(Refusal),
 }
 
-// The cover places whose state, alone, accepts.
+// The places of the states that accept, alone, which stand w apart.
 fn yielding(flags: &[u8], states: u64, w: u64) -> Wide
     requires { ⌜ (0 < w) × (states * w ≤ 1024) × (states ≤ length (now flags)) ⌝ }
     ensures { λ r. ⌜ Yields (now (flags .entry)) w states (r .words) ⌝ }
@@ -70,20 +71,28 @@ fn first_missed(workspace: &[u64], n: usize, ends: u64, yields: Wide) -> usize
     i
 }
 
-// Tells the first missed path of n pairs, and writes it.
+// How far apart the states alone stand: a width, or side by side where sets stand turned.
+fn gap(turned: u64, w: u64) -> u64
+    ensures { λ r. ⌜ r ≡ gap turned w ⌝ }
+{
+    if turned == 0 { w } else { 1 }
+}
+
+// Tells the first missed path of n pairs, and writes it. Cover sets stand turned where `turned`, which is then the width, is not 0.
 fn judged(
     states: u64,
     flags: &[u8],
     w: u64,
+    turned: u64,
     ends: u64,
     n: usize,
     workspace: &[u64],
     path: &mut [u8],
 ) -> Told
-    requires { ⌜ (0 < w) × (states * w ≤ 1024) × (states ≤ length (now flags)) × (18 * n ≤ length (now workspace)) ⌝ }
-    ensures { λ r. ⌜ Judged states (now (flags .entry)) w ends n (now (workspace .entry)) (now (path .entry)) r (now (path .exit)) ⌝ }
+    requires { ⌜ (0 < w) × (states * w ≤ 1024) × (0 < turned → turned ≡ w) × (states ≤ length (now flags)) × (18 * n ≤ length (now workspace)) ⌝ }
+    ensures { λ r. ⌜ Judged states (now (flags .entry)) w turned ends n (now (workspace .entry)) (now (path .entry)) r (now (path .exit)) ⌝ }
 {
-    let i = first_missed(workspace, n, ends, yielding(flags, states, w));
+    let i = first_missed(workspace, n, ends, yielding(flags, states, gap(turned, w)));
     if i == n {
         return Told::Complete(n as u64);
     }
@@ -141,6 +150,19 @@ pub fn verdict(
     if accepting.len() == 0 {
         return Told::Refused(Refusal::TooManyPlaces);
     }
+    let mut before: [u64; 1024] = [0; 1024];
+    let mut ended: [u64; 1024] = [0; 1024];
+    let turned = prepared(
+        states,
+        table,
+        follow,
+        enter,
+        sizes,
+        accepting,
+        lists,
+        &mut before,
+        &mut ended,
+    );
     let found = pairs(
         states,
         table,
@@ -151,10 +173,22 @@ pub fn verdict(
         lists,
         labels,
         allowance,
+        turned,
+        &before,
+        &ended,
         workspace,
     );
     let Explored::All(n) = found else {
         return Told::Refused(Refusal::TooManyPairs);
     };
-    judged(states, flags, w, accepting[0], n as usize, workspace, path)
+    judged(
+        states,
+        flags,
+        w,
+        turned,
+        accepting[0],
+        n as usize,
+        workspace,
+        path,
+    )
 }

@@ -6,19 +6,19 @@ use Rattle.verdict.proofs.pairs.pairs.Statement.{statement}
 use Rattle.verdict.proofs.pairs.pairs.Tie as tie
 
 returns : tie.Need-returns
-returns c = pairs-none _ _ _ (c .if1 .taken)
+returns c = pairs-none _ _ _ _ (c .if1 .taken)
 
 returns-2 : tie.Need-returns-2
-returns-2 c = pairs-unfit _ _ _ (λ p few room. omega (arith, c .if2 .taken))
+returns-2 c = pairs-unfit _ _ _ _ (λ p few room. omega (arith, c .if2 .taken))
 
 returns-3 : tie.Need-returns-3
-returns-3 c = pairs-unfit _ _ _ (λ p few room. omega (arith, c .if3 .taken, p .few-labels))
+returns-3 c = pairs-unfit _ _ _ _ (λ p few room. omega (arith, c .if3 .taken, p .few-labels))
 
 mul-if4 : tie.Need-mul-if4
 mul-if4 c = search needs
 
 returns-4 : tie.Need-returns-4
-returns-4 c = pairs-unfit _ _ _ (λ p few room. omega (arith, c .if4 .taken))
+returns-4 c = pairs-unfit _ _ _ _ (λ p few room. omega (arith, c .if4 .taken))
 
 sweep-requires : tie.Need-sweep-requires
 sweep-requires c κs = search needs

@@ -15,12 +15,12 @@ use Rattle.verdict.proofs.pairs.row.Statement.{statement}
 use Rattle.verdict.proofs.pairs.row.Tie as tie
 
 abbrev Inv-loop : tie.InvT-loop
-Inv-loop states table follow enter sizes accepting lists labels limit i n w before ended rowed follows enters ends laid next₀ workspace₀ heads₀ nexts₀ from set m₀ a₀ next workspace heads nexts m a =
-    RowLoop (lent states labels lists follow enter sizes accepting table) limit i n workspace₀ a m workspace
+Inv-loop states table follow enter sizes accepting lists labels limit i n w before ended laid next₀ workspace₀ heads₀ nexts₀ from set after m₀ a₀ next workspace heads nexts m a =
+    RowLoop (lent states labels lists follow enter sizes accepting table) w limit i n workspace₀ a m workspace
     × Indexed workspace m heads nexts
 
 abbrev μ-loop : tie.MeasureT-loop
-μ-loop states table follow enter sizes accepting lists labels limit i n w before ended rowed follows enters ends laid next₀ workspace₀ heads₀ nexts₀ from set m₀ a₀ next workspace heads nexts m a =
+μ-loop states table follow enter sizes accepting lists labels limit i n w before ended laid next₀ workspace₀ heads₀ nexts₀ from set after m₀ a₀ next workspace heads nexts m a =
     labels - a
 
 mul-from : tie.Need-mul-from Inv-loop μ-loop
@@ -36,32 +36,31 @@ load-requires : tie.Need-load-requires Inv-loop μ-loop
 load-requires c κs = search needs
 
 lay-requires : tie.Need-lay-requires Inv-loop μ-loop
-lay-requires c κs =
-    let s = c .before .before .before .before .before .before .before .before .before .before in
-    (λ h. let p = s .pre .6 h in (p .some, p .few, p .ready .few-places), λ h. let r = s .pre .7 h in (r .some, r .few))
+lay-requires c κs = λ h. let p = c .before .before .before .before .before .before .before .before .before .before .pre .6 h in (p .some, p .few, p .ready .few-places)
+
+query-follows-requires : tie.Need-query-follows-requires Inv-loop μ-loop
+query-follows-requires c κs = search needs
 
 loop-holds : tie.Need-loop-holds Inv-loop μ-loop
 loop-holds c =
-    let s = c .before .before .before .before .before .before .before .before .before .before .before in
-    (row-start _ _ _ _ _ (s .pre .1), s .pre .5)
+    let s = c .before .before .before .before .before .before .before .before .before .before .before .before in
+    (row-start _ _ _ _ _ _ (s .pre .1), s .pre .5)
 
 query-step-requires : tie.Need-query-step-requires Inv-loop μ-loop
 query-step-requires c κs = search needs
 
 next-cover-requires : tie.Need-next-cover-requires Inv-loop μ-loop
 next-cover-requires c κs =
-    let s = c .before .before .before .before .before .before .before .before .before .before .before .before .before .before .before .before in
-    let laid = c .before .before .before .before .before .lay .ensures in
-    (record { prepared = s .pre .6; rows = s .pre .7; followed = laid .0; columned = laid .1 }, c .before .before .before .loop-test .taken, s .pre .3)
+    let s = c .before .before .before .before .before .before .before .before .before .before .before .before .before .before .before .before .before in
+    (record { prepared = s .pre .6; stacked = c .before .before .before .before .before .before .lay .ensures }, omega (arith, c .before .before .before .loop-test .taken, s .pre .3))
 
 bucket-requires : tie.Need-bucket-requires Inv-loop μ-loop
 bucket-requires c κs = search needs
 
 seen-requires : tie.Need-seen-requires Inv-loop μ-loop
 seen-requires c κs =
-    let in-loop = c .before .before .before .before .before .before .before .before in
-    let s = in-loop .before .before .before .before .before .before .before .before .before .before .before .before .before in
-    let l = in-loop .before .loop in (
+    let s = c .before .before .before .before .before .before .before .before .before .before .before .before .before .before .before .before .before .before .before .before .before .before in
+    let l = c .before .before .before .before .before .before .before .before .before .loop in (
       omega (arith, l .inv .0 .within, l .inv .0 .size, s .pre .4),
       omega (arith, l .inv .0 .within, s .pre .2),
       c .before .before .before .bucket .ensures,
@@ -74,19 +73,19 @@ same-length c = c .before .before .before .before .before .before .before .befor
 returns : tie.Need-returns Inv-loop μ-loop
 returns c =
     let seen = c .before .before in
-    let w = seen .before .before .before .before .before .next-cover in
-    let q = seen .before .before .before .before .before .before .before .before .query-step in
-    let in-loop = seen .before .before .before .before .before .before .before .before .before in
-    let l = in-loop .before .loop in
-    let load = in-loop .before .before .before .before .load in
-    let s = in-loop .before .before .before .before .before .before .before .before .before .before .before .before .before in (
-      row-exceeds _ _ _ _ _ (l .a) (l .m) _ (l .inv .0) (in-loop .loop-test .taken) (s .pre .0) (q .result) (w .result .words)
+    let w = c .before .before .before .before .before .before .before .next-cover in
+    let q = c .before .before .before .before .before .before .before .before .before .before .query-step in
+    let l = c .before .before .before .before .before .before .before .before .before .before .before .before .loop in
+    let after = c .before .before .before .before .before .before .before .before .before .before .before .before .before .query-follows .ensures in
+    let load = c .before .before .before .before .before .before .before .before .before .before .before .before .before .before .before .before .load in
+    let s = c .before .before .before .before .before .before .before .before .before .before .before .before .before .before .before .before .before .before .before .before .before .before .before .before .before in (
+      row-exceeds _ _ _ _ _ _ (l .a) (l .m) _ (l .inv .0) (c .before .before .before .before .before .before .before .before .before .before .before .loop-test .taken) (s .pre .0) (q .result) (w .result .words)
           (record {
             from = getD (s .args .workspace .now) (18 * s .args .i) 0;
             from-at = refl;
             words = load .result .words;
             words-at = load .ensures (omega (arith, s .pre .0, s .pre .1, s .pre .4));
-            query = q .ensures;
+            query = q .ensures _ _ _ after;
             covered = w .ensures;
           })
           (seen .seen .result) (seen .seen .ensures) (not-true (seen .seen .result) (c .before .if1 .taken)) (omega (arith, c .if2 .taken)),
@@ -96,19 +95,19 @@ returns c =
 mul-link : tie.Need-mul-link Inv-loop μ-loop
 mul-link c =
     let in-loop = c .before .before .before .before .before .before .before .before .before .before .before in
-    let s = in-loop .before .before .before .before .before .before .before .before .before .before .before .before .before in
+    let s = in-loop .before .before .before .before .before .before .before .before .before .before .before .before .before .before in
     omega (arith, in-loop .loop-test .taken, s .pre .3)
 
 add-link : tie.Need-add-link Inv-loop μ-loop
 add-link c =
     let in-loop = c .before .before .before .before .before .before .before .before .before .before .before in
-    let s = in-loop .before .before .before .before .before .before .before .before .before .before .before .before .before in
+    let s = in-loop .before .before .before .before .before .before .before .before .before .before .before .before .before .before in
     omega (arith, in-loop .loop-test .taken, s .pre .0, s .pre .1, s .pre .2, s .pre .3)
 
 add-requires : tie.Need-add-requires Inv-loop μ-loop
 add-requires c κs =
     let in-loop = c .before .before .before .before .before .before .before .before .before .before .before .before .before .before in
-    let s = in-loop .before .before .before .before .before .before .before .before .before .before .before .before .before in
+    let s = in-loop .before .before .before .before .before .before .before .before .before .before .before .before .before .before in
     let l = in-loop .before .loop in
     let m : l .m < s .args .limit = omega (arith, l .inv .0 .within, c .before .before .before .if2 .left) in (
       omega (arith, m, l .inv .0 .size, s .pre .4),
@@ -121,13 +120,13 @@ add-m : tie.Need-add-m Inv-loop μ-loop
 add-m c =
     let call = c .before .before .before .before .before in
     let in-loop = call .before .before .before .before .before .before .before .before .before .before .before .before in
-    let s = in-loop .before .before .before .before .before .before .before .before .before .before .before .before .before in
+    let s = in-loop .before .before .before .before .before .before .before .before .before .before .before .before .before .before in
     omega (arith, in-loop .before .loop .inv .0 .within, s .pre .2)
 
 add-a : tie.Need-add-a Inv-loop μ-loop
 add-a c =
     let in-loop = c .before .before .before .before .before .before .before .before .before .before in
-    let s = in-loop .before .before .before .before .before .before .before .before .before .before .before .before .before in
+    let s = in-loop .before .before .before .before .before .before .before .before .before .before .before .before .before .before in
     omega (arith, in-loop .loop-test .taken, s .pre .3)
 
 loop-less : tie.Need-loop-less Inv-loop μ-loop
@@ -140,32 +139,33 @@ loop-again c =
     let q = seen .before .before .before .before .before .before .before .before .query-step in
     let in-loop = seen .before .before .before .before .before .before .before .before .before in
     let l = in-loop .before .loop in
-    let load = in-loop .before .before .before .before .load in
-    let s = in-loop .before .before .before .before .before .before .before .before .before .before .before .before .before in
+    let after = in-loop .before .before .query-follows .ensures in
+    let load = in-loop .before .before .before .before .before .load in
+    let s = in-loop .before .before .before .before .before .before .before .before .before .before .before .before .before .before in
     let D =
     lent (s .args .states) (s .args .labels) (s .args .lists) (s .args .follow .now) (s .args .enter .now) (s .args .sizes .now)
     (s .args .accepting .now) (s .args .table .now) in
-    let step : Stepped D (s .args .workspace .now) (s .args .i) (l .a) (q .result) (w .result .words) =
+    let step : Stepped D (s .args .w) (s .args .workspace .now) (s .args .i) (l .a) (q .result) (w .result .words) =
     record {
       from = getD (s .args .workspace .now) (18 * s .args .i) 0;
       from-at = refl;
       words = load .result .words;
       words-at = load .ensures (omega (arith, s .pre .0, s .pre .1, s .pre .4));
-      query = q .ensures;
+      query = q .ensures _ _ _ after;
       covered = w .ensures;
     } in
     ⊎-elim
     (λ x. (
-      subst₂ (RowLoop D (s .args .limit) (s .args .i) (s .args .n) (s .args .workspace .now) (l .a + 1)) (sym (x .11)) (sym (x .8))
-          (row-new D _ _ _ _ (l .a) (l .m) _ (l .inv .0) (in-loop .loop-test .taken) (s .pre .0) (q .result) (w .result .words) step
+      subst₂ (RowLoop D (s .args .w) (s .args .limit) (s .args .i) (s .args .n) (s .args .workspace .now) (l .a + 1)) (sym (x .11)) (sym (x .8))
+          (row-new D _ _ _ _ _ (l .a) (l .m) _ (l .inv .0) (in-loop .loop-test .taken) (s .pre .0) (q .result) (w .result .words) step
           (seen .seen .result) (x .5 .last .0) (seen .seen .ensures) (not-true (seen .seen .result) (x .0 .taken))
           (omega (arith, l .inv .0 .within, x .1 .left)) (s .pre .2)
           (array-count 16 (w .result .words) _ (w .ok .1 .1 .0)) (x .5 .ensures .0)),
       indexed-same (x .8) (x .9) (x .10) (x .11) (x .5 .ensures .1),
     ))
     (λ x. (
-      subst₂ (RowLoop D (s .args .limit) (s .args .i) (s .args .n) (s .args .workspace .now) (l .a + 1)) (sym (x .4)) (sym (x .1))
-          (row-known D _ _ _ _ (l .a) (l .m) _ (l .inv .0) (in-loop .loop-test .taken) (s .pre .0) (q .result) (w .result .words) step
+      subst₂ (RowLoop D (s .args .w) (s .args .limit) (s .args .i) (s .args .n) (s .args .workspace .now) (l .a + 1)) (sym (x .4)) (sym (x .1))
+          (row-known D _ _ _ _ _ (l .a) (l .m) _ (l .inv .0) (in-loop .loop-test .taken) (s .pre .0) (q .result) (w .result .words) step
           (seen .seen .result) (seen .seen .ensures) (not-false (seen .seen .result) (x .0 .left))),
       indexed-same (x .1) (x .2) (x .3) (x .4) (l .inv .1),
     ))
@@ -177,7 +177,7 @@ same-length-2 c = c .before .loop .inv .0 .size
 returns-2 : tie.Need-returns-2 Inv-loop μ-loop
 returns-2 c =
     let l = c .before .loop in
-    (row-told _ _ _ _ _ (l .a) (l .m) _ (l .inv .0) (c .loop-test .left), indexed-all (l .inv .1))
+    (row-told _ _ _ _ _ _ (l .a) (l .m) _ (l .inv .0) (c .loop-test .left), indexed-all (l .inv .1))
 
 pub row-spec : {M : Type 1} → statement M
 row-spec =
@@ -190,6 +190,7 @@ row-spec =
     slice-read-from
     load-requires
     lay-requires
+    query-follows-requires
     loop-holds
     query-step-requires
     next-cover-requires

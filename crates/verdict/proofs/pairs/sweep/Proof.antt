@@ -12,56 +12,44 @@ use Rattle.verdict.proofs.pairs.sweep.Statement.{statement}
 use Rattle.verdict.proofs.pairs.sweep.Tie as tie
 
 abbrev Inv-loop : tie.InvT-loop
-Inv-loop states table follow enter sizes accepting lists labels limit workspace₀ heads₀ nexts₀ before ended follows enters ends laid₀ next₀ w rowed at n₀ i₀ workspace heads nexts laid next n i =
-    SweepLoop (lent states labels lists follow enter sizes accepting table) limit workspace₀ i n workspace × Indexed workspace n heads nexts
+Inv-loop states table follow enter sizes accepting lists labels limit w before ended workspace₀ heads₀ nexts₀ laid₀ next₀ at n₀ i₀ workspace heads nexts laid next n i =
+    SweepLoop (lent states labels lists follow enter sizes accepting table) w limit workspace₀ i n workspace × Indexed workspace n heads nexts
 
 abbrev μ-loop : tie.MeasureT-loop
-μ-loop states table follow enter sizes accepting lists labels limit workspace₀ heads₀ nexts₀ before ended follows enters ends laid₀ next₀ w rowed at n₀ i₀ workspace heads nexts laid next n i = limit - i
+μ-loop states table follow enter sizes accepting lists labels limit w before ended workspace₀ heads₀ nexts₀ laid₀ next₀ at n₀ i₀ workspace heads nexts laid next n i = limit - i
 
-prepared-requires : tie.Need-prepared-requires Inv-loop μ-loop
-prepared-requires c κs = search needs
-
-prepared-rows-requires : tie.Need-prepared-rows-requires Inv-loop μ-loop
-prepared-rows-requires c κs = (
-  λ h. let r = c .before .before .before .prepared .ensures h .ready in (r .counted, r .follow-room, r .enter-room, r .accepting-room, r .wide),
-  c .before .before .before .before .before .before .before .before .before .before .before .before .pre .2,
-)
-
-cover-start-requires : tie.Need-cover-start-requires Inv-loop μ-loop
-cover-start-requires c κs = search needs
+first-cover-requires : tie.Need-first-cover-requires Inv-loop μ-loop
+first-cover-requires c κs = c .before .before .before .before .before .before .before .pre .4
 
 bucket-requires : tie.Need-bucket-requires Inv-loop μ-loop
 bucket-requires c κs = search needs
 
 add-requires : tie.Need-add-requires Inv-loop μ-loop
 add-requires c κs =
-    let s = c .before .before .before .before .before .before .before .before .before .before .before .before .before .before .before .before .before .before in
+    let s = c .before .before .before .before .before .before .before .before .before .before .before .before in
     (omega (arith, s .pre .0, s .pre .3), omega arith, c .before .before .before .bucket .ensures, indexed-none (s .args .workspace .now))
 
 loop-holds : tie.Need-loop-holds Inv-loop μ-loop
 loop-holds c =
     let first = c .before .before in
-    let cover = first .before .before .before .before .before .cover-start in
-    let s = first .before .before .before .before .before .before .before .before .before .before .before .before .before .before .before .before .before .before .before in (
-      sweep-start _ _ (s .args .workspace .now) (first .add .last .0) (cover .result .words) (s .pre .0)
+    let cover = c .before .before .before .before .before .before .before .first-cover in
+    let s = c .before .before .before .before .before .before .before .before .before .before .before .before .before .before .before in (
+      sweep-start _ _ _ (s .args .workspace .now) (first .add .last .0) (cover .result .words) (s .pre .0)
           (array-count 16 (cover .result .words) _ (cover .ok .1 .1 .0)) (cover .ensures) (first .add .ensures .0),
       first .add .ensures .1,
     )
 
 row-requires : tie.Need-row-requires Inv-loop μ-loop
 row-requires c κs =
-    let head = c .before .before .before .before .before .before .before .before .before .before .before in
-    let l = head .loop in
-    let first = head .before .before .before in
-    let s = first .before .before .before .before .before .before .before .before .before .before .before .before .before .before .before .before .before .before .before in (
-      c .before .before .before .before .before .before .before .before .before .before .loop-test .taken,
+    let l = c .before .before .before .before .before .before .loop in
+    let s = c .before .before .before .before .before .before .before .before .before .before .before .before .before .before .before .before .before .before .before .before .before .before in (
+      c .before .before .before .before .before .loop-test .taken,
       l .inv .0 .within,
       s .pre .1,
       s .pre .2,
-      omega (arith, l .inv .0 .size, first .add .ensures .0 .size, s .pre .3),
+      omega (arith, l .inv .0 .size, c .before .before .before .before .before .before .before .before .before .add .ensures .0 .size, s .pre .3),
       l .inv .1,
-      c .before .before .before .before .before .before .before .before .before .before .before .before .before .before .before .before .before .before .before .before .before .before .before .before .prepared .ensures,
-      c .before .before .before .before .before .before .before .before .before .before .before .before .before .before .before .before .before .before .before .before .prepared-rows .ensures,
+      s .pre .4,
     )
 
 enum-known-found : tie.Need-enum-known-found Inv-loop μ-loop
@@ -71,46 +59,31 @@ enum-told : tie.Need-enum-told Inv-loop μ-loop
 enum-told c = search needs
 
 same-length : tie.Need-same-length Inv-loop μ-loop
-same-length c =
-    let head = c .before .before .before .before .before .before .before .before .before .before .before .before .before .before .before .before in
-    c .before .before .before .before .row .kept .1 .1 .1 .1 .1 .1 .1 .1 .1 .1 .1 .1 .1 .1 .1 .1 .1 .1 .1 .1 .0
-    ∙ head .loop .inv .0 .size ∙ head .before .before .before .add .ensures .0 .size
+same-length c = c .before .before .before .before .row .kept .1 .1 .1 .1 .1 .1 .1 .1 .1 .1 .1 .1 .1 .1 .1 .1 .0 ∙ c .before .before .before .before .before .before .before .before .before .before .before .loop .inv .0 .size ∙ c .before .before .before .before .before .before .before .before .before .before .before .before .before .before .add .ensures .0 .size
 
 returns : tie.Need-returns Inv-loop μ-loop
 returns c =
-    let head = c .before .before .before .before .before .before .before .before .before .before .before .before .before .before .before .before in
-    let l = head .loop in
-    let first = head .before .before .before in
-    let s = first .before .before .before .before .before .before .before .before .before .before .before .before .before .before .before .before .before .before .before in
-    let turn = c .before .before .before .before .before .before .before .before .before .before .before .before .before .before .before in
+    let l = c .before .before .before .before .before .before .before .before .before .before .before .loop in
+    let first = c .before .before .before .before .before .before .before .before .before .before .before .before .before .before in
+    let s = c .before .before .before .before .before .before .before .before .before .before .before .before .before .before .before .before .before .before .before .before .before .before .before .before .before .before .before in
     let r = c .before .before .before .before .row in
-    told-before _ _ _ (first .add .last .0) _ _ (r .last .1 .1 .1 .1 .1 .1 .1 .1 .1 .1 .1 .1 .1 .1 .1 .1 .1 .1 .1 .1 .0) (s .pre .0) (first .add .ensures .0)
-    (sweep-exceeds _ _ (first .add .last .0) (l .i) (l .n) (l .workspace) (l .inv .0) (turn .loop-test .taken)
-    (r .result) (r .last .1 .1 .1 .1 .1 .1 .1 .1 .1 .1 .1 .1 .1 .1 .1 .1 .1 .1 .1 .1 .0) (r .ensures .0) (c .enum-told .given .1))
+    told-before _ _ _ _ (first .add .last .0) _ _ (r .last .1 .1 .1 .1 .1 .1 .1 .1 .1 .1 .1 .1 .1 .1 .1 .1 .0) (s .pre .0) (first .add .ensures .0)
+    (sweep-exceeds _ _ _ (first .add .last .0) (l .i) (l .n) (l .workspace) (l .inv .0) (c .before .before .before .before .before .before .before .before .before .before .loop-test .taken)
+    (r .result) (r .last .1 .1 .1 .1 .1 .1 .1 .1 .1 .1 .1 .1 .1 .1 .1 .1 .0) (r .ensures .0) (c .enum-told .given .1))
 
 add-i : tie.Need-add-i Inv-loop μ-loop
-add-i c =
-    let head = c .before .before .before .before .before .before .before .before .before .before .before .before .before .before .before .before .before in
-    let s = head .before .before .before .before .before .before .before .before .before .before .before .before .before .before .before .before .before .before .before .before .before .before in
-    let turn = c .before .before .before .before .before .before .before .before .before .before .before .before .before .before .before .before in
-    omega (arith, turn .loop-test .taken, head .loop .inv .0 .within, s .pre .1)
+add-i c = omega (arith, c .before .before .before .before .before .before .before .before .before .before .before .loop-test .taken, c .before .before .before .before .before .before .before .before .before .before .before .before .loop .inv .0 .within, c .before .before .before .before .before .before .before .before .before .before .before .before .before .before .before .before .before .before .before .before .before .before .before .before .before .before .before .before .pre .1)
 
 loop-less : tie.Need-loop-less Inv-loop μ-loop
-loop-less c =
-    let head = c .before .before .before .before .before .before .before .before .before .before .before .before .before .before .before .before .before in
-    omega (arith, c .before .before .before .before .before .before .before .before .before .before .before .before .before .before .before .before .loop-test .taken, head .loop .inv .0 .within)
+loop-less c = omega (arith, c .before .before .before .before .before .before .before .before .before .before .before .loop-test .taken, c .before .before .before .before .before .before .before .before .before .before .before .before .loop .inv .0 .within)
 
 loop-again : tie.Need-loop-again Inv-loop μ-loop
 loop-again c =
-    let head = c .before .before .before .before .before .before .before .before .before .before .before .before .before .before .before .before .before in
-    let l = head .loop in
-    let first = head .before .before .before in
-    let s = first .before .before .before .before .before .before .before .before .before .before .before .before .before .before .before .before .before .before .before in
-    let turn = c .before .before .before .before .before .before .before .before .before .before .before .before .before .before .before .before in
+    let l = c .before .before .before .before .before .before .before .before .before .before .before .before .loop in
+    let first = c .before .before .before .before .before .before .before .before .before .before .before .before .before .before .before in
     let r = c .before .before .before .before .before .row in (
-      sweep-turn _ _ (first .add .last .0) (l .i) (l .n) (l .workspace) (l .inv .0) (turn .loop-test .taken) (r .result)
-          (r .last .1 .1 .1 .1 .1 .1 .1 .1 .1 .1 .1 .1 .1 .1 .1 .1 .1 .1 .1 .1 .0) (r .ensures .0) _ (c .before .found .given .1)
-          (r .kept .1 .1 .1 .1 .1 .1 .1 .1 .1 .1 .1 .1 .1 .1 .1 .1 .1 .1 .1 .1 .0),
+      sweep-turn _ _ _ (first .add .last .0) (l .i) (l .n) (l .workspace) (l .inv .0) (c .before .before .before .before .before .before .before .before .before .before .before .loop-test .taken) (r .result)
+          (r .last .1 .1 .1 .1 .1 .1 .1 .1 .1 .1 .1 .1 .1 .1 .1 .1 .0) (r .ensures .0) _ (c .before .found .given .1) (r .kept .1 .1 .1 .1 .1 .1 .1 .1 .1 .1 .1 .1 .1 .1 .1 .1 .0),
       r .ensures .1 _ (c .before .found .given .1),
     )
 
@@ -119,12 +92,11 @@ same-length-2 c = c .before .loop .inv .0 .size ∙ c .before .before .before .b
 
 returns-2 : tie.Need-returns-2 Inv-loop μ-loop
 returns-2 c =
-    let head = c .before in
-    let l = head .loop in
-    let first = head .before .before .before in
-    let s = first .before .before .before .before .before .before .before .before .before .before .before .before .before .before .before .before .before .before .before in
-    told-before _ _ _ (first .add .last .0) _ _ (l .workspace) (s .pre .0) (first .add .ensures .0)
-    (pairs-told _ _ (first .add .last .0) (l .i) (l .n) (l .workspace) (l .inv .0) (c .loop-test .left) (s .pre .1)
+    let l = c .before .loop in
+    let first = c .before .before .before .before in
+    let s = c .before .before .before .before .before .before .before .before .before .before .before .before .before .before .before .before .before in
+    told-before _ _ _ _ (first .add .last .0) _ _ (l .workspace) (s .pre .0) (first .add .ensures .0)
+    (pairs-told _ _ _ (first .add .last .0) (l .i) (l .n) (l .workspace) (l .inv .0) (c .loop-test .left) (s .pre .1)
     (omega (arith, s .pre .3, first .add .ensures .0 .size)))
 
 pub sweep-spec : {M : Type 1} → statement M
@@ -133,9 +105,7 @@ sweep-spec =
     (tie.spec
     Inv-loop
     μ-loop
-    prepared-requires
-    prepared-rows-requires
-    cover-start-requires
+    first-cover-requires
     bucket-requires
     add-requires
     loop-holds

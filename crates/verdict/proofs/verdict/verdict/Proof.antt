@@ -1,6 +1,6 @@
 -- The four ways through the definition.
 use Prim.Native.Nat.{_<_}
-use mathlib.Core.Path.{subst}
+use mathlib.Core.Path.{sym, _∙_, subst}
 use Rattle.verdict.specs.PairsTold.{lent}
 use Rattle.verdict.specs.VerdictTold.{Placed}
 use Rattle.verdict.specs.Judging.{told-places, told-unfit, told-pairs, told-judged}
@@ -28,8 +28,11 @@ returns-3 c =
     let s = c .before .before .before .before .before .before .before .before .before .before .before .before in
     told-unfit (lent (s .args .states) (s .args .labels) (s .args .lists) (s .args .follow .now) (s .args .enter .now) (s .args .sizes .now) (s .args .accepting .now) (s .args .table .now)) (s .args .flags .now) (s .args .most) (s .args .allowance) (s .args .workspace .now) (s .args .path .now) _ (λ f. omega (arith, f .accepting-room, c .if3 .taken))
 
+prepared-requires : tie.Need-prepared-requires
+prepared-requires c κs = search needs
+
 pairs-requires : tie.Need-pairs-requires
-pairs-requires c κs = search needs
+pairs-requires c κs = c .before .before .before .prepared .ensures
 
 enum-known-found : tie.Need-enum-known-found
 enum-known-found c = search needs
@@ -38,36 +41,46 @@ enum-told : tie.Need-enum-told
 enum-told c = search needs
 
 same-length : tie.Need-same-length
-same-length c = c .before .before .before .before .pairs .kept .1 .1 .1 .1 .1 .1 .1 .1 .1 .0
+same-length c = c .before .before .before .before .pairs .kept .1 .1 .1 .1 .1 .1 .1 .1 .1 .1 .1 .1 .0
 
 returns-4 : tie.Need-returns-4
 returns-4 c =
-    let s = c .before .before .before .before .before .before .before .before .before .before .before .before .before .before .before .before .before .before in
-    told-pairs (lent (s .args .states) (s .args .labels) (s .args .lists) (s .args .follow .now) (s .args .enter .now) (s .args .sizes .now) (s .args .accepting .now) (s .args .table .now)) (s .args .flags .now) (s .args .most) (s .args .allowance) (c .before .before .before .before .before .before .before .before .before .placed .result) (c .before .before .before .before .before .before .before .before .before .placed .ensures) (omega (arith, c .before .before .before .before .before .before .before .before .if1 .left)) (s .args .workspace .now) (s .args .path .now)
-    (c .before .before .before .before .pairs .result) (c .before .before .before .before .pairs .last .1 .1 .1 .1 .1 .1 .1 .1 .1 .0) (c .before .before .before .before .pairs .ensures) (c .enum-told .given .1)
+    let s = c .before .before .before .before .before .before .before .before .before .before .before .before .before .before .before .before .before .before .before .before .before .before .before in
+    let p = c .before .before .before .before .before .before .before .before .before .before .before .before .before .before .placed in
+    let r = c .before .before .before .before .pairs in
+    told-pairs (lent (s .args .states) (s .args .labels) (s .args .lists) (s .args .follow .now) (s .args .enter .now) (s .args .sizes .now) (s .args .accepting .now) (s .args .table .now)) (s .args .flags .now) (s .args .most) (s .args .allowance) (p .result) (p .ensures) (omega (arith, c .before .before .before .before .before .before .before .before .before .before .before .before .before .if1 .left))
+    (c .before .before .before .before .before .before .before .before .prepared .result) (s .args .workspace .now) (s .args .path .now) (r .result) (r .last .1 .1 .1 .1 .1 .1 .1 .1 .1 .1 .1 .1 .0) (r .ensures) (c .enum-told .given .1)
 
 shared-slice-read-judged : tie.Need-shared-slice-read-judged
 shared-slice-read-judged c = search needs
 
 judged-requires : tie.Need-judged-requires
 judged-requires c κs =
-    let k : 0 < c .before .before .before .before .before .before .before .before .before .before .before .before .before .placed .result = omega (arith, c .before .before .before .before .before .before .before .before .before .before .before .before .if1 .left) in
-    let p = c .before .before .before .before .before .before .before .before .before .before .before .before .before .placed .ensures .few k in
-    let m = c .before .before .before .before .before .before .before .before .pairs .ensures .few _ (c .before .before .before .before .found .given .1) in
-    (k, omega (arith, p .0, p .1), c .before .before .before .before .before .before .before .before .before .before .before .if2 .left, omega (arith, m .0, m .2, c .before .before .before .before .before .before .before .before .pairs .kept .1 .1 .1 .1 .1 .1 .1 .1 .1 .0))
+    let k : 0 < c .before .before .before .before .before .before .before .before .before .before .before .before .before .before .before .before .before .before .placed .result = omega (arith, c .before .before .before .before .before .before .before .before .before .before .before .before .before .before .before .before .before .if1 .left) in
+    let p = c .before .before .before .before .before .before .before .before .before .before .before .before .before .before .before .before .before .before .placed .ensures in
+    let m = c .before .before .before .before .before .before .before .before .pairs .ensures .few _ (c .before .before .before .before .found .given .1) in (
+      k,
+      omega (arith, p .few k .0, p .few k .1),
+      λ h. c .before .before .before .before .before .before .before .before .before .before .before .before .prepared .ensures h .ready .wide ∙ sym (p .wide k),
+      c .before .before .before .before .before .before .before .before .before .before .before .before .before .before .before .before .if2 .left,
+      omega (arith, m .0, m .2, c .before .before .before .before .before .before .before .before .pairs .kept .1 .1 .1 .1 .1 .1 .1 .1 .1 .1 .1 .1 .0),
+    )
 
 same-length-2 : tie.Need-same-length-2
-same-length-2 c = c .before .before .before .before .before .before .before .before .before .before .before .pairs .kept .1 .1 .1 .1 .1 .1 .1 .1 .1 .0
+same-length-2 c = c .before .before .before .before .before .before .before .before .before .before .before .pairs .kept .1 .1 .1 .1 .1 .1 .1 .1 .1 .1 .1 .1 .0
 
 same-length-3 : tie.Need-same-length-3
-same-length-3 c = c .before .before .judged .kept .1 .1 .1 .1 .1 .1 .0
+same-length-3 c = c .before .before .judged .kept .1 .1 .1 .1 .1 .1 .1 .0
 
 returns-5 : tie.Need-returns-5
 returns-5 c =
-    let s = c .before .before .before .before .before .before .before .before .before .before .before .before .before .before .before .before .before .before .before .before .before .before .before .before .before in
-    told-judged (lent (s .args .states) (s .args .labels) (s .args .lists) (s .args .follow .now) (s .args .enter .now) (s .args .sizes .now) (s .args .accepting .now) (s .args .table .now)) (s .args .flags .now) (s .args .most) (s .args .allowance) (c .before .before .before .before .before .before .before .before .before .before .before .before .before .before .before .before .placed .result) (c .before .before .before .before .before .before .before .before .before .before .before .before .before .before .before .before .placed .ensures) (omega (arith, c .before .before .before .before .before .before .before .before .before .before .before .before .before .before .before .if1 .left)) (s .args .workspace .now) (s .args .path .now)
-    (c .before .before .before .before .before .before .before .before .before .before .before .pairs .result) (c .before .before .before .before .before .before .before .before .before .before .before .pairs .last .1 .1 .1 .1 .1 .1 .1 .1 .1 .0) _ (c .before .before .judged .result) (c .before .before .judged .last .1 .1 .1 .1 .1 .1 .0)
-    (c .before .before .before .before .before .before .before .before .before .before .before .pairs .ensures) (c .before .before .before .before .before .before .before .found .given .1) (c .before .before .judged .ensures)
+    let s = c .before .before .before .before .before .before .before .before .before .before .before .before .before .before .before .before .before .before .before .before .before .before .before .before .before .before .before .before .before .before in
+    let p = c .before .before .before .before .before .before .before .before .before .before .before .before .before .before .before .before .before .before .before .before .before .placed in
+    let r = c .before .before .before .before .before .before .before .before .before .before .before .pairs in
+    let j = c .before .before .judged in
+    told-judged (lent (s .args .states) (s .args .labels) (s .args .lists) (s .args .follow .now) (s .args .enter .now) (s .args .sizes .now) (s .args .accepting .now) (s .args .table .now)) (s .args .flags .now) (s .args .most) (s .args .allowance) (p .result) (p .ensures) (omega (arith, c .before .before .before .before .before .before .before .before .before .before .before .before .before .before .before .before .before .before .before .before .if1 .left))
+    (c .before .before .before .before .before .before .before .before .before .before .before .before .before .before .before .prepared .result) (s .args .workspace .now) (s .args .path .now) (r .result) (r .last .1 .1 .1 .1 .1 .1 .1 .1 .1 .1 .1 .1 .0) _ (j .result) (j .last .1 .1 .1 .1 .1 .1 .1 .0)
+    (r .ensures) (c .before .before .before .before .before .before .before .found .given .1) (j .ensures)
 
 pub verdict-spec : {M : Type 1} → statement M
 verdict-spec =
@@ -77,6 +90,7 @@ verdict-spec =
     returns
     returns-2
     returns-3
+    prepared-requires
     pairs-requires
     enum-known-found
     enum-told
