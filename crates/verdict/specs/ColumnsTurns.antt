@@ -1,27 +1,20 @@
 -- The loops between a cover set and its columns (Columns): what they keep, turn by turn.
-use Prim.Native.Nat.{ℕ, _+_, _*_, _-_, _/_, _%_, _^_, _≤_, _<_}
+use Prim.Native.Nat.{ℕ, _+_, _*_, _-_, _%_, _^_, _≤_, _<_}
 use mathlib.Core.List.{List}
 use mathlib.Core.Logic.{_↔_, _≢_, _⊎_, inl, inr}
-use mathlib.Core.Path.{_≡_, refl, sym, ap, _∙_, subst}
+use mathlib.Core.Path.{_≡_, sym, ap, _∙_, subst}
 use native.Mathlib.Decide.{decLt, ℕ-discrete}
 use native.Mathlib.Nat.{mul-comm}
 use native.Mathlib.Omega.{arith}
-use lib.Bits.{bitAnd, or-zero-r}
-use lib.Count.{trailingZeros}
 use lib.ListN.{length, getD, set}
-use lib.Pow.{pow-add}
 use lib.Seq.{getD-set-same, getD-set-other}
-use Rattle.theory.specs.Places.{Member, one, union, unionOver}
-use Rattle.theory.specs.PlacesLaws.{member-none, member-one, member-union, member-unionOver, members-below}
-use Rattle.theory.specs.PlacesShift.{member-cut}
+use Rattle.theory.specs.Places.{Member, union}
+use Rattle.theory.specs.PlacesLaws.{member-none, member-one, member-union}
 use Rattle.places.specs.Words.{numberOf}
 use Rattle.places.specs.NextPlace.{NextPlace}
-use Rattle.verdict.specs.Columns.{ColumnsOf, SetOf}
+use Rattle.verdict.specs.Columns.{ColumnsOf}
 use Rattle.verdict.specs.CoverBounds.{few-states}
 use Rattle.verdict.specs.CoverPlaces.{split-unique, split-below, state-below}
-use Rattle.verdict.specs.CoverSteps.{joined-parts}
-use Rattle.verdict.specs.CoverTold.{Gains}
-use Rattle.places.specs.Followed.{least-first, over-none}
 use Rattle.verdict.specs.WordBits.{one-bit}
 
 -- Where there is a state, there are no more offsets than places.
@@ -120,99 +113,4 @@ filled-end w states places columns p h s =
           let b = split-below w states q o l k in
           (λ m. s .held q o l .0 m .2, λ m. s .held q o l .1 (omega arith, b, m));
       within = λ q o l m. state-below w states q o (s .held q o l .0 m .1);
-    }
-
--- From columns to a set: the place of one state of a column.
-pub place-word : (p : ℕ) → (((1 * 2 ^ (p % 64)) % 2 ^ 64) * 2 ^ (64 * (p / 64))) % 2 ^ 1024 ≡ one p % 2 ^ 1024
-place-word p =
-    let e : p % 64 + 64 * (p / 64) ≡ p = omega arith in
-    ap (λ (z : ℕ). (z * 2 ^ (64 * (p / 64))) % 2 ^ 1024) (one-bit (p % 64) (omega arith))
-    ∙ ap (λ (z : ℕ). z % 2 ^ 1024) (sym (pow-add 2 (p % 64) (64 * (p / 64))) ∙ ap (λ (z : ℕ). 2 ^ z) e)
-
--- What is put, with the places of the states that are left, is the whole column put.
-abbrev pub PutLeft : (ℕ → ℕ) → List ℕ → ℕ → List ℕ → ℕ → Type 0
-PutLeft f set₀ column set rest =
-    union (numberOf set) (unionOver f 64 rest % 2 ^ 1024) ≡ union (numberOf set₀) (unionOver f 64 column % 2 ^ 1024)
-
-pub put-turn : (f : ℕ → ℕ) (set₀ : List ℕ) (column : ℕ) (set set′ : List ℕ) (rest : ℕ) → rest ≢ 0 → rest < 2 ^ 64
-    → Gains set (f (trailingZeros 64 rest)) set′ → PutLeft f set₀ column set rest → PutLeft f set₀ column set′ (bitAnd rest (rest - 1))
-put-turn f set₀ column set set′ rest d h g s =
-    ap (λ (z : ℕ). union z (unionOver f 64 (bitAnd rest (rest - 1)) % 2 ^ 1024)) g
-    ∙ sym (joined-parts 1024 (numberOf set) (f (trailingZeros 64 rest)) (unionOver f 64 (bitAnd rest (rest - 1))))
-    ∙ ap (λ (z : ℕ). union (numberOf set) (z % 2 ^ 1024)) (least-first f rest d h)
-    ∙ s
-
-pub put-end : (f : ℕ → ℕ) (set₀ : List ℕ) (column : ℕ) (set : List ℕ) (rest : ℕ) → rest ≡ 0 → PutLeft f set₀ column set rest
-    → Gains set₀ (unionOver f 64 column) set
-put-end f set₀ column set rest e s =
-    sym (or-zero-r (numberOf set)) ∙ ap (λ (z : ℕ). union (numberOf set) (z % 2 ^ 1024)) (sym (ap (unionOver f 64) e ∙ over-none f 64)) ∙ s
-
--- The set holds the places of the columns before o.
-pub record ColumnsPut (w : ℕ) (columns set : List ℕ) (o : ℕ) : Type 0 where
-  pub put : (i : ℕ) → Member i (numberOf set) ↔ ((x : ℕ) × (q : ℕ) × (x < o) × Member q (getD columns x 0) × (i ≡ w * q + x))
-
-pub put-start : (w : ℕ) (columns set : List ℕ) → numberOf set ≡ 0 → ColumnsPut w columns set 0
-put-start w columns set e =
-    record {
-      put = λ i. (
-        λ m. absurd (member-none i (subst (Member i) e m)),
-        λ (x, q, h, m, f). absurd (omega arith),
-      );
-    }
-
-pub put-next : (w states : ℕ) (columns set set′ : List ℕ) (o : ℕ) → o < w → states ≤ 64 → states * w ≤ 1024
-    → ((q : ℕ) → Member q (getD columns o 0) → q < states) → ColumnsPut w columns set o
-    → Gains set (unionOver (λ q. one (w * q + o)) 64 (getD columns o 0)) set′ → ColumnsPut w columns set′ (o + 1)
-put-next w states columns set set′ o h few room within s g =
-    record {
-      put = λ i. (
-        λ m. there i (member-union i (numberOf set) (new % 2 ^ 1024) .0 (subst (Member i) g m)),
-        λ (x, q, k, m, e). subst (Member i) (sym g) (member-union i (numberOf set) (new % 2 ^ 1024) .1 (back i x q k m e (decLt x o))),
-      );
-    }
-  where
-    new : ℕ
-    new = unionOver (λ q. one (w * q + o)) 64 (getD columns o 0)
-
-    Put : ℕ → Type 0
-    Put i = (x : ℕ) × (q : ℕ) × (x < o + 1) × Member q (getD columns x 0) × (i ≡ w * q + x)
-
-    there : (i : ℕ) → Member i (numberOf set) ⊎ Member i (new % 2 ^ 1024) → Put i
-    there i (inl m) = let (x, q, k, u, e) = s .put i .0 m in (x, q, omega arith, u, e)
-    there i (inr m) =
-        let (q, l, u, y) = member-unionOver (λ q. one (w * q + o)) 64 (getD columns o 0) i .0 (member-cut 1024 i new .0 m .1) in
-        (o, q, omega arith, u, member-one i (w * q + o) .0 y)
-
-    back : (i x q : ℕ) → x < o + 1 → Member q (getD columns x 0) → i ≡ w * q + x → Dec (x < o)
-        → Member i (numberOf set) ⊎ Member i (new % 2 ^ 1024)
-    back i x q k m e (yes l) = inl (s .put i .1 (x, q, l, m, e))
-    back i x q k m e (no l) =
-        let f : x ≡ o = omega arith in
-        let u : Member q (getD columns o 0) = subst (λ (z : ℕ). Member q (getD columns z 0)) f m in
-        let b : q < states = within q u in
-        let below : i < 1024 = omega (arith, split-below w states q o h b) in
-        inr (member-cut 1024 i new .1 (
-          below,
-          member-unionOver (λ q. one (w * q + o)) 64 (getD columns o 0) i .1
-              (q, omega arith, u, member-one i (w * q + o) .1 (e ∙ ap (λ (z : ℕ). w * q + z) f)),
-        ))
-
-pub columns-put : (w states : ℕ) (columns set : List ℕ) (o : ℕ) → o ≡ w → ((q x : ℕ) → x < w → Member q (getD columns x 0) → q < states)
-    → ColumnsPut w columns set o → SetOf w states columns set
-columns-put w states columns set o e within s =
-    record {
-      same = record {
-        exact = λ q x h k. (
-          λ m. s .put (w * q + x) .1 (x, q, omega arith, m, refl),
-          λ m.
-              let (y, r, l, u, f) = s .put (w * q + x) .0 m in
-              let (a, b) = split-unique w q r x y k (omega arith) f in
-              subst (λ (z : ℕ). Member z (getD columns x 0)) (sym a) (subst (λ (z : ℕ). Member r (getD columns z 0)) (sym b) u),
-        );
-        within = within;
-      };
-      below = members-below (states * w) (numberOf set) λ i m.
-          let (x, q, l, u, f) = s .put i .0 m in
-          let k : x < w = omega arith in
-          omega (arith, split-below w states q x k (within q x k u));
     }

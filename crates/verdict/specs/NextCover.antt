@@ -8,9 +8,8 @@ use lib.ListN.{getD}
 use Rattle.theory.specs.Places.{Member, one}
 use Rattle.theory.specs.PlacesLaws.{one-below}
 use Rattle.theory.specs.ClosureLaws.{closure-below}
-use Rattle.theory.specs.Automaton.{Automaton}
 use Rattle.places.specs.Words.{numberOf}
-use Rattle.verdict.specs.Cover.{Rewritten, places, ends, settled, coverStart, coverStep}
+use Rattle.verdict.specs.Cover.{places, ends, settled, coverStart, coverStep}
 use Rattle.verdict.specs.Tables.{automataOf, occupied, rewritten, Proper}
 use Rattle.verdict.specs.CoverBounds.{ends-below}
 use Rattle.verdict.specs.CoverPlaces.{split-below}
@@ -19,7 +18,6 @@ use Rattle.verdict.specs.CoverTold.{StartTold, StepTold, StartStands, St
 use Rattle.verdict.specs.Columns.{offsetIn, ColumnsOf, SetOf, Stepped}
 use Rattle.verdict.specs.ColumnOffsets.{occurrence-at, offset-below}
 use Rattle.verdict.specs.ColumnsStep.{columns-step}
-use Rattle.verdict.specs.Coded.{StandsAs}
 use Rattle.verdict.specs.CodedLaws.{stands-turned, turned-stands, stands-same, same-stands}
 use Rattle.verdict.specs.Prepared.{Prepared}
 use Rattle.verdict.specs.Turned.{Turned, Stacked}

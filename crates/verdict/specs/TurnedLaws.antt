@@ -1,18 +1,13 @@
 -- The laws of turned cover sets (Turned): a set determines its turned set and is determined by it, each set of so many places is some set
 -- turned, and a step by columns between turned sets is the step of the cover set.
-use Prim.Native.Nat.{ℕ, zero, suc, _+_, _*_, _/_, _%_, _^_, _≤_, _<_}
-use mathlib.Core.Bool.{true}
-use mathlib.Core.List.{List, [], _∷_}
-use mathlib.Core.Logic.{_↔_}
-use mathlib.Core.Path.{_≡_, refl, sym, ap, _∙_, subst}
+use Prim.Native.Nat.{ℕ, _+_, _*_, _/_, _%_, _^_, _<_}
+use mathlib.Core.Path.{_≡_, sym, ap, _∙_, subst}
 use native.Mathlib.Nat.{div-add-mod, mod-lt, mul-comm}
-use native.Mathlib.Omega.{arith}
-use lib.ListN.{getD}
 use Rattle.theory.specs.Places.{Member, member, collect}
 use Rattle.theory.specs.PlacesLaws.{member-test, member-collect, collect-below, same-members}
 use Rattle.verdict.specs.CoverBounds.{state-of-place}
 use Rattle.verdict.specs.CoverPlaces.{state-of, offset-of, split-below}
-use Rattle.verdict.specs.Turned.{Turned, Stacked}
+use Rattle.verdict.specs.Turned.{Turned}
 
 -- Turned the other way round.
 pub turned-back : {w n C D : ℕ} → Turned w n C D → Turned n w D C

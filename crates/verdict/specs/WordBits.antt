@@ -26,10 +26,6 @@ first-here s e = member-zero s .1 (sym (and-mask s 1) ∙ e)
 pub first-none : (s : ℕ) → ¬ (bitAnd s 1 ≡ 1) → ¬ Member 0 s
 first-none s d m = d (and-mask s 1 ∙ member-zero s .0 m)
 
--- A number times a place of a word.
-pub product-small : (w x : ℕ) → w ≤ 1024 → x ≤ 64 → w * x ≤ 65536
-product-small w x h k = omega (arith, mul-le-mul-right x h)
-
 -- Words that were cleared are zero.
 
 pub cleared-zero : (n : ℕ) (l : List ℕ) (i : ℕ) → i < n → getD (cleared n l) i 0 ≡ 0

@@ -1,6 +1,5 @@
 // Cover sets as they stand in the workspace, turned where a width is given: the first one, and the step over a label.
 ghost use Prim.Native.Nat.{_*_, _≤_, _<_};
-ghost use mathlib.Core.Path.{_≡_};
 ghost use Rattle.places.specs.Words.{numberOf};
 ghost use Rattle.verdict.specs.CoverTold.{StartStands, StepStands};
 ghost use Rattle.verdict.specs.NextCover.{Laid};

@@ -1,5 +1,4 @@
 -- One word changes: the set gains the places of the word.
-use Prim.Native.Nat.{_*_}
 use mathlib.Core.Path.{sym, ap, _∙_}
 use Rattle.theory.specs.Places.{union}
 use Rattle.places.specs.Words.{numberOf}

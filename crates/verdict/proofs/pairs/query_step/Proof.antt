@@ -1,9 +1,8 @@
 -- The label cuts what can come next to the standing that it leads to.
-use mathlib.Core.Path.{sym, ap, _∙_}
+use mathlib.Core.Path.{ap, _∙_}
 use lib.ListN.{getD}
 use Rattle.theory.specs.Places.{intersection}
 use Rattle.verdict.specs.TablesLaws.{query-step}
-use native.Mathlib.Omega.{arith}
 use borrow.Author.Needs.{needs}
 use Rattle.verdict.proofs.pairs.query_step.Statement.{statement}
 use Rattle.verdict.proofs.pairs.query_step.Tie as tie

@@ -3,7 +3,6 @@ use Prim.Native.Nat.{ℕ, zero, suc, _<_}
 use mathlib.Core.Path.{_≡_, refl}
 use Rattle.verdict.specs.Missing.{gap}
 use native.Mathlib.Omega.{arith}
-use borrow.Author.Needs.{needs}
 use Rattle.verdict.proofs.verdict.gap.Statement.{statement}
 use Rattle.verdict.proofs.verdict.gap.Tie as tie
 

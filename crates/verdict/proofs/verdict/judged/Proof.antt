@@ -1,6 +1,6 @@
 -- No pair is missed, or the path of the first missed one is written.
 use Prim.Native.Nat.{ℕ, zero, suc, _*_, _≤_, _<_}
-use mathlib.Core.Path.{_≡_, sym, subst}
+use mathlib.Core.Path.{sym, subst}
 use native.Mathlib.Nat.{mul-one, mul-le-mul-left}
 use native.Mathlib.Omega.{arith}
 use Rattle.verdict.specs.Missing.{gap, Yields}
