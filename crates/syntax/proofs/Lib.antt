@@ -1,4 +1,5 @@
 pub mod Values
+pub mod KindTable
 pub mod Front
 pub mod Run
 pub mod Reading

@@ -1,6 +1,6 @@
 // A place in a text, handed on as the reader moves along.
 use super::kind::HYPHEN;
-use super::kind::kind;
+use super::kind::KINDS;
 use super::name::is_name;
 ghost use mathlib.Core.Path.{_≡_};
 ghost use lib.ListN.{drop};
@@ -39,9 +39,10 @@ impl Cursor {
     pub fn past_run(self, s: &[u8]) -> Cursor
         ensures { λ r. ⌜ r ≡ cursorAt (now (s .entry)) (pastRun (drop (self .at) (now (s .entry)))) ⌝ }
     {
+        let kinds = KINDS;
         let mut i = self.at;
         while i < s.len() {
-            if HYPHEN < kind(s[i]) {
+            if HYPHEN < kinds[s[i] as usize] {
                 return Cursor { at: i };
             }
             i += 1;
