@@ -2,6 +2,7 @@ pub mod Values
 pub mod KindTable
 pub mod Front
 pub mod Run
+pub mod RunName
 pub mod Reading
 pub mod Runs
 pub mod Ways

@@ -1,7 +1,9 @@
 // A place in a text, handed on as the reader moves along.
 use super::kind::HYPHEN;
 use super::kind::KINDS;
-use super::name::is_name;
+use super::kind::LETTER;
+use super::kind::kind;
+use super::name::LONGEST;
 ghost use mathlib.Core.Path.{_≡_};
 ghost use lib.ListN.{drop};
 ghost use Rattle.syntax.specs.Grammar.{Tree};
@@ -58,7 +60,7 @@ impl Cursor {
         let past = self.past_run(s);
         let end = past.at;
         if at < end {
-            if is_name(&s[at..end]) {
+            if end - at <= LONGEST && kind(s[at]) == LETTER {
                 Moved::To(past)
             } else {
                 Moved::Failed

@@ -1,27 +1,19 @@
 // Names (document 01): 1 to 16 bytes, a letter a to z, then letters, digits or hyphens.
 use super::cursor::Cursor;
-use super::kind::LETTER;
-use super::kind::kind;
+use super::cursor::Moved;
 ghost use mathlib.Core.Path.{_≡_};
 ghost use Rattle.syntax.specs.Name.{isName, sameName};
 
-const LONGEST: usize = 16;
+pub const LONGEST: usize = 16;
 
 pub fn is_name(s: &[u8]) -> bool
     ensures { λ r. ⌜ r ≡ isName (now (s .entry)) ⌝ }
 {
-    let n = s.len();
-    if n == 0 {
-        return false;
+    let front = Cursor { at: 0 };
+    match front.name(s) {
+        Moved::Failed => false,
+        Moved::To(past) => past.at == s.len(),
     }
-    if LONGEST < n {
-        return false;
-    }
-    if kind(s[0]) != LETTER {
-        return false;
-    }
-    let past = Cursor { at: 0 }.past_run(s);
-    past.at == n
 }
 
 pub fn same_name(a: &[u8], b: &[u8]) -> bool

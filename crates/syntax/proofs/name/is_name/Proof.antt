@@ -1,75 +1,63 @@
--- `is_name` meets its contract: every byte is one of a name where the run from the front ends at the end.
-use Prim.Native.Nat.{ℕ, zero, suc, _-_, _<_, _≤_}
-use mathlib.Core.Bool.{false, _&&_, and-true, and-false}
-use mathlib.Core.List.{[], _∷_}
+-- `is_name` meets its contract: a text is a name where a name is read from its beginning to its end.
+use Prim.Native.Nat.{ℕ, zero, suc, _-_, _≤_}
+use mathlib.Core.Bool.{Bool, true, false}
 use mathlib.Core.Path.{_≡_, refl, sym, ap, _∙_}
 use native.Mathlib.Omega.{arith}
-use lib.Dec.{eqb, leb, eqb·suc-zero}
-use lib.ListN.{length, getD}
+use lib.Dec.{eqb, eqb·suc-zero}
+use lib.ListN.{length}
 use borrow.Author.Needs.{needs}
-use borrow.Author.Tests.{eq-eqb, ne-eqb, le-leb, lt-leb}
+use borrow.Author.Tests.{eq-eqb, ne-eqb}
+use Rattle.theory.specs.Expression.{label}
 use Rattle.syntax.specs.declared.cursor.Cursor.{Cursor}
-use Rattle.syntax.specs.Byte.{Bytes, kind, letter, hyphen}
-use Rattle.syntax.specs.Name.{isName, nameBytes}
-use Rattle.syntax.specs.Parser.{pastRun}
-use Rattle.syntax.proofs.Run.{run-on, run-lengths, run-whole}
+use Rattle.syntax.specs.declared.cursor.Moved.the-variants.{To, Failed}
+use Rattle.syntax.specs.Byte.{Bytes}
+use Rattle.syntax.specs.Name.{isName}
+use Rattle.syntax.specs.Parser.{failed, parsed, run, pastRun, named}
+use Rattle.syntax.specs.Place.{cursorAt, parsedTo}
+use Rattle.syntax.proofs.Run.{run-lengths}
+use Rattle.syntax.proofs.RunName.{name-whole}
 use Rattle.syntax.proofs.name.is_name.Statement.{statement}
 use Rattle.syntax.proofs.name.is_name.Tie as tie
 
-empty : (s : Bytes) → length s ≡ 0 → false ≡ isName s
-unfolding isName
-empty [] h = refl
-empty (b ∷ s) h = absurd (omega arith)
-
-long : (s : Bytes) → 16 < length s → false ≡ isName s
-unfolding isName
-long [] h = refl
-long (b ∷ s) h = rw (lt-leb (length (b ∷ s)) 16 h) (sym (and-false (eqb (kind b) letter && nameBytes s)))
-
-no-letter : (s : Bytes) → (kind (getD s 0 0) ≡ letter → ⊥) → false ≡ isName s
-unfolding isName
-no-letter [] h = refl
-no-letter (b ∷ s) h = rw (ne-eqb (kind b) letter h)
-
 -- Past all but q bytes is past all where q is 0.
-past-all : (n q : ℕ) → q ≤ n → eqb (suc n - q) (suc n) ≡ eqb q 0
-past-all n zero h = eq-eqb (suc n - zero) (suc n) (omega arith)
-past-all n (suc q) h = ne-eqb (suc n - suc q) (suc n) (omega arith) ∙ sym (eqb·suc-zero q)
+past-all : (n q : ℕ) → q ≤ n → eqb (n - q) n ≡ eqb q 0
+past-all n zero h = eq-eqb (n - zero) n (omega arith)
+past-all n (suc q) h = ne-eqb (n - suc q) n (omega arith) ∙ sym (eqb·suc-zero q)
 
-whole : (s : Bytes) → (length s ≡ 0 → ⊥) → length s ≤ 16 → kind (getD s 0 0) ≡ letter
-    → eqb (length s - length (pastRun s)) (length s) ≡ isName s
-unfolding isName
-whole [] f h e = absurd (f refl)
-whole (b ∷ s) f h e =
-    rw (run-on b s (ap (λ k. leb k hyphen) e), eq-eqb (kind b) letter e, le-leb (suc (length s)) 16 h, and-true, run-whole s)
-    (past-all (length s) (length (pastRun s)) (omega (arith, run-lengths s)))
+module _ (s : Bytes) where
+  not-read : Failed ≡ parsedTo s (named s) → false ≡ isName s
+  unfolding named
+  not-read e = go (isName (run s)) refl e
+    where
+      go : (t : Bool) → isName (run s) ≡ t → Failed ≡ parsedTo s (elim t [ true ↦ parsed (label (run s)) (pastRun s) | false ↦ failed ]) → false ≡ isName s
+      go true n e = let z : _≡_ {A = ℕ} 0 1 = cc in absurd (omega arith)
+      go false n e = rw (name-whole s, n)
+
+  read : (c : Cursor) → To c ≡ parsedTo s (named s) → eqb (c .at) (length s) ≡ isName s
+  unfolding named
+  read c e = go (isName (run s)) refl e
+    where
+      go : (t : Bool) → isName (run s) ≡ t → To c ≡ parsedTo s (elim t [ true ↦ parsed (label (run s)) (pastRun s) | false ↦ failed ])
+          → eqb (c .at) (length s) ≡ isName s
+      go true n e =
+          let p : c ≡ cursorAt s (pastRun s) = cc in
+          rw (name-whole s, n, p) (past-all (length s) (length (pastRun s)) (omega (arith, run-lengths s)))
+      go false n e = let z : _≡_ {A = ℕ} 0 1 = cc in absurd (omega arith)
+
+name-requires : tie.Need-name-requires
+name-requires c κs = search needs
+
+enum-told : tie.Need-enum-told
+enum-told c = search needs
+
+enum-known-past : tie.Need-enum-known-past
+enum-known-past c = search needs
 
 returns : tie.Need-returns
-returns c = empty _ (c .if1 .taken)
+returns c = not-read _ (sym (c .enum-told .given .1) ∙ c .before .before .name .ensures)
 
 returns-2 : tie.Need-returns-2
-returns-2 c = long _ (c .if2 .taken)
-
-shared-slice-read-kind : tie.Need-shared-slice-read-kind
-shared-slice-read-kind c = search needs
-
-kind-requires : tie.Need-kind-requires
-kind-requires c κs = search needs
-
-returns-3 : tie.Need-returns-3
-returns-3 c = no-letter _ (λ e. c .if3 .taken (c .before .kind .ensures ∙ e))
-
-past-run-requires : tie.Need-past-run-requires
-past-run-requires c κs = search needs
-
-returns-4 : tie.Need-returns-4
-returns-4 c =
-    let s : Bytes = c .before .before .before .before .before .before .before .before .args .s .now in
-    ap (λ (p : Cursor). eqb (p .at) (length s)) (c .before .past-run .ensures)
-    ∙ whole s (c .before .before .before .before .before .before .if1 .left) (c .before .before .before .before .before .if2 .left)
-    (sym (c .before .before .before .kind .ensures) ∙ c .before .before .if3 .left)
+returns-2 c = read _ _ (sym (c .before .before .past .given .1) ∙ c .before .before .before .before .name .ensures)
 
 pub is-name-spec : {M : Type 1} → statement M
-is-name-spec =
-    tie.close
-    (tie.spec returns returns-2 shared-slice-read-kind kind-requires returns-3 past-run-requires returns-4)
+is-name-spec = tie.close (tie.spec name-requires enum-told enum-known-past returns returns-2)

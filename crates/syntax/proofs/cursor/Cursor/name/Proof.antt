@@ -1,19 +1,25 @@
--- `Cursor::name` meets its contract: the part of the text up to the end of the run is the run.
-use Prim.Native.Nat.{ℕ, _-_, _≤_}
-use mathlib.Core.Bool.{true, false}
+-- `Cursor::name` meets its contract: the run's length and its first byte decide whether it is a name.
+use Prim.Native.Nat.{ℕ, _-_, _<_, _≤_}
+use mathlib.Core.Bool.{true, false, _&&_, and-false}
 use mathlib.Core.List.{[], _∷_}
+use mathlib.Core.Logic.{⊎-elim}
 use mathlib.Core.Path.{_≡_, refl, sym, ap, _∙_}
+use native.Mathlib.Nat.{add-zero}
 use native.Mathlib.Omega.{arith}
-use lib.ListN.{length, take, drop, length-drop}
+use lib.Dec.{eqb, leb}
+use lib.ListN.{length, drop, getD, length-drop}
+use lib.Seq.{getD-drop}
 use borrow.Author.Needs.{needs}
+use borrow.Author.Tests.{le-leb, lt-leb}
 use Rattle.syntax.specs.declared.cursor.Cursor.{Cursor}
 use Rattle.syntax.specs.declared.cursor.Moved.{Moved}
 use Rattle.syntax.specs.declared.cursor.Moved.the-variants.{To, Failed}
-use Rattle.syntax.specs.Byte.{Bytes}
+use Rattle.syntax.specs.Byte.{Bytes, kind, letter}
 use Rattle.syntax.specs.Name.{isName}
 use Rattle.syntax.specs.Parser.{run, pastRun, named}
 use Rattle.syntax.specs.Place.{cursorAt, parsedTo}
-use Rattle.syntax.proofs.Run.{run-lengths, run-part}
+use Rattle.syntax.proofs.Run.{run-lengths}
+use Rattle.syntax.proofs.RunName.{run-name}
 use Rattle.syntax.proofs.cursor.Cursor.name.Statement.{statement}
 use Rattle.syntax.proofs.cursor.Cursor.name.Tie as tie
 
@@ -23,46 +29,53 @@ no-name [] e = refl
 no-name (b ∷ u) e = absurd (omega arith)
 
 module _ (s : Bytes) (at : ℕ) (past : Cursor) (h : past ≡ cursorAt s (pastRun (drop at s))) where
-  end : past .at ≡ length s - length (pastRun (drop at s))
-  end = ap (λ (c : Cursor). c .at) h
+  size : length (run (drop at s)) ≡ past .at - at
+  size = omega (arith, ap (λ (c : Cursor). c .at) h, length-drop at s, run-lengths (drop at s))
 
-  part : take (past .at - at) (drop at s) ≡ run (drop at s)
-  part =
-      let e : past .at - at ≡ length (drop at s) - length (pastRun (drop at s)) = omega (arith, end, length-drop at s) in
-      ap (λ n. take n (drop at s)) e ∙ run-part (drop at s)
+  decided : at < past .at → isName (run (drop at s)) ≡ (eqb (kind (getD s at 0)) letter && leb (past .at - at) 16)
+  decided l =
+      let first : getD (drop at s) 0 0 ≡ getD s at 0 = getD-drop at s 0 0 ∙ ap (λ n. getD s n 0) (add-zero at) in
+      rw (run-name (drop at s) (omega (arith, size)), first, size)
 
-  found : isName (take (past .at - at) (drop at s)) ≡ true → To past ≡ parsedTo s (named (drop at s))
+  found : at < past .at → past .at - at ≤ 16 → eqb (kind (getD s at 0)) letter ≡ true → To past ≡ parsedTo s (named (drop at s))
   unfolding named
-  found e = rw (sym (ap isName part) ∙ e, named) (ap {B = Moved} To h)
+  found l m k =
+      rw (decided l, k, le-leb (past .at - at) 16 m, named) (ap {B = Moved} To h)
 
-  missing : isName (take (past .at - at) (drop at s)) ≡ false → Failed ≡ parsedTo s (named (drop at s))
+  long : at < past .at → 16 < past .at - at → Failed ≡ parsedTo s (named (drop at s))
   unfolding named
-  missing e = rw (sym (ap isName part) ∙ e, named)
+  long l m = rw (decided l, lt-leb (past .at - at) 16 m, and-false (eqb (kind (getD s at 0)) letter), named)
+
+  no-letter : at < past .at → eqb (kind (getD s at 0)) letter ≡ false → Failed ≡ parsedTo s (named (drop at s))
+  unfolding named
+  no-letter l k = rw (decided l, k, named)
 
   nothing : past .at ≤ at → Failed ≡ parsedTo s (named (drop at s))
   unfolding named
-  nothing l = rw (no-name (run (drop at s)) (omega (arith, end, length-drop at s, run-lengths (drop at s))), named)
+  nothing l = rw (no-name (run (drop at s)) (omega (arith, size)), named)
 
 past-run-requires : tie.Need-past-run-requires
 past-run-requires c κs = search needs
 
-sub-is-name : tie.Need-sub-is-name
-sub-is-name c = search needs
+sub-if2 : tie.Need-sub-if2
+sub-if2 c = search needs
 
-part-is-name-start : tie.Need-part-is-name-start
-part-is-name-start c = search needs
+shared-slice-read-kind : tie.Need-shared-slice-read-kind
+shared-slice-read-kind c = omega (arith, ap (λ (p : Cursor). p .at) (c .before .before .before .past-run .ensures))
 
-part-is-name-end : tie.Need-part-is-name-end
-part-is-name-end c = omega (arith, ap (λ (p : Cursor). p .at) (c .before .past-run .ensures))
-
-is-name-requires : tie.Need-is-name-requires
-is-name-requires c κs = search needs
+kind-requires : tie.Need-kind-requires
+kind-requires c κs = search needs
 
 returns : tie.Need-returns
-returns c = found _ _ _ (c .before .before .before .before .past-run .ensures) (sym (c .before .is-name .ensures) ∙ c .if2 .taken)
+returns c =
+    found _ _ _ (c .before .before .before .before .before .past-run .ensures) (c .before .before .before .before .if1 .taken)
+    (c .before .before .before .if2 .taken) (sym (ap (λ k. eqb k letter) (c .before .kind .ensures)) ∙ c .if3 .taken)
 
 returns-2 : tie.Need-returns-2
-returns-2 c = missing _ _ _ (c .before .before .before .before .past-run .ensures) (sym (c .before .is-name .ensures) ∙ c .if2 .left)
+returns-2 c =
+    let p = c .before .before .past-run .ensures in
+    let l = c .before .if1 .taken in
+    ⊎-elim (λ w. no-letter _ _ _ p l (sym (ap (λ k. eqb k letter) (w .2 .ensures)) ∙ w .3 .left)) (λ w. long _ _ _ p l (w .left)) (c .if2 .came)
 
 returns-3 : tie.Need-returns-3
 returns-3 c = nothing _ _ _ (c .before .past-run .ensures) (c .if1 .left)
@@ -70,4 +83,4 @@ returns-3 c = nothing _ _ _ (c .before .past-run .ensures) (c .if1 .left)
 pub name-spec : {M : Type 1} → statement M
 name-spec =
     tie.close
-    (tie.spec past-run-requires sub-is-name part-is-name-start part-is-name-end is-name-requires returns returns-2 returns-3)
+    (tie.spec past-run-requires sub-if2 shared-slice-read-kind kind-requires returns returns-2 returns-3)
