@@ -5,20 +5,12 @@ use mathlib.Core.List.{List, [], _∷_}
 use mathlib.Core.Path.{_≡_, refl, sym, ap, _∙_}
 use native.Mathlib.Numerals.{add-one}
 use native.Mathlib.Omega.{arith}
-use borrow.Author.Tests.{le-leb, lt-leb}
 use lib.ListN.{length, getD, take, drop, drop-of-length-le, length-drop}
 use lib.Seq.{drop-cons, drop-drop, drop-append-seam}
-use Rattle.syntax.specs.Byte.{Bytes, kind, hyphen, nameByte}
+use Rattle.syntax.specs.Byte.{Bytes, nameByte}
 use Rattle.syntax.specs.Parser.{run, pastRun}
 use Rattle.syntax.specs.Limits.{runs}
 use Rattle.syntax.proofs.Run.{run-on, run-past, run-lengths, run-part}
-
--- A byte's kind says whether a name may have it.
-pub in-name : (k b : ℕ) → k ≡ kind b → k ≤ hyphen → nameByte b ≡ true
-in-name k b e h = le-leb (kind b) hyphen (omega arith)
-
-pub not-in-name : (k b : ℕ) → k ≡ kind b → hyphen < k → nameByte b ≡ false
-not-in-name k b e h = lt-leb (kind b) hyphen (omega arith)
 
 -- A run that has begun before a text is not counted again: what is left of it is passed.
 runs-past : (s : Bytes) → runs true s ≡ runs false (pastRun s)

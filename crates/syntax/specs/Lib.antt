@@ -19,6 +19,7 @@ pub mod LimitsLaws
 pub mod NestingLaws
 pub mod CheckLaws
 pub mod TableLaws
+pub mod Told
 pub mod Verdict
 pub mod VerdictLaws
 pub mod Part

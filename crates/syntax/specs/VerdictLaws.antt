@@ -13,6 +13,7 @@ use Rattle.syntax.specs.declared.checks.Check.the-variants.{Fine, Faulty
 use Rattle.syntax.specs.declared.refusal.Refusal.the-variants.{NotInGrammar, UnknownLabel, ExpressionTooLong, TooDeep, TooManyOccurrences}
 use Rattle.theory.specs.Expression.{Expression}
 use Rattle.theory.specs.Standing.{size}
+use Rattle.syntax.specs.declared.labels.Labels.{Labels}
 use Rattle.syntax.specs.Some.{isSome}
 use Rattle.syntax.specs.Byte.{Bytes}
 use Rattle.syntax.specs.Grammar.{Tree, alternatives, Derives}
@@ -23,7 +24,20 @@ use Rattle.syntax.specs.LimitsLaws.{runs-leaves, leaves-size, known-reso
 use Rattle.syntax.specs.Resolve.{Resolves, known, numbered}
 use Rattle.syntax.specs.Check.{long, ungrammatical, deep, unknown, many, check, checkTree}
 use Rattle.syntax.specs.CheckLaws.{check-faulty}
+use Rattle.syntax.specs.Told.{Told}
 use Rattle.syntax.specs.Verdict.{verdict, unless, first}
+
+-- How many occurrences are told of matters only where each is a known name.
+pub labels-told : (labels : List Bytes) (s : Bytes) (r : Labels) → Told labels s r
+    → first (unless (r .known) UnknownLabel) (unless (leb (r .count) mostOccurrences) TooManyOccurrences)
+    ≡ first (unless (known labels (runs false s)) UnknownLabel) (unless (leb (length (runs false s)) mostOccurrences) TooManyOccurrences)
+labels-told labels s r h = rw (sym (h .names)) (go (r .known) (h .number))
+  where
+    go : (k : Bool) → (k ≡ true → r .count ≡ length (runs false s))
+        → first (unless k UnknownLabel) (unless (leb (r .count) mostOccurrences) TooManyOccurrences)
+        ≡ first (unless k UnknownLabel) (unless (leb (length (runs false s)) mostOccurrences) TooManyOccurrences)
+    go true n = rw (n refl)
+    go false n = refl
 
 no-tree : (o : Option Tree) → isSome o ≡ false → o ≡ none
 no-tree none g = refl

@@ -1,6 +1,5 @@
 // The checks of an expression's text, in the order of document 01.
 use super::grammar::in_grammar;
-use super::labels::all_known;
 use super::labels::occurrences;
 use super::limits::nesting;
 use super::refusal::Refusal;
@@ -48,12 +47,11 @@ pub fn check_expression(s: &[u8], text: &[u8], names: &[u64]) -> Check
     if MOST_BYTES < s.len() {
         return Check::Faulty(Refusal::ExpressionTooLong);
     }
-    let grammar = unless(in_grammar(s), Refusal::NotInGrammar);
-    let depth = unless(nesting(s) <= MOST_NESTING, Refusal::TooDeep);
-    let labels = unless(all_known(s, text, names), Refusal::UnknownLabel);
-    let number = unless(
-        occurrences(s) <= MOST_OCCURRENCES,
-        Refusal::TooManyOccurrences,
-    );
+    let deep = nesting(s);
+    let grammar = unless(in_grammar(s, deep), Refusal::NotInGrammar);
+    let depth = unless(deep <= MOST_NESTING, Refusal::TooDeep);
+    let told = occurrences(s, text, names);
+    let labels = unless(told.known, Refusal::UnknownLabel);
+    let number = unless(told.count <= MOST_OCCURRENCES, Refusal::TooManyOccurrences);
     first(grammar, first(depth, first(labels, number)))
 }

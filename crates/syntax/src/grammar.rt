@@ -2,8 +2,8 @@
 // Three reading functions that call each other; the number of unread bytes falls through the cycle.
 use super::cursor::Cursor;
 use super::cursor::Moved;
-use super::limits::nesting;
 ghost use mathlib.Core.Path.{_≡_};
+ghost use Rattle.syntax.specs.Limits.{nesting};
 ghost use Rattle.syntax.specs.Parser.{alternatives, sequences, factors, parse};
 ghost use Rattle.syntax.specs.Place.{Follows};
 ghost use Rattle.syntax.specs.Some.{isSome};
@@ -55,11 +55,12 @@ fn factor(s: &[u8], c: Cursor) -> Moved
 
 // In the grammar every parenthesis is closed: a text that nests deeper than half its bytes is not in it. So the three functions call each
 // other no deeper than half the bytes allow.
-pub fn in_grammar(s: &[u8]) -> bool
+pub fn in_grammar(s: &[u8], deep: u64) -> bool
+    requires { ⌜ deep ≡ nesting 0 (now s) ⌝ }
     ensures { λ r. ⌜ r ≡ isSome (parse (now (s .entry))) ⌝ }
 {
     let half = (s.len() / 2) as u64;
-    if half < nesting(s) {
+    if half < deep {
         return false;
     }
     match alternative(s, Cursor { at: 0 }) {

@@ -1,51 +1,39 @@
 // The label occurrences of an expression's text: its longest runs of name bytes.
 use super::cursor::Cursor;
 use super::kind::HYPHEN;
-use super::kind::kind;
+use super::kind::KINDS;
 use super::table::find;
-use super::table::part;
-ghost use mathlib.Core.Bool.{false};
-ghost use mathlib.Core.Path.{_≡_};
-ghost use lib.ListN.{length};
-ghost use Rattle.syntax.specs.Limits.{runs};
-ghost use Rattle.syntax.specs.Resolve.{known, namesAt};
+ghost use Rattle.syntax.specs.Resolve.{namesAt};
+ghost use Rattle.syntax.specs.Told.{Told};
 
-// The number of label occurrences.
-pub fn occurrences(s: &[u8]) -> u64
-    ensures { λ r. ⌜ r ≡ length (runs false (now (s .entry))) ⌝ }
-{
-    let mut count = 0;
-    let mut i = 0;
-    while i < s.len() {
-        if kind(s[i]) <= HYPHEN {
-            let past = Cursor { at: i }.past_run(s);
-            count += 1;
-            i = past.at;
-        } else {
-            i += 1;
-        }
-    }
-    count
+// Whether each label occurrence is a name of the table, and if so, how many occurrences there are.
+pub struct Labels {
+    pub known: bool,
+    pub count: u64,
 }
 
-// Whether each label occurrence is a name of the table.
-pub fn all_known(s: &[u8], text: &[u8], names: &[u64]) -> bool
-    ensures { λ r. ⌜ r ≡ known (namesAt (now (text .entry)) (now (names .entry))) (runs false (now (s .entry))) ⌝ }
+pub fn occurrences(s: &[u8], text: &[u8], names: &[u64]) -> Labels
+    ensures { λ r. ⌜ Told (namesAt (now (text .entry)) (now (names .entry))) (now (s .entry)) r ⌝ }
 {
-    let count = (names.len() / 2) as u64;
+    let kinds = KINDS;
+    let labels = (names.len() / 2) as u64;
+    let mut count: u64 = 0;
     let mut i = 0;
     while i < s.len() {
-        if kind(s[i]) <= HYPHEN {
+        if kinds[s[i] as usize] <= HYPHEN {
             let past = Cursor { at: i }.past_run(s);
             let end = past.at;
-            let name = part(s, i as u64, (end - i) as u64);
-            if count <= find(text, names, name) {
-                return false;
+            if labels <= find(text, names, &s[i..end]) {
+                return Labels {
+                    known: false,
+                    count,
+                };
             }
+            count += 1;
             i = end;
         } else {
             i += 1;
         }
     }
-    true
+    Labels { known: true, count }
 }

@@ -45,11 +45,8 @@ read s c h =
 too-deep : (s : Bytes) → length s / 2 < nesting 0 s → false ≡ isSome (parse s)
 too-deep s h = ap isSome (sym (parse-none s .1 (λ t d. omega (arith, h, nesting-half d))))
 
-nesting-requires : tie.Need-nesting-requires
-nesting-requires c κs = search needs
-
 returns : tie.Need-returns
-returns c = too-deep _ (omega (arith, c .if1 .taken, c .before .nesting .ensures))
+returns c = too-deep _ (omega (arith, c .if1 .taken, c .before .before .pre))
 
 alternative-requires : tie.Need-alternative-requires
 alternative-requires c κs = search needs
@@ -68,4 +65,4 @@ returns-3 c = read _ _ (rw (c .before .before .c .given .1) at (c .before .befor
 
 pub in-grammar-spec : {M : Type 1} → statement M
 in-grammar-spec =
-    tie.close (tie.spec nesting-requires returns alternative-requires enum-told enum-known-c returns-2 returns-3)
+    tie.close (tie.spec returns alternative-requires enum-told enum-known-c returns-2 returns-3)
