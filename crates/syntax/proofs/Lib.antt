@@ -1,5 +1,3 @@
-pub mod Values
-pub mod KindTable
 pub mod Front
 pub mod Run
 pub mod RunName

@@ -1,4 +1,5 @@
 pub mod Byte
+pub mod KindTable
 pub mod Name
 pub mod Grammar
 pub mod Parser

@@ -2,6 +2,7 @@
 // and call each other. The text is one that the grammar check has passed.
 use super::cursor::Cursor;
 use super::cursor::Moved;
+use super::kind::KINDS;
 use super::leaf::occurrence;
 use super::leaf::suffixes;
 use super::parts::Part;
@@ -9,6 +10,8 @@ use super::parts::when;
 use super::sets::link;
 use super::sets::put;
 use places::Places;
+ghost use mathlib.Core.Path.{_≡_};
+ghost use Rattle.syntax.specs.KindTable.{kindTable};
 ghost use Rattle.syntax.specs.Parser.{alternatives, sequences, factors};
 ghost use Rattle.syntax.specs.Resolve.{namesAt};
 ghost use Rattle.syntax.specs.Build.{Builds, Makes};
@@ -31,7 +34,8 @@ pub fn build(
     ensures { λ r. ⌜ Makes (namesAt (now (text .entry)) (now (names .entry))) (now (s .entry)) (now (follow .entry)) (now (enter .entry)) r
         (now (follow .exit)) (now (enter .exit)) ⌝ }
 {
-    let whole = alternative(s, text, names, follow, enter, Cursor { at: 0 }, 1);
+    let kinds = KINDS;
+    let whole = alternative(s, text, names, follow, enter, Cursor { at: 0 }, 1, &kinds);
     let first = whole.first;
     let last = whole.last;
     put(follow, 0, first);
@@ -50,16 +54,18 @@ fn alternative(
     enter: &mut [u64],
     c: Cursor,
     k: u64,
+    kinds: &[u8; 256],
 ) -> Part
+    requires { ⌜ now kinds ≡ kindTable ⌝ }
     ensures { λ r. ⌜ Builds alternatives 3 (namesAt (now (text .entry)) (now (names .entry))) (now (s .entry)) (c .at) k
         (now (follow .entry)) (now (enter .entry)) r (now (follow .exit)) (now (enter .exit)) ⌝ }
 {
-    let left = sequence(s, text, names, follow, enter, c, k);
+    let left = sequence(s, text, names, follow, enter, c, k, kinds);
     let end = Cursor { at: left.at };
     let moved = end.mark(s, b'|');
     match moved {
         Moved::To(next) => {
-            let right = alternative(s, text, names, follow, enter, next, left.next);
+            let right = alternative(s, text, names, follow, enter, next, left.next, kinds);
             left.either(right)
         }
         Moved::Failed => left,
@@ -74,16 +80,18 @@ fn sequence(
     enter: &mut [u64],
     c: Cursor,
     k: u64,
+    kinds: &[u8; 256],
 ) -> Part
+    requires { ⌜ now kinds ≡ kindTable ⌝ }
     ensures { λ r. ⌜ Builds sequences 2 (namesAt (now (text .entry)) (now (names .entry))) (now (s .entry)) (c .at) k
         (now (follow .entry)) (now (enter .entry)) r (now (follow .exit)) (now (enter .exit)) ⌝ }
 {
-    let left = factor(s, text, names, follow, enter, c, k);
+    let left = factor(s, text, names, follow, enter, c, k, kinds);
     let end = Cursor { at: left.at };
     let moved = end.mark(s, b'.');
     match moved {
         Moved::To(next) => {
-            let right = sequence(s, text, names, follow, enter, next, left.next);
+            let right = sequence(s, text, names, follow, enter, next, left.next, kinds);
             let lasts = left.last;
             let firsts = right.first;
             link(follow, lasts, firsts);
@@ -101,7 +109,9 @@ fn factor(
     enter: &mut [u64],
     c: Cursor,
     k: u64,
+    kinds: &[u8; 256],
 ) -> Part
+    requires { ⌜ now kinds ≡ kindTable ⌝ }
     ensures { λ r. ⌜ Builds factors 1 (namesAt (now (text .entry)) (now (names .entry))) (now (s .entry)) (c .at) k
         (now (follow .entry)) (now (enter .entry)) r (now (follow .exit)) (now (enter .exit)) ⌝ }
 {
@@ -112,7 +122,7 @@ fn factor(
             match closed {
                 Moved::To(after) => suffixes(s, follow, Part::unit(after.at, k)),
                 Moved::Failed => {
-                    let group = alternative(s, text, names, follow, enter, inner, k);
+                    let group = alternative(s, text, names, follow, enter, inner, k, kinds);
                     let end = Cursor { at: group.at };
                     let shut = end.mark(s, b')');
                     match shut {
@@ -123,7 +133,7 @@ fn factor(
             }
         }
         Moved::Failed => {
-            let name = occurrence(s, text, names, follow, enter, c, k);
+            let name = occurrence(s, text, names, follow, enter, c, k, kinds);
             suffixes(s, follow, name)
         }
     }

@@ -1,5 +1,6 @@
 // The checks of an expression's text, in the order of document 01.
 use super::grammar::in_grammar;
+use super::kind::KINDS;
 use super::labels::occurrences;
 use super::limits::nesting;
 use super::refusal::Refusal;
@@ -47,10 +48,11 @@ pub fn check_expression(s: &[u8], text: &[u8], names: &[u64]) -> Check
     if MOST_BYTES < s.len() {
         return Check::Faulty(Refusal::ExpressionTooLong);
     }
+    let kinds = KINDS;
     let deep = nesting(s);
-    let grammar = unless(in_grammar(s, deep), Refusal::NotInGrammar);
+    let grammar = unless(in_grammar(s, deep, &kinds), Refusal::NotInGrammar);
     let depth = unless(deep <= MOST_NESTING, Refusal::TooDeep);
-    let told = occurrences(s, text, names);
+    let told = occurrences(s, text, names, &kinds);
     let labels = unless(told.known, Refusal::UnknownLabel);
     let number = unless(told.count <= MOST_OCCURRENCES, Refusal::TooManyOccurrences);
     first(grammar, first(depth, first(labels, number)))

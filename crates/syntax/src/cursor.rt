@@ -1,12 +1,11 @@
 // A place in a text, handed on as the reader moves along.
 use super::kind::HYPHEN;
-use super::kind::KINDS;
 use super::kind::LETTER;
-use super::kind::kind;
 use super::name::LONGEST;
 ghost use mathlib.Core.Path.{_≡_};
 ghost use lib.ListN.{drop};
 ghost use Rattle.syntax.specs.Grammar.{Tree};
+ghost use Rattle.syntax.specs.KindTable.{kindTable};
 ghost use Rattle.syntax.specs.Parser.{named, pastMark, pastRun, suffixes};
 ghost use Rattle.syntax.specs.Place.{cursorAt, moved, parsedTo};
 
@@ -38,10 +37,10 @@ impl Cursor {
     }
 
     // Past the longest run of name bytes; from beyond the text, its end.
-    pub fn past_run(self, s: &[u8]) -> Cursor
+    pub fn past_run(self, s: &[u8], kinds: &[u8; 256]) -> Cursor
+        requires { ⌜ now kinds ≡ kindTable ⌝ }
         ensures { λ r. ⌜ r ≡ cursorAt (now (s .entry)) (pastRun (drop (self .at) (now (s .entry)))) ⌝ }
     {
-        let kinds = KINDS;
         let mut i = self.at;
         while i < s.len() {
             if HYPHEN < kinds[s[i] as usize] {
@@ -53,14 +52,15 @@ impl Cursor {
     }
 
     // Past the name that comes next: the whole run of name bytes must be one.
-    pub fn name(self, s: &[u8]) -> Moved
+    pub fn name(self, s: &[u8], kinds: &[u8; 256]) -> Moved
+        requires { ⌜ now kinds ≡ kindTable ⌝ }
         ensures { λ r. ⌜ r ≡ parsedTo (now (s .entry)) (named (drop (self .at) (now (s .entry)))) ⌝ }
     {
         let at = self.at;
-        let past = self.past_run(s);
+        let past = self.past_run(s, kinds);
         let end = past.at;
         if at < end {
-            if end - at <= LONGEST && kind(s[at]) == LETTER {
+            if end - at <= LONGEST && kinds[s[at] as usize] == LETTER {
                 Moved::To(past)
             } else {
                 Moved::Failed

@@ -1,8 +1,7 @@
 // The kinds of bytes (document 01: "every byte of an expression is of one of ten kinds").
-ghost use mathlib.Core.Path.{_≡_};
-ghost use Rattle.syntax.specs.Byte.{kind};
 
 // At each byte its kind: 0 a letter, 1 a digit, 2 the hyphen, 3 to 8 the marks `.` `|` `*` `?` `(` `)`, 9 the rest.
+// A constant is laid out anew wherever it is named, so each check and each building names the table once and lends it.
 pub const KINDS: [u8; 256] = [
     // below `(`
     9,
@@ -276,9 +275,3 @@ pub const LETTER: u8 = 0;
 
 // The last of the kinds that a name may have.
 pub const HYPHEN: u8 = 2;
-
-pub fn kind(b: u8) -> u8
-    ensures { λ r. ⌜ r ≡ kind b ⌝ }
-{
-    KINDS[b as usize]
-}

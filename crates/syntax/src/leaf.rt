@@ -6,6 +6,8 @@ use super::sets::link;
 use super::sets::put;
 use super::table::find;
 use places::Places;
+ghost use mathlib.Core.Path.{_≡_};
+ghost use Rattle.syntax.specs.KindTable.{kindTable};
 ghost use Rattle.syntax.specs.Parser.{named};
 ghost use Rattle.syntax.specs.Resolve.{namesAt};
 ghost use Rattle.syntax.specs.Build.{Builds, Suffixed};
@@ -19,12 +21,14 @@ pub fn occurrence(
     enter: &mut [u64],
     c: Cursor,
     k: u64,
+    kinds: &[u8; 256],
 ) -> Part
+    requires { ⌜ now kinds ≡ kindTable ⌝ }
     ensures { λ r. ⌜ Builds (λ n. named) 0 (namesAt (now (text .entry)) (now (names .entry))) (now (s .entry)) (c .at) k
         (now (follow .entry)) (now (enter .entry)) r (now (follow .exit)) (now (enter .exit)) ⌝ }
 {
     let at = c.at;
-    let past = c.past_run(s);
+    let past = c.past_run(s, kinds);
     let end = past.at;
     if at < end {
         if k < 64 {

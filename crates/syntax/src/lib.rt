@@ -15,8 +15,6 @@ pub mod table;
 
 pub use checks::Check;
 pub use checks::check_expression;
-pub use cursor::Cursor;
-pub use cursor::Moved;
 pub use limits::nesting;
 pub use name::is_name;
 pub use name::same_name;

@@ -1,6 +1,7 @@
 // Names (document 01): 1 to 16 bytes, a letter a to z, then letters, digits or hyphens.
 use super::cursor::Cursor;
 use super::cursor::Moved;
+use super::kind::KINDS;
 ghost use mathlib.Core.Path.{_≡_};
 ghost use Rattle.syntax.specs.Name.{isName, sameName};
 
@@ -9,8 +10,9 @@ pub const LONGEST: usize = 16;
 pub fn is_name(s: &[u8]) -> bool
     ensures { λ r. ⌜ r ≡ isName (now (s .entry)) ⌝ }
 {
+    let kinds = KINDS;
     let front = Cursor { at: 0 };
-    match front.name(s) {
+    match front.name(s, &kinds) {
         Moved::Failed => false,
         Moved::To(past) => past.at == s.len(),
     }

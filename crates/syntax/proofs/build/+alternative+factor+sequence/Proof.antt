@@ -32,35 +32,35 @@ use Rattle.syntax.proofs.sets.link.Reads as link-reads
 use Rattle.syntax.proofs.build.+alternative+factor+sequence.{statement}
 use Rattle.syntax.proofs.build.+alternative+factor+sequence.Tie.{close}
 
-abbrev μ-alternative : Measures 5 alternative-kinds.ps ℕ
+abbrev μ-alternative : Measures 6 alternative-kinds.ps ℕ
 μ-alternative κs a = 3 * (length (a .0 .now) - a .1 .1 .1 .1 .1 .0 .at) + 3
 
-abbrev μ-factor : Measures 5 factor-kinds.ps ℕ
+abbrev μ-factor : Measures 6 factor-kinds.ps ℕ
 μ-factor κs a = 3 * (length (a .0 .now) - a .1 .1 .1 .1 .1 .0 .at) + 1
 
-abbrev μ-sequence : Measures 5 sequence-kinds.ps ℕ
+abbrev μ-sequence : Measures 6 sequence-kinds.ps ℕ
 μ-sequence κs a = 3 * (length (a .0 .now) - a .1 .1 .1 .1 .1 .0 .at) + 2
 
-abbrev alternative-at : ℕ → In 5 alternative-kinds.ps
+abbrev alternative-at : ℕ → In 6 alternative-kinds.ps
 alternative-at t =
-    and 5 alternative-kinds.ps (is 5 alternative-kinds.ps μ-alternative t) alternative.Pre
+    and 6 alternative-kinds.ps (is 6 alternative-kinds.ps μ-alternative t) alternative.Pre
 
-abbrev alternative-below : ℕ → In 5 alternative-kinds.ps
+abbrev alternative-below : ℕ → In 6 alternative-kinds.ps
 alternative-below t =
-    and 5 alternative-kinds.ps (falls 5 alternative-kinds.ps _<_ μ-alternative t) alternative.Pre
+    and 6 alternative-kinds.ps (falls 6 alternative-kinds.ps _<_ μ-alternative t) alternative.Pre
 
-abbrev factor-at : ℕ → In 5 factor-kinds.ps
-factor-at t = and 5 factor-kinds.ps (is 5 factor-kinds.ps μ-factor t) factor.Pre
+abbrev factor-at : ℕ → In 6 factor-kinds.ps
+factor-at t = and 6 factor-kinds.ps (is 6 factor-kinds.ps μ-factor t) factor.Pre
 
-abbrev factor-below : ℕ → In 5 factor-kinds.ps
-factor-below t = and 5 factor-kinds.ps (falls 5 factor-kinds.ps _<_ μ-factor t) factor.Pre
+abbrev factor-below : ℕ → In 6 factor-kinds.ps
+factor-below t = and 6 factor-kinds.ps (falls 6 factor-kinds.ps _<_ μ-factor t) factor.Pre
 
-abbrev sequence-at : ℕ → In 5 sequence-kinds.ps
-sequence-at t = and 5 sequence-kinds.ps (is 5 sequence-kinds.ps μ-sequence t) sequence.Pre
+abbrev sequence-at : ℕ → In 6 sequence-kinds.ps
+sequence-at t = and 6 sequence-kinds.ps (is 6 sequence-kinds.ps μ-sequence t) sequence.Pre
 
-abbrev sequence-below : ℕ → In 5 sequence-kinds.ps
+abbrev sequence-below : ℕ → In 6 sequence-kinds.ps
 sequence-below t =
-    and 5 sequence-kinds.ps (falls 5 sequence-kinds.ps _<_ μ-sequence t) sequence.Pre
+    and 6 sequence-kinds.ps (falls 6 sequence-kinds.ps _<_ μ-sequence t) sequence.Pre
 
 -- What each function may assume of those it calls.
 abbrev alternative-calls : ℕ → alternative-lts.Claims
@@ -123,7 +123,7 @@ alternative-alternative-requires t c κs =
     let to = moved .moved .given in
     let at = left .sequence .result .at in
     let past = mark-to bar (start .args .s .now) at (to .0 .0) (sym (to .1) ∙ marked .mark .ensures) in
-    (omega (arith, past .inside, past .next, left .sequence .ensures .onward, start .pre .0), tt)
+    (omega (arith, past .inside, past .next, left .sequence .ensures .onward, start .pre .0), start .pre .1)
 
 alternative-either-requires : (t : ℕ) → alternative-lts.Need-either-requires (alternative-calls t) (alternative-at t) alternative.Post
 alternative-either-requires t c κs = search needs
@@ -132,7 +132,10 @@ alternative-enum-told : (t : ℕ) → alternative-lts.Need-enum-told (alternativ
 alternative-enum-told t c = search needs
 
 alternative-same-length : (t : ℕ) → alternative-lts.Need-same-length (alternative-calls t) (alternative-at t) alternative.Post
-alternative-same-length t c = search needs
+alternative-same-length t c =
+    let read = c .before .before .before .before .before in
+    let before = read .before .before .before .before .before .before .before .before .before .before .before in
+    read .alternative .kept .1 .1 .1 .0 ∙ before .sequence .kept .1 .1 .1 .0
 
 alternative-same-length-2 : (t : ℕ) → alternative-lts.Need-same-length-2 (alternative-calls t) (alternative-at t) alternative.Post
 alternative-same-length-2 t c = search needs
@@ -200,7 +203,7 @@ factor-alternative-requires t c κs =
     let inner = opened .opened .given in
     let a = start .args in
     let past = mark-to opening (a .s .now) (a .c .at) (inner .0 .0) (sym (inner .1) ∙ marked .mark .ensures) in
-    (omega (arith, past .inside, past .next, start .pre .0), tt)
+    (omega (arith, past .inside, past .next, start .pre .0), start .pre .1)
 
 factor-mark-requires-3 : (t : ℕ) → factor-lts.Need-mark-requires-3 (factor-calls t) (factor-at t) factor.Post
 factor-mark-requires-3 t c κs = search needs
@@ -338,7 +341,7 @@ sequence-sequence-requires t c κs =
     let to = moved .moved .given in
     let at = left .factor .result .at in
     let past = mark-to dot (start .args .s .now) at (to .0 .0) (sym (to .1) ∙ marked .mark .ensures) in
-    (omega (arith, past .inside, past .next, left .factor .ensures .onward, start .pre .0), tt)
+    (omega (arith, past .inside, past .next, left .factor .ensures .onward, start .pre .0), start .pre .1)
 
 sequence-link-requires : (t : ℕ) → sequence-lts.Need-link-requires (sequence-calls t) (sequence-at t) sequence.Post
 sequence-link-requires t c κs = search needs

@@ -11,7 +11,8 @@ use Rattle.theory.specs.Automaton.{nullable, first, last, follows, glushkov}
 use Rattle.theory.specs.AutomatonLaws.{length-follows}
 use Rattle.syntax.specs.declared.build.Automaton.{Automaton as Answer}
 use Rattle.syntax.specs.declared.parts.Part.{Part}
-use Rattle.syntax.specs.Byte.{Bytes}
+use Rattle.syntax.specs.Byte.{Bytes, kind}
+use Rattle.syntax.specs.KindTable.{kindTable}
 use Rattle.syntax.specs.Parser.{alternatives, calls}
 use Rattle.syntax.specs.Resolve.{namesAt}
 use Rattle.syntax.specs.Check.{check, fine}
@@ -47,7 +48,8 @@ module _ (labels : List Bytes) (s : Bytes) (follow enter : List ℕ) (p : Part) 
       }
 
 alternative-requires : tie.Need-alternative-requires
-alternative-requires c κs = search needs
+unfolding kindTable kind
+alternative-requires c κs = refl
 
 put-requires : tie.Need-put-requires
 put-requires c κs = search needs
@@ -58,8 +60,8 @@ when-requires c κs = search needs
 union-requires : tie.Need-union-requires
 union-requires c κs = search needs
 
-sub-t20 : tie.Need-sub-t20
-sub-t20 c = search needs
+sub-t23 : tie.Need-sub-t23
+sub-t23 c = search needs
 
 same-length : tie.Need-same-length
 same-length c = search needs
@@ -73,7 +75,7 @@ returns c =
     let tested = joined .before in
     let stored = tested .before .before .before in
     let read = stored .before .before .before .before .before .before .before .before in
-    let start = read .before .before .before .before .before .before .before .before in
+    let start = read .before .before .before .before .before .before .before .before .before in
     let a = start .args in
     let w = read .alternative in
     record {
@@ -93,7 +95,7 @@ build-spec =
     put-requires
     when-requires
     union-requires
-    sub-t20
+    sub-t23
     same-length
     same-length-2
     returns)

@@ -1,10 +1,12 @@
 -- `check_expression` meets its contract: the answers of the checks, in their order, are the check's outcome.
 use mathlib.Core.Bool.{false}
-use mathlib.Core.Path.{_≡_, _∙_, ap, ap₂}
+use mathlib.Core.Path.{_≡_, refl, _∙_, ap, ap₂}
 use native.Mathlib.Omega.{arith}
 use lib.Dec.{leb}
 use lib.ListN.{length}
 use Rattle.syntax.specs.declared.refusal.Refusal.the-variants.{NotInGrammar, UnknownLabel, TooDeep, TooManyOccurrences}
+use Rattle.syntax.specs.Byte.{kind}
+use Rattle.syntax.specs.KindTable.{kindTable}
 use Rattle.syntax.specs.Limits.{mostNesting, mostOccurrences, nesting, runs}
 use Rattle.syntax.specs.Parser.{parse}
 use Rattle.syntax.specs.Resolve.{known, namesAt}
@@ -17,17 +19,17 @@ use Rattle.syntax.proofs.checks.check_expression.Tie as tie
 
 -- What each check says of the text.
 grammar : (c : tie.After-unless)
-    → let s = c .before .before .before .before .before .before .before .args .s .now in
+    → let s = c .before .before .before .before .before .before .before .before .args .s .now in
     c .unless .result ≡ unless (isSome (parse s)) NotInGrammar
 grammar c = c .unless .ensures ∙ ap (λ x. unless x NotInGrammar) (c .before .in-grammar .ensures)
 
 depth : (c : tie.After-unless2)
-    → let s = c .before .before .before .before .before .before .before .before .args .s .now in
+    → let s = c .before .before .before .before .before .before .before .before .before .args .s .now in
     c .unless2 .result ≡ unless (leb (nesting 0 s) mostNesting) TooDeep
-depth c = c .unless2 .ensures ∙ ap (λ x. unless (leb x mostNesting) TooDeep) (c .before .before .before .nesting .ensures)
+depth c = c .unless2 .ensures ∙ ap (λ x. unless (leb x mostNesting) TooDeep) (c .before .before .before .before .nesting .ensures)
 
 labels : (c : tie.After-first)
-    → let a = c .before .before .before .before .before .before .before .before .before .before .before .before .before .args in
+    → let a = c .before .before .before .before .before .before .before .before .before .before .before .before .before .before .before .args in
     let names = unless (known (namesAt (a .text .now) (a .names .now)) (runs false (a .s .now))) UnknownLabel in
     let number = unless (leb (length (runs false (a .s .now))) mostOccurrences) TooManyOccurrences in
     c .first .result ≡ first names number
@@ -45,7 +47,8 @@ nesting-requires : tie.Need-nesting-requires
 nesting-requires c κs = search needs
 
 in-grammar-requires : tie.Need-in-grammar-requires
-in-grammar-requires c κs = search needs
+unfolding kindTable kind
+in-grammar-requires c κs = (c .before .nesting .ensures, refl)
 
 unless-requires : tie.Need-unless-requires
 unless-requires c κs = search needs
@@ -54,7 +57,8 @@ unless-requires-2 : tie.Need-unless-requires-2
 unless-requires-2 c κs = search needs
 
 occurrences-requires : tie.Need-occurrences-requires
-occurrences-requires c κs = search needs
+unfolding kindTable kind
+occurrences-requires c κs = refl
 
 unless-requires-3 : tie.Need-unless-requires-3
 unless-requires-3 c κs = search needs
@@ -74,8 +78,8 @@ first-requires-3 c κs = search needs
 returns-2 : tie.Need-returns-2
 returns-2 c =
     let l = c .before .before in
-    let d = l .before .before .before .before .before in
-    let a = d .before .before .before .before .before .before .before .before .args in
+    let d = l .before .before .before .before .before .before in
+    let a = d .before .before .before .before .before .before .before .before .before .args in
     rw (c .first3 .ensures, c .before .first2 .ensures)
     (rw (grammar (d .before), depth d, labels l)
     (in-order (namesAt (a .text .now) (a .names .now)) (a .s .now) (omega arith)))

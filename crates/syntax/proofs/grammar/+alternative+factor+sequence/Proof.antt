@@ -25,32 +25,32 @@ use Rattle.syntax.proofs.grammar.+alternative+factor+sequence.Lts-seque
 use Rattle.syntax.proofs.grammar.+alternative+factor+sequence.{statement}
 use Rattle.syntax.proofs.grammar.+alternative+factor+sequence.Tie.{close}
 
-abbrev μ-alternative : Measures 1 alternative-kinds.ps ℕ
+abbrev μ-alternative : Measures 2 alternative-kinds.ps ℕ
 μ-alternative κs a = 3 * (length (a .0 .now) - a .1 .0 .at) + 3
 
-abbrev μ-factor : Measures 1 factor-kinds.ps ℕ
+abbrev μ-factor : Measures 2 factor-kinds.ps ℕ
 μ-factor κs a = 3 * (length (a .0 .now) - a .1 .0 .at) + 1
 
-abbrev μ-sequence : Measures 1 sequence-kinds.ps ℕ
+abbrev μ-sequence : Measures 2 sequence-kinds.ps ℕ
 μ-sequence κs a = 3 * (length (a .0 .now) - a .1 .0 .at) + 2
 
-abbrev alternative-at : ℕ → In 1 alternative-kinds.ps
-alternative-at t = and 1 alternative-kinds.ps (is 1 alternative-kinds.ps μ-alternative t) alternative.Pre
+abbrev alternative-at : ℕ → In 2 alternative-kinds.ps
+alternative-at t = and 2 alternative-kinds.ps (is 2 alternative-kinds.ps μ-alternative t) alternative.Pre
 
-abbrev alternative-below : ℕ → In 1 alternative-kinds.ps
-alternative-below t = and 1 alternative-kinds.ps (falls 1 alternative-kinds.ps _<_ μ-alternative t) alternative.Pre
+abbrev alternative-below : ℕ → In 2 alternative-kinds.ps
+alternative-below t = and 2 alternative-kinds.ps (falls 2 alternative-kinds.ps _<_ μ-alternative t) alternative.Pre
 
-abbrev factor-at : ℕ → In 1 factor-kinds.ps
-factor-at t = and 1 factor-kinds.ps (is 1 factor-kinds.ps μ-factor t) factor.Pre
+abbrev factor-at : ℕ → In 2 factor-kinds.ps
+factor-at t = and 2 factor-kinds.ps (is 2 factor-kinds.ps μ-factor t) factor.Pre
 
-abbrev factor-below : ℕ → In 1 factor-kinds.ps
-factor-below t = and 1 factor-kinds.ps (falls 1 factor-kinds.ps _<_ μ-factor t) factor.Pre
+abbrev factor-below : ℕ → In 2 factor-kinds.ps
+factor-below t = and 2 factor-kinds.ps (falls 2 factor-kinds.ps _<_ μ-factor t) factor.Pre
 
-abbrev sequence-at : ℕ → In 1 sequence-kinds.ps
-sequence-at t = and 1 sequence-kinds.ps (is 1 sequence-kinds.ps μ-sequence t) sequence.Pre
+abbrev sequence-at : ℕ → In 2 sequence-kinds.ps
+sequence-at t = and 2 sequence-kinds.ps (is 2 sequence-kinds.ps μ-sequence t) sequence.Pre
 
-abbrev sequence-below : ℕ → In 1 sequence-kinds.ps
-sequence-below t = and 1 sequence-kinds.ps (falls 1 sequence-kinds.ps _<_ μ-sequence t) sequence.Pre
+abbrev sequence-below : ℕ → In 2 sequence-kinds.ps
+sequence-below t = and 2 sequence-kinds.ps (falls 2 sequence-kinds.ps _<_ μ-sequence t) sequence.Pre
 
 -- What `alternative` calls, at the measure t.
 abbrev alternative-calls : ℕ → alternative-lts.Claims
@@ -65,7 +65,7 @@ abbrev sequence-calls : ℕ → sequence-lts.Claims
 sequence-calls t = (factor-below t, factor.Post, mark.Asked, mark.Learnt, sequence-below t, sequence.Post)
 
 alternative-sequence-requires : (t : ℕ) → alternative-lts.Need-sequence-requires (alternative-calls t) (alternative-at t) alternative.Post
-alternative-sequence-requires t c κs = (omega arith, tt)
+alternative-sequence-requires t c κs = (omega arith, c .before .pre .1)
 
 alternative-enum-told : (t : ℕ) → alternative-lts.Need-enum-told (alternative-calls t) (alternative-at t) alternative.Post
 alternative-enum-told t c = search needs
@@ -91,7 +91,7 @@ alternative-alternative-requires t c κs =
         part-end sequences-of (rw (d .d .given .1) at (d .before .before .sequence .ensures))
             (sym (c .before .e .given .1) ∙ m .mark .ensures),
       ),
-      tt,
+      d .before .before .before .before .pre .1,
     )
 
 alternative-returns : (t : ℕ) → alternative-lts.Need-returns (alternative-calls t) (alternative-at t) alternative.Post
@@ -147,8 +147,11 @@ factor-enum-told-3 t c = search needs
 factor-alternative-requires : (t : ℕ) → factor-lts.Need-alternative-requires (factor-calls t) (factor-at t) factor.Post
 factor-alternative-requires t c κs =
     let d = c .before .before .before .before in
-    let a = d .before .before .before .before .args in
-    (omega (arith, past-mark (a .s .now) (a .c .at) opening _ (sym (d .d2 .given .1) ∙ d .before .before .mark .ensures)), tt)
+    let start = d .before .before .before .before in
+    let a = start .args in (
+      omega (arith, past-mark (a .s .now) (a .c .at) opening _ (sym (d .d2 .given .1) ∙ d .before .before .mark .ensures)),
+      start .pre .1,
+    )
 
 factor-enum-told-4 : (t : ℕ) → factor-lts.Need-enum-told-4 (factor-calls t) (factor-at t) factor.Post
 factor-enum-told-4 t c = search needs
@@ -217,7 +220,7 @@ factor-returns-6 t c =
     (c .suffixes3 .ensures)
 
 sequence-factor-requires : (t : ℕ) → sequence-lts.Need-factor-requires (sequence-calls t) (sequence-at t) sequence.Post
-sequence-factor-requires t c κs = (omega arith, tt)
+sequence-factor-requires t c κs = (omega arith, c .before .pre .1)
 
 sequence-enum-told : (t : ℕ) → sequence-lts.Need-enum-told (sequence-calls t) (sequence-at t) sequence.Post
 sequence-enum-told t c = search needs
@@ -243,7 +246,7 @@ sequence-sequence-requires t c κs =
         part-end factors-of (rw (d .d .given .1) at (d .before .before .factor .ensures))
             (sym (c .before .e .given .1) ∙ m .mark .ensures),
       ),
-      tt,
+      d .before .before .before .before .pre .1,
     )
 
 sequence-returns : (t : ℕ) → sequence-lts.Need-returns (sequence-calls t) (sequence-at t) sequence.Post

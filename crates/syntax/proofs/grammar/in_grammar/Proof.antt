@@ -46,7 +46,7 @@ too-deep : (s : Bytes) → length s / 2 < nesting 0 s → false ≡ isSome (pars
 too-deep s h = ap isSome (sym (parse-none s .1 (λ t d. omega (arith, h, nesting-half d))))
 
 returns : tie.Need-returns
-returns c = too-deep _ (omega (arith, c .if1 .taken, c .before .before .pre))
+returns c = too-deep _ (omega (arith, c .if1 .taken, c .before .before .pre .0))
 
 alternative-requires : tie.Need-alternative-requires
 alternative-requires c κs = search needs

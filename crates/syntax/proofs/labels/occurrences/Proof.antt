@@ -8,13 +8,13 @@ use native.Mathlib.Omega.{arith}
 use lib.ListN.{length, drop, getD}
 use borrow.Author.Needs.{needs}
 use Rattle.syntax.specs.declared.cursor.Cursor.{Cursor}
-use Rattle.syntax.specs.Byte.{Bytes, kind}
+use Rattle.syntax.specs.Byte.{Bytes}
 use Rattle.syntax.specs.Name.{find}
 use Rattle.syntax.specs.Parser.{run}
 use Rattle.syntax.specs.Limits.{runs}
 use Rattle.syntax.specs.Resolve.{known, namesAt}
 use Rattle.syntax.specs.TableLaws.{known-next, unknown-next}
-use Rattle.syntax.proofs.KindTable.{in-name, not-in-name}
+use Rattle.syntax.specs.KindTable.{in-name, not-in-name}
 use Rattle.syntax.proofs.Runs.{RunAt, run-at, runs-none, runs-end}
 use Rattle.syntax.proofs.labels.occurrences.Statement.{statement}
 use Rattle.syntax.proofs.labels.occurrences.Tie as tie
@@ -35,31 +35,32 @@ byte c = omega (arith, c .shared-slice-known4 .given (c .before .before .loop .i
 
 -- At a name byte a run begins.
 begins : (c : tie.After-past-run Inv-loop μ-loop)
-    → RunAt (c .before .before .before .before .before .before .before .before .args .s .now)
-    (c .before .before .before .before .loop .i) (c .past-run .result .at)
-unfolding kind
+    → RunAt (c .before .before .before .before .before .before .before .before .before .args .s .now)
+    (c .before .before .before .before .before .loop .i) (c .past-run .result .at)
 begins c =
-    run-at (c .before .before .before .before .before .before .before .before .args .s .now) (c .before .before .before .before .loop .i)
-    (c .past-run .result .at) (c .before .before .before .loop-test .taken) (in-name _ (byte (c .before .before)) (c .before .if1 .taken))
+    let start = c .before .before .before .before .before .before .before .before .before in
+    run-at (start .args .s .now) (c .before .before .before .before .before .loop .i)
+    (c .past-run .result .at) (c .before .before .before .before .loop-test .taken)
+    (in-name _ (start .pre) _ (byte (c .before .before .before)) (c .before .if1 .taken))
     (ap (λ (p : Cursor). p .at) (c .past-run .ensures))
 
 -- The run and the runs after it are what is left.
 left : (c : tie.After-past-run Inv-loop μ-loop)
-    → let a = c .before .before .before .before .before .before .before .before .args in
-    let u = drop (c .before .before .before .before .loop .i) (a .s .now) in
+    → let a = c .before .before .before .before .before .before .before .before .before .args in
+    let u = drop (c .before .before .before .before .before .loop .i) (a .s .now) in
     let t = namesAt (a .text .now) (a .names .now) in
     known t (run u ∷ runs false (drop (c .past-run .result .at) (a .s .now))) ≡ known t (runs false (a .s .now))
 left c =
-    let a = c .before .before .before .before .before .before .before .before .args in
-    sym (ap (known (namesAt (a .text .now) (a .names .now))) (begins c .others)) ∙ c .before .before .before .before .loop .inv .3
+    let a = c .before .before .before .before .before .before .before .before .before .args in
+    sym (ap (known (namesAt (a .text .now) (a .names .now))) (begins c .others)) ∙ c .before .before .before .before .before .loop .inv .3
 
 -- The run is looked up as a part of the text.
 looked-up : (c : tie.After-find Inv-loop μ-loop)
-    → let a = c .before .before .before .before .before .before .before .before .before .before .args in
-    let u = drop (c .before .before .before .before .before .before .loop .i) (a .s .now) in
+    → let a = c .before .before .before .before .before .before .before .before .before .before .before .args in
+    let u = drop (c .before .before .before .before .before .before .before .loop .i) (a .s .now) in
     c .find .result ≡ find (run u) 0 (namesAt (a .text .now) (a .names .now))
 looked-up c =
-    let a = c .before .before .before .before .before .before .before .before .before .before .args in
+    let a = c .before .before .before .before .before .before .before .before .before .before .before .args in
     c .find .ensures ∙ ap (λ (n : Bytes). find n 0 (namesAt (a .text .now) (a .names .now))) (begins (c .before .before) .part)
 
 loop-holds : tie.Need-loop-holds Inv-loop μ-loop
@@ -71,8 +72,8 @@ shared-slice-read-if1 c = search needs
 cast-if1 : tie.Need-cast-if1 Inv-loop μ-loop
 cast-if1 c = let b = byte c in omega arith
 
-array-read-if1 : tie.Need-array-read-if1 Inv-loop μ-loop
-array-read-if1 c = let b = byte c in omega arith
+element-copy-out-if1 : tie.Need-element-copy-out-if1 Inv-loop μ-loop
+element-copy-out-if1 c = let b = byte c in omega arith
 
 past-run-requires : tie.Need-past-run-requires Inv-loop μ-loop
 past-run-requires c κs = search needs
@@ -91,7 +92,7 @@ find-requires c κs = search needs
 
 returns : tie.Need-returns Inv-loop μ-loop
 returns c =
-    let a = c .before .before .before .before .before .before .before .before .before .before .before .args in
+    let a = c .before .before .before .before .before .before .before .before .before .before .before .before .args in
     record {
       names = sym (unknown-next (a .text .now) (a .names .now) _ _ (c .before .find .result) (looked-up (c .before)) (c .if2 .taken))
           ∙ left (c .before .before .before);
@@ -106,9 +107,9 @@ loop-less c = let b = begins (c .before .before .before) in omega arith
 
 loop-again : tie.Need-loop-again Inv-loop μ-loop
 loop-again c =
-    let a = c .before .before .before .before .before .before .before .before .before .before .before .args in
+    let a = c .before .before .before .before .before .before .before .before .before .before .before .before .args in
     let b = begins (c .before .before .before) in
-    let l = c .before .before .before .before .before .before .before .loop in (
+    let l = c .before .before .before .before .before .before .before .before .loop in (
       omega arith,
       omega arith,
       omega (arith, l .inv .2, ap length (b .others)),
@@ -123,11 +124,12 @@ loop-less-2 : tie.Need-loop-less-2 Inv-loop μ-loop
 loop-less-2 c = search needs
 
 loop-again-2 : tie.Need-loop-again-2 Inv-loop μ-loop
-unfolding kind
 loop-again-2 c =
-    let a = c .before .before .before .before .before .before .before .args in
-    let l = c .before .before .before .loop in
-    let none = runs-none (a .s .now) (l .i) (c .before .before .loop-test .taken) (not-in-name _ (byte (c .before)) (c .if1 .left)) in (
+    let start = c .before .before .before .before .before .before .before .before in
+    let a = start .args in
+    let l = c .before .before .before .before .loop in
+    let none = runs-none (a .s .now) (l .i) (c .before .before .before .loop-test .taken)
+    (not-in-name _ (start .pre) _ (byte (c .before .before)) (c .if1 .left)) in (
       omega arith,
       omega arith,
       omega (arith, ap length none),
@@ -154,7 +156,7 @@ occurrences-spec =
     loop-holds
     shared-slice-read-if1
     cast-if1
-    array-read-if1
+    element-copy-out-if1
     past-run-requires
     sub-find
     part-find-start

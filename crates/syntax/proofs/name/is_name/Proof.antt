@@ -10,7 +10,8 @@ use borrow.Author.Tests.{eq-eqb, ne-eqb}
 use Rattle.theory.specs.Expression.{label}
 use Rattle.syntax.specs.declared.cursor.Cursor.{Cursor}
 use Rattle.syntax.specs.declared.cursor.Moved.the-variants.{To, Failed}
-use Rattle.syntax.specs.Byte.{Bytes}
+use Rattle.syntax.specs.Byte.{Bytes, kind}
+use Rattle.syntax.specs.KindTable.{kindTable}
 use Rattle.syntax.specs.Name.{isName}
 use Rattle.syntax.specs.Parser.{failed, parsed, run, pastRun, named}
 use Rattle.syntax.specs.Place.{cursorAt, parsedTo}
@@ -45,7 +46,8 @@ module _ (s : Bytes) where
       go false n e = let z : _≡_ {A = ℕ} 0 1 = cc in absurd (omega arith)
 
 name-requires : tie.Need-name-requires
-name-requires c κs = search needs
+unfolding kindTable kind
+name-requires c κs = refl
 
 enum-told : tie.Need-enum-told
 enum-told c = search needs

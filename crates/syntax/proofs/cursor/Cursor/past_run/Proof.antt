@@ -4,9 +4,9 @@ use mathlib.Core.Path.{_≡_, refl, ap, sym, _∙_}
 use native.Mathlib.Omega.{arith}
 use lib.ListN.{length, drop, getD}
 use borrow.Author.Needs.{needs}
-use Rattle.syntax.specs.Byte.{kind, nameByte}
+use Rattle.syntax.specs.Byte.{nameByte}
 use Rattle.syntax.specs.Place.{cursorAt}
-use Rattle.syntax.proofs.KindTable.{in-name, not-in-name}
+use Rattle.syntax.specs.KindTable.{in-name, not-in-name}
 use Rattle.syntax.proofs.Front.{pastWhile, past-run, passed, stopped, ended}
 use Rattle.syntax.proofs.cursor.Cursor.past_run.Statement.{statement}
 use Rattle.syntax.proofs.cursor.Cursor.past_run.Tie as tie
@@ -29,16 +29,15 @@ shared-slice-read-if1 c = search needs
 cast-if1 : tie.Need-cast-if1 Inv-loop μ-loop
 cast-if1 c = let b = byte c in omega arith
 
-array-read-if1 : tie.Need-array-read-if1 Inv-loop μ-loop
-array-read-if1 c = let b = byte c in omega arith
+element-copy-out-if1 : tie.Need-element-copy-out-if1 Inv-loop μ-loop
+element-copy-out-if1 c = let b = byte c in omega arith
 
 returns : tie.Need-returns Inv-loop μ-loop
-unfolding kind
 returns c =
-    let s = c .before .before .before .before .args .s .now in
-    let l = c .before .before .before .loop in
-    stopped nameByte s (l .i) (c .before .before .loop-test .taken) (not-in-name _ (byte (c .before)) (c .if1 .taken))
-    ∙ ap (cursorAt s) (l .inv ∙ sym (past-run _))
+    let s = c .before .before .before .before .before .args .s .now in
+    let l = c .before .before .before .before .loop in
+    let k = not-in-name _ (c .before .before .before .before .before .pre) _ (byte (c .before .before)) (c .if1 .taken) in
+    stopped nameByte s (l .i) (c .before .before .before .loop-test .taken) k ∙ ap (cursorAt s) (l .inv ∙ sym (past-run _))
 
 add-i : tie.Need-add-i Inv-loop μ-loop
 add-i c = search needs
@@ -47,12 +46,11 @@ loop-less : tie.Need-loop-less Inv-loop μ-loop
 loop-less c = search needs
 
 loop-again : tie.Need-loop-again Inv-loop μ-loop
-unfolding kind
 loop-again c =
-    let s = c .before .before .before .before .args .s .now in
-    let l = c .before .before .before .loop in
-    passed nameByte s (l .i) (c .before .before .loop-test .taken) (in-name _ (byte (c .before)) (c .if1 .left))
-    ∙ l .inv
+    let s = c .before .before .before .before .before .args .s .now in
+    let l = c .before .before .before .before .loop in
+    let k = in-name _ (c .before .before .before .before .before .pre) _ (byte (c .before .before)) (c .if1 .left) in
+    passed nameByte s (l .i) (c .before .before .before .loop-test .taken) k ∙ l .inv
 
 returns-2 : tie.Need-returns-2 Inv-loop μ-loop
 returns-2 c =
@@ -63,4 +61,4 @@ returns-2 c =
 pub past-run-spec : {M : Type 1} → statement M
 past-run-spec =
     tie.close
-    (tie.spec Inv-loop μ-loop loop-holds shared-slice-read-if1 cast-if1 array-read-if1 returns add-i loop-less loop-again returns-2)
+    (tie.spec Inv-loop μ-loop loop-holds shared-slice-read-if1 cast-if1 element-copy-out-if1 returns add-i loop-less loop-again returns-2)
