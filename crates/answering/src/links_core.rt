@@ -71,7 +71,7 @@ pub fn mark_links(
         (now (marks .entry)) (now (workspace .entry)) r (now (marks .exit)) (now (workspace .exit))) ⌝ }
 {
     let mut found: [u64; 64] = [0; 64];
-    let mut moves: [u64; 2048] = [0; 2048];
+    let mut moves: [u8; 2048] = [0; 2048];
     let told = standings(follow, enter, labels, 64, &mut found, &mut moves);
     match told {
         Explored::All(_) => {

@@ -27,7 +27,7 @@ firstWord (some w) = record { any = true; length = length w; word = w ++ replica
 -- For the states l with these flags and these trails, r is the first accepted word.
 pub record FirstTold (flags : List ℕ) (count : ℕ) (parents symbols : List ℕ) (r : FirstWord) : Type 0 where
   pub told : (accepting lists : ℕ) (l : List (Entry ℕ)) → count ≡ length l → count ≤ 256
-      → take count flags ≡ map (λ X. flag (stateAccepts accepting X)) (values l) → lists ≤ 256 → Trailed lists parents symbols (trails l)
+      → take count flags ≡ map (λ X. flag (stateAccepts accepting X)) (values l) → Trailed lists parents symbols (trails l)
       → r ≡ firstWord (firstAccepted accepting l)
 
 -- The length of a state's trail.
@@ -80,7 +80,7 @@ module _ (parents : List ℕ) (state : ℕ) where
 
 -- The word of a state's trail, stored from 0 to `size`.
 pub record Spelled (parents symbols : List ℕ) (state size : ℕ) (before word : List ℕ) : Type 0 where
-  pub told : (k : ℕ) (found : List (List ℕ)) → k ≤ 256 → Trailed k parents symbols found → state < length found
+  pub told : (k : ℕ) (found : List (List ℕ)) → Trailed k parents symbols found → state < length found
       → size ≡ length (getD found state []) → word ≡ reverse (getD found state []) ++ drop size before
 
 -- At `at`, what is stored from `end` on completes the word of the state.
@@ -93,7 +93,7 @@ pub record Spelling (parents symbols : List ℕ) (state size : ℕ) (before : Li
   pub below : end ≤ size
   pub sized : length word ≡ length before
   pub behind : drop size word ≡ drop size before
-  pub told : (k : ℕ) (found : List (List ℕ)) → k ≤ 256 → Trailed k parents symbols found → state < length found
+  pub told : (k : ℕ) (found : List (List ℕ)) → Trailed k parents symbols found → state < length found
       → size ≡ length (getD found state []) → Completes found state size word at end
 
 module _ (parents symbols : List ℕ) (state size : ℕ) (before : List ℕ) where
@@ -103,7 +103,7 @@ module _ (parents symbols : List ℕ) (state size : ℕ) (before : List ℕ) whe
         below = omega arith;
         sized = refl;
         behind = refl;
-        told = λ k found w t l e. (
+        told = λ k found t l e. (
           l,
           e,
           ap (λ r. reverse (getD found state []) ++ r) (slice-empty size before) ∙ append-nil (reverse (getD found state [])),
@@ -118,23 +118,22 @@ module _ (parents symbols : List ℕ) (state size : ℕ) (before : List ℕ) whe
       (ap (drop (suc e)) (take-set-lt size word e x h) ∙ drop-set-lt (suc e) (take size word) e x (omega arith))
 
   pub spelling-more : (at end x parent : ℕ) (word : List ℕ) → Spelling parents symbols state size before at end word
-      → size ≤ length before → 0 < end → (getD symbols at 0 ≤ 255 → x ≡ getD symbols at 0) → parent ≡ getD parents at 0
+      → size ≤ length before → 0 < end → x ≡ getD symbols at 0 → parent ≡ getD parents at 0
       → Spelling parents symbols state size before parent (end - 1) (set word (end - 1) x)
-  spelling-more at end x parent word s room h b e =
+  spelling-more at end x parent word s room h same e =
       record {
         below = omega (arith, s .below);
         sized = length-set word (end - 1) x ∙ s .sized;
         behind = drop-set-lt size word (end - 1) x (omega (arith, s .below)) ∙ s .behind;
-        told = λ k found w t l z. step k found w t (s .told k found w t l z);
+        told = λ k found t l z. step k found t (s .told k found t l z);
       }
     where
-      step : (k : ℕ) (found : List (List ℕ)) → k ≤ 256 → Trailed k parents symbols found
+      step : (k : ℕ) (found : List (List ℕ)) → Trailed k parents symbols found
           → Completes found state size word at end → Completes found state size (set word (end - 1) x) parent (end - 1)
-      step k found w t y =
+      step k found t y =
           let later : 0 < at = after-first (decLt 0 at) in
           let trail : getD found at [] ≡ getD symbols at 0 ∷ getD found parent [] =
           t .trail at later (y .0) ∙ ap (λ p. getD symbols at 0 ∷ getD found p []) (sym e) in
-          let same : x ≡ getD symbols at 0 = b (omega (arith, t .symbol at later (y .0))) in
           let next : suc (end - 1) ≡ end = omega arith in (
             omega (arith, t .parent at later (y .0)),
             omega (arith, ap length trail),
@@ -153,7 +152,7 @@ module _ (parents symbols : List ℕ) (state size : ℕ) (before : List ℕ) whe
   pub spelling-end : (at end : ℕ) (word : List ℕ) → Spelling parents symbols state size before at end word → size ≤ length before → end ≤ 0
       → Spelled parents symbols state size before word
   spelling-end at end word s room h =
-      record { told = λ k found w t l z. whole found (s .told k found w t l z) }
+      record { told = λ k found t l z. whole found (s .told k found t l z) }
     where
       empty : (l : List ℕ) → length l ≡ 0 → l ≡ []
       empty [] e = refl
@@ -232,7 +231,7 @@ module _ (flags : List ℕ) (count : ℕ) (parents symbols : List ℕ) where
   unfolding placeOf marks
   first-none state r e h w =
       record {
-        told = λ accepting lists l n c f k t. w ∙ ap firstWord (sym (none-from accepting 0 l (omega (arith, ap (placeFrom 0 1) f))));
+        told = λ accepting lists l n c f t. w ∙ ap firstWord (sym (none-from accepting 0 l (omega (arith, ap (placeFrom 0 1) f))));
       }
 
   pub first-word : (state size : ℕ) (word : List ℕ) → state ≡ placeOf 1 (take count flags) → state < count → TrailLength parents state size
@@ -240,12 +239,12 @@ module _ (flags : List ℕ) (count : ℕ) (parents symbols : List ℕ) where
       → FirstTold flags count parents symbols (record { any = true; length = size; word = word })
   unfolding placeOf firstWord marks
   first-word state size word e h m s =
-      record { told = λ accepting lists l n c f k t. same accepting lists l n f k t }
+      record { told = λ accepting lists l n c f t. same accepting lists l n f t }
     where
       same : (accepting lists : ℕ) (l : List (Entry ℕ)) → count ≡ length l
-          → take count flags ≡ map (λ X. flag (stateAccepts accepting X)) (values l) → lists ≤ 256 → Trailed lists parents symbols (trails l)
+          → take count flags ≡ map (λ X. flag (stateAccepts accepting X)) (values l) → Trailed lists parents symbols (trails l)
           → _≡_ {A = FirstWord} (record { any = true; length = size; word = word }) (firstWord (firstAccepted accepting l))
-      same accepting lists l n f k t =
+      same accepting lists l n f t =
           let p : placeFrom 0 1 (marks accepting (values l)) ≡ state = sym (e ∙ ap (placeFrom 0 1) f) in
           let z : placeFrom 0 1 (marks accepting (values l)) - 0 ≡ state = omega arith in
           let inside : state < length (trails l) = omega (arith, length-trails l) in
@@ -254,18 +253,18 @@ module _ (flags : List ℕ) (count : ℕ) (parents symbols : List ℕ) where
           let exact : size ≡ length (getD (trails l) state []) = m .exact lists symbols (trails l) t inside in
           let r : length (reverse (getD (trails l) state [])) ≡ size = length-reverse (getD (trails l) state []) ∙ sym exact in
           ap₂ (λ n w. record { any = true; length = n; word = w }) (sym r)
-          (s .told lists (trails l) k t inside exact ∙ ap (λ b. reverse (getD (trails l) state []) ++ b) (drop-replicate size 256 0
+          (s .told lists (trails l) t inside exact ∙ ap (λ b. reverse (getD (trails l) state []) ++ b) (drop-replicate size 256 0
           ∙ ap (λ q. replicate (256 - q) 0) (sym r)))
           ∙ ap firstWord (sym first)
 
   -- There are no such states.
   pub first-many : (r : FirstWord) → 256 < count → FirstTold flags count parents symbols r
-  first-many r h = record { told = λ accepting lists l n c f k t. absurd (omega arith) }
+  first-many r h = record { told = λ accepting lists l n c f t. absurd (omega arith) }
 
   pub first-short : (r : FirstWord) → length flags < count → FirstTold flags count parents symbols r
   first-short r h =
       record {
-        told = λ accepting lists l n c f k t.
+        told = λ accepting lists l n c f t.
             absurd
             (omega (arith, ap length f, length-take count flags, length-map (values l) (λ X. flag (stateAccepts accepting X)), length-values l));
       }

@@ -280,25 +280,25 @@ module _ (moves : List ℕ) (count a p : ℕ) where
     after = bitAnd rest (rest - 1)
 
     -- The standing leads to another, below the count.
-    pub standing-in : getD moves (32 * trailingZeros 64 rest + a) 0 < count → (u v : ℕ × ℕ)
+    pub standing-in : (to : ℕ) → to ≡ getD moves (32 * trailingZeros 64 rest + a) 0 → to < count → (u v : ℕ × ℕ)
         → Moved moves count a p (Passed taken (bitAnd rest (rest - 1))) (λ y. y ≡ next) u v
         ↔ (Moved moves count a p (Passed taken rest) (λ y. y ≡ next) u v
-        ⊎ Only p (trailingZeros 64 rest) next (getD moves (32 * trailingZeros 64 rest + a) 0) u v)
-    standing-in l u v = (λ (e, t, n, m, b). there e n m b (passed-turn taken rest within d h (u .0) .0 t), back)
+        ⊎ Only p (trailingZeros 64 rest) next to u v)
+    standing-in to f l u v = (λ (e, t, n, m, b). there e n m b (passed-turn taken rest within d h (u .0) .0 t), back)
       where
         there : u .1 ≡ p → v .1 ≡ next → v .0 ≡ getD moves (32 * u .0 + a) 0 → v .0 < count → Passed taken rest (u .0) ⊎ (u .0 ≡ least)
-            → Moved moves count a p (Passed taken rest) (λ y. y ≡ next) u v ⊎ Only p least next (getD moves (32 * least + a) 0) u v
+            → Moved moves count a p (Passed taken rest) (λ y. y ≡ next) u v ⊎ Only p least next to u v
         there e n m b (inl t) = inl (e, t, n, m, b)
-        there e n m b (inr q) = inr (e, q, n, m ∙ ap (λ z. getD moves (32 * z + a) 0) q)
+        there e n m b (inr q) = inr (e, q, n, m ∙ (ap (λ z. getD moves (32 * z + a) 0) q ∙ sym f))
 
-        back : Moved moves count a p (Passed taken rest) (λ y. y ≡ next) u v ⊎ Only p least next (getD moves (32 * least + a) 0) u v
+        back : Moved moves count a p (Passed taken rest) (λ y. y ≡ next) u v ⊎ Only p least next to u v
             → Moved moves count a p (Passed taken after) (λ y. y ≡ next) u v
         back (inl (e, t, n, m, b)) = (e, passed-turn taken rest within d h (u .0) .1 (inl t), n, m, b)
         back (inr (e, q, n, m)) = (
           e,
           passed-turn taken rest within d h (u .0) .1 (inr q),
           n,
-          m ∙ ap (λ z. getD moves (32 * z + a) 0) (sym q),
+          m ∙ (f ∙ ap (λ z. getD moves (32 * z + a) 0) (sym q)),
           subst (λ z. z < count) (sym m) l,
         )
 

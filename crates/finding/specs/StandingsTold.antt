@@ -33,6 +33,7 @@ pub record Room (labels limit i n : ℕ) (enter found moves : List ℕ) : Type 0
   pub enters : labels ≤ length enter
   pub inside : i < n
   pub within : n ≤ limit
+  pub most : limit ≤ 64
   pub numbers : limit ≤ length found
   pub rows : 32 * limit ≤ length moves
 

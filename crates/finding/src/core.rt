@@ -27,7 +27,7 @@ fn query_standings(
     enter: &[u64; 544],
     sizes: &[u64; 17],
     found: &mut [u64; 64],
-    moves: &mut [u64; 2048],
+    moves: &mut [u8; 2048],
 ) -> Explored
     ensures { λ r. ⌜ QueryTold (now (follow .entry)) (now (enter .entry)) (now (sizes .entry)) labels limit r
         (now (found .exit)) (now (moves .exit)) ⌝ }
@@ -49,8 +49,8 @@ fn found_answer(
     accepting: u64,
     explored: &[u64; 256],
     n: u64,
-    parents: &[u64; 256],
-    symbols: &[u64; 256],
+    parents: &[u8; 256],
+    symbols: &[u8; 256],
     marks: &mut [u8],
 ) -> FindAnswer
     ensures { λ r. ⌜ FoundTold (now (found .entry)) count accepting (now (explored .entry)) n (now (parents .entry)) (now (symbols .entry))
@@ -77,7 +77,7 @@ fn find_states(
     accepting: &[u64; 17],
     count: u64,
     found: &[u64; 64],
-    moves: &[u64; 2048],
+    moves: &[u8; 2048],
     table: &mut [u16],
     marks: &mut [u8],
 ) -> FindAnswer

@@ -1,8 +1,8 @@
 // The first accepted word: that of the first state with flag 1, read off by following the parents back.
-use crate::number::number_at;
+use crate::number::wide;
 ghost use mathlib.Core.Path.{_≡_};
 ghost use mathlib.Core.Option.{none};
-ghost use Prim.Native.Nat.{_≤_};
+ghost use Prim.Native.Nat.{_≤_, _<_};
 ghost use lib.ListN.{length};
 ghost use Rattle.finding.specs.Standings.{placeOf};
 ghost use Rattle.finding.specs.FirstWords.{firstWord, TrailLength, Spelled, FirstTold};
@@ -29,13 +29,14 @@ fn flag_place(flags: &[u8]) -> usize
 }
 
 // How many steps lead back from a state to the start. A parent that is not before its state ends the way.
-fn trail_length(parents: &[u64], state: u64) -> u64
+fn trail_length(parents: &[u8; 256], state: usize) -> u64
+    requires { ⌜ state < 256 ⌝ }
     ensures { λ r. ⌜ TrailLength (now (parents .entry)) state r ⌝ }
 {
     let mut at = state;
     let mut steps: u64 = 0;
     while at > 0 {
-        let parent = number_at(parents, at);
+        let parent = wide(parents[at]);
         if parent >= at {
             return steps;
         }
@@ -45,23 +46,17 @@ fn trail_length(parents: &[u64], state: u64) -> u64
     steps
 }
 
-fn byte(x: u64) -> u8
-    ensures { λ r. ⌜ (x ≤ 255 → r ≡ x) ⌝ }
-{
-    if x <= 255 { x as u8 } else { 0 }
-}
-
 // The symbols of a state's trail, the last one first, from `size` back to 0.
-fn spell(parents: &[u64], symbols: &[u64], state: u64, size: usize, word: &mut [u8])
-    requires { ⌜ size ≤ length (now word) ⌝ }
+fn spell(parents: &[u8; 256], symbols: &[u8; 256], state: usize, size: usize, word: &mut [u8])
+    requires { ⌜ (state < 256) × (size ≤ length (now word)) ⌝ }
     ensures { λ _. ⌜ Spelled (now (parents .entry)) (now (symbols .entry)) state size (now (word .entry)) (now (word .exit)) ⌝ }
 {
     let mut at = state;
     let mut end = size;
     while end > 0 {
         end -= 1;
-        word[end] = byte(number_at(symbols, at));
-        at = number_at(parents, at);
+        word[end] = symbols[at];
+        at = wide(parents[at]);
     }
 }
 
@@ -76,7 +71,7 @@ pub fn no_word() -> FirstWord
     }
 }
 
-pub fn first(flags: &[u8], count: u64, parents: &[u64; 256], symbols: &[u64; 256]) -> FirstWord
+pub fn first(flags: &[u8], count: u64, parents: &[u8; 256], symbols: &[u8; 256]) -> FirstWord
     ensures { λ r. ⌜ FirstTold (now (flags .entry)) count (now (parents .entry)) (now (symbols .entry)) r ⌝ }
 {
     let n = count as usize;
@@ -86,8 +81,8 @@ pub fn first(flags: &[u8], count: u64, parents: &[u64; 256], symbols: &[u64; 256
     if n > flags.len() {
         return no_word();
     }
-    let state = flag_place(&flags[..n]) as u64;
-    if state >= count {
+    let state = flag_place(&flags[..n]);
+    if state >= n {
         return no_word();
     }
     let mut word = [0u8; 256];

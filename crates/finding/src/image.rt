@@ -57,7 +57,7 @@ fn turn(from: &[u64; 4096], count: usize, places: usize, accepting: u64, out: &m
 // The images of all standings, in their order, into the first numbers of `out`. There is room for 64 standings, 32 labels and 64 places.
 // What `from` holds before and after does not matter.
 pub fn images(
-    moves: &[u64; 2048],
+    moves: &[u8; 2048],
     count: u64,
     labels: u64,
     follow: &[u64],

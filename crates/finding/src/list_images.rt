@@ -8,7 +8,7 @@ ghost use Rattle.finding.specs.ListRows.{jobTables, FilledRow, ListTold,
 
 // The row v, from a list's automaton.
 fn fill_row(
-    moves: &[u64; 2048],
+    moves: &[u8; 2048],
     count: u64,
     labels: u64,
     follow: &[u64],
@@ -37,7 +37,7 @@ fn fill_row(
 
 // The row of the list v, whose automaton is number v + 1.
 fn list_row(
-    moves: &[u64; 2048],
+    moves: &[u8; 2048],
     count: u64,
     labels: u64,
     follow: &[u64; 1088],
@@ -78,7 +78,7 @@ fn list_row(
 
 // The rows of all lists. The words for the sources of pairs, used for one list after the other, take 32 KiB of the thread's stack.
 pub fn list_images(
-    moves: &[u64; 2048],
+    moves: &[u8; 2048],
     count: u64,
     labels: u64,
     lists: u64,

@@ -1,5 +1,6 @@
 // Numbers in lent memory.
 ghost use mathlib.Core.Path.{_≡_};
+ghost use Prim.Native.Nat.{_<_};
 ghost use lib.ListN.{getD};
 
 // The number at place i, 0 beyond the end.
@@ -8,4 +9,11 @@ pub fn number_at(numbers: &[u64], i: u64) -> u64
 {
     let at = i as usize;
     if at < numbers.len() { numbers[at] } else { 0 }
+}
+
+// A number that is kept in a byte.
+pub fn wide(number: u8) -> usize
+    ensures { λ r. ⌜ (r ≡ number) × (r < 256) ⌝ }
+{
+    number as usize
 }

@@ -7,6 +7,7 @@ ghost use Rattle.theory.specs.Places.{Member};
 ghost use Rattle.finding.specs.ImageSearch.{tables, Fitting};
 ghost use Rattle.finding.specs.Sources.{sources, Followed, Only, Moved, Labelled, Begun, Searched};
 use crate::clear::clear_words;
+use crate::number::wide;
 
 // The sources of (s, p) are passed on to (to, next). Where some are new there, that pair is pending, and its place waits; the waiting
 // places are returned.
@@ -35,7 +36,7 @@ fn pass_on(
 
 // The label a is followed from the place p with the standings taken, to the place next.
 fn follow_standings(
-    moves: &[u64; 2048],
+    moves: &[u8; 2048],
     count: usize,
     a: usize,
     p: usize,
@@ -53,7 +54,7 @@ fn follow_standings(
     let mut rest = taken;
     while rest != 0 {
         let s = u64::trailing_zeros(rest) as usize;
-        let to = moves[32 * s + a] as usize;
+        let to = wide(moves[32 * s + a]);
         if to < count {
             all = pass_on(p, s, next, to, from, pending, all);
         }
@@ -64,7 +65,7 @@ fn follow_standings(
 
 // The label a is followed from the place p with the standings taken, to the places that it enters, those below `places`.
 fn follow_places(
-    moves: &[u64; 2048],
+    moves: &[u8; 2048],
     count: usize,
     a: usize,
     p: usize,
@@ -93,7 +94,7 @@ fn follow_places(
 
 // All labels are followed from the place p with the standings taken.
 fn follow_labels(
-    moves: &[u64; 2048],
+    moves: &[u8; 2048],
     count: usize,
     labels: usize,
     follow: &[u64],
@@ -149,7 +150,7 @@ fn begin(count: usize, places: usize, from: &mut [u64; 4096]) -> u64
 
 // The sources of all pairs: while a place waits, its labels are followed from the standings pending at it.
 pub fn find_sources(
-    moves: &[u64; 2048],
+    moves: &[u8; 2048],
     count: usize,
     labels: usize,
     follow: &[u64],

@@ -24,7 +24,7 @@ fn row(
     i: usize,
     n: usize,
     found: &mut [u64],
-    moves: &mut [u64],
+    moves: &mut [u8],
 ) -> Explored
     requires { ⌜ Room labels limit i n (now enter) (now found) (now moves) ⌝ }
     ensures { λ r. ⌜ RowResult (stepOf (plain (now (follow .entry)) (now (enter .entry)) 0)) 1 labels limit 32 i n
@@ -37,7 +37,7 @@ fn row(
     while a < labels {
         let next = after.0 & enter[a];
         let to = place_of(&found[..m], next);
-        moves[32 * i + a] = to as u64;
+        moves[32 * i + a] = to as u8;
         if to == m {
             if m == limit {
                 return Explored::Over;
@@ -57,7 +57,7 @@ fn sweep(
     labels: usize,
     limit: usize,
     found: &mut [u64],
-    moves: &mut [u64],
+    moves: &mut [u8],
 ) -> Explored
     requires { ⌜ Room labels limit 0 1 (now enter) (now found) (now moves) ⌝ }
     ensures { λ r. ⌜ SweepResult (stepOf (plain (now (follow .entry)) (now (enter .entry)) 0)) 1 labels limit 32 r
@@ -89,7 +89,7 @@ pub fn standings(
     labels: u64,
     limit: u64,
     found: &mut [u64; 64],
-    moves: &mut [u64; 2048],
+    moves: &mut [u8; 2048],
 ) -> Explored
     ensures { λ r. ⌜ (labels ≤ 32 → labels ≤ length (now (enter .entry)) → limit ≤ 64
         → StandingsTold (now (follow .entry)) (now (enter .entry)) labels limit r (now (found .exit)) (now (moves .exit))) ⌝ }

@@ -35,8 +35,8 @@ fn extend(
     list: usize,
     n: usize,
     found: &mut [u64],
-    parents: &mut [u64],
-    symbols: &mut [u64],
+    parents: &mut [u8],
+    symbols: &mut [u8],
     table: &mut [u16],
     heads: &mut [u16; 1019],
     nexts: &mut [u16; 256],
@@ -60,8 +60,8 @@ fn extend(
     }
     note(heads, nexts, at, n);
     found[n] = next;
-    parents[n] = s as u64;
-    symbols[n] = list as u64;
+    parents[n] = s as u8;
+    symbols[n] = list as u8;
     table[16 * s + list] = n as u16;
     Explored::All(n as u64 + 1)
 }
@@ -75,8 +75,8 @@ fn row(
     s: usize,
     n: usize,
     found: &mut [u64],
-    parents: &mut [u64],
-    symbols: &mut [u64],
+    parents: &mut [u8],
+    symbols: &mut [u8],
     table: &mut [u16],
     heads: &mut [u16; 1019],
     nexts: &mut [u16; 256],
@@ -125,8 +125,8 @@ fn sweep(
     lists: usize,
     limit: usize,
     found: &mut [u64],
-    parents: &mut [u64],
-    symbols: &mut [u64],
+    parents: &mut [u8],
+    symbols: &mut [u8],
     table: &mut [u16],
 ) -> Explored
     requires { ⌜ (lists ≤ 16) × (0 < limit) × Room limit (memory (now found) (now parents) (now symbols) (now table)) ⌝ }
@@ -175,8 +175,8 @@ pub fn states(
     lists: u64,
     limit: u64,
     found: &mut [u64; 256],
-    parents: &mut [u64; 256],
-    symbols: &mut [u64; 256],
+    parents: &mut [u8; 256],
+    symbols: &mut [u8; 256],
     table: &mut [u16],
 ) -> Explored
     ensures { λ r. ⌜ (count ≤ 64 → lists ≤ 16 → limit ≤ 256 → 4096 ≤ length (now (table .entry))

@@ -50,8 +50,8 @@ spell-requires c κs = search needs
 returns-4 : tie.Need-returns-4
 returns-4 c =
     let spelled = c .before in
-    let walked = spelled .before .before .before .before in
-    let tested = walked .before .before in
+    let walked = spelled .before .before in
+    let tested = walked .before in
     let a = tested .before .before .before .before .before .before .args in
     let f = tested .before .flag-place in
     let t = walked .trail-length in

@@ -12,38 +12,41 @@ abbrev μ-loop : tie.MeasureT-loop
 μ-loop parents state at₀ steps₀ at steps = at
 
 loop-holds : tie.Need-loop-holds Inv-loop μ-loop
-loop-holds c = walking-start (c .before .args .parents .now) (c .before .args .state)
+loop-holds c = walking-start (c .args .parents .now) (c .args .state)
 
-number-at-requires : tie.Need-number-at-requires Inv-loop μ-loop
-number-at-requires c κs = search needs
+element-copy-out-wide : tie.Need-element-copy-out-wide Inv-loop μ-loop
+element-copy-out-wide c = omega (arith, c .before .loop .inv .within, c .before .before .pre)
+
+wide-requires : tie.Need-wide-requires Inv-loop μ-loop
+wide-requires c κs = search needs
 
 returns : tie.Need-returns Inv-loop μ-loop
 returns c =
-    let head = c .before .before .before in
-    let a = head .before .before .args in
+    let head = c .before .before .before .before in
+    let a = head .before .args in
     let l = head .loop in
-    let parent = c .before .number-at in
-    walking-stuck (a .parents .now) (a .state) (l .at) (l .steps) (parent .result) (l .inv) (c .before .before .loop-test .taken)
-    (parent .ensures) (c .if1 .taken)
+    let parent = c .before .wide in
+    walking-stuck (a .parents .now) (a .state) (l .at) (l .steps) (parent .result) (l .inv) (c .before .before .before .loop-test .taken)
+    (parent .ensures .0) (c .if1 .taken)
 
 add-steps : tie.Need-add-steps Inv-loop μ-loop
-add-steps c = omega (arith, c .before .before .before .loop .inv .within)
+add-steps c = omega (arith, c .before .before .before .before .loop .inv .within)
 
 loop-less : tie.Need-loop-less Inv-loop μ-loop
 loop-less c = search needs
 
 loop-again : tie.Need-loop-again Inv-loop μ-loop
 loop-again c =
-    let head = c .before .before .before in
-    let a = head .before .before .args in
+    let head = c .before .before .before .before in
+    let a = head .before .args in
     let l = head .loop in
-    let parent = c .before .number-at in
-    walking-more (a .parents .now) (a .state) (l .at) (l .steps) (parent .result) (l .inv) (c .before .before .loop-test .taken)
-    (parent .ensures) (c .if1 .left)
+    let parent = c .before .wide in
+    walking-more (a .parents .now) (a .state) (l .at) (l .steps) (parent .result) (l .inv) (c .before .before .before .loop-test .taken)
+    (parent .ensures .0) (c .if1 .left)
 
 returns-2 : tie.Need-returns-2 Inv-loop μ-loop
 returns-2 c =
-    let a = c .before .before .before .args in
+    let a = c .before .before .args in
     let l = c .before .loop in
     walking-end (a .parents .now) (a .state) (l .at) (l .steps) (l .inv) (c .loop-test .left)
 
@@ -54,7 +57,8 @@ trail-length-spec =
     Inv-loop
     μ-loop
     loop-holds
-    number-at-requires
+    element-copy-out-wide
+    wide-requires
     returns
     add-steps
     loop-less

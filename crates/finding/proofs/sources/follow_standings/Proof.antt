@@ -32,25 +32,25 @@ loop-holds c =
 cast-s : tie.Need-cast-s Inv-loop μ-loop
 cast-s c = omega (arith, trailing-le 64 (c .before .loop .rest))
 
-mul-to : tie.Need-mul-to Inv-loop μ-loop
-mul-to c = omega (arith, trailing-le 64 (c .before .loop .rest))
+mul-wide : tie.Need-mul-wide Inv-loop μ-loop
+mul-wide c = omega (arith, trailing-le 64 (c .before .loop .rest))
 
-add-to : tie.Need-add-to Inv-loop μ-loop
-add-to c = omega (arith, trailing-le 64 (c .before .loop .rest))
+add-wide : tie.Need-add-wide Inv-loop μ-loop
+add-wide c = omega (arith, trailing-le 64 (c .before .loop .rest))
 
-mul-to-2 : tie.Need-mul-to-2 Inv-loop μ-loop
-mul-to-2 c = omega (arith, trailing-le 64 (c .before .loop .rest))
-
-element-copy-out-to : tie.Need-element-copy-out-to Inv-loop μ-loop
-element-copy-out-to c =
+element-copy-out-wide : tie.Need-element-copy-out-wide Inv-loop μ-loop
+element-copy-out-wide c =
     omega (arith, c .before .before .pre, least-small (c .before .loop .rest) (c .loop-test .taken) (c .before .loop .inv .0))
+
+wide-requires : tie.Need-wide-requires Inv-loop μ-loop
+wide-requires c κs = search needs
 
 pass-on-requires : tie.Need-pass-on-requires Inv-loop μ-loop
 pass-on-requires c κs =
-    let l = c .before .before .before .before .before .loop in
-    let p = c .before .before .before .before .before .before .pre in (
+    let l = c .before .before .before .before .before .before .loop in
+    let p = c .before .before .before .before .before .before .before .pre in (
       p .2,
-      least-small (l .rest) (c .before .before .before .before .loop-test .taken) (l .inv .0),
+      least-small (l .rest) (c .before .before .before .before .before .loop-test .taken) (l .inv .0),
       p .3,
       omega (arith, p .0, c .before .before .if1 .taken),
       omega (arith, l .inv .2 .words),
@@ -62,23 +62,26 @@ sub-rest c = search needs
 
 loop-less : tie.Need-loop-less Inv-loop μ-loop
 loop-less c =
-    let l = c .before .before .before .loop in
-    omega (arith, c .before .before .loop-test .taken, and-le-r (l .rest) (l .rest - 1))
+    let l = c .before .before .before .before .loop in
+    omega (arith, c .before .before .before .loop-test .taken, and-le-r (l .rest) (l .rest - 1))
 
 loop-again : tie.Need-loop-again Inv-loop μ-loop
 loop-again c =
-    let l = c .before .before .before .loop in
-    let x = c .before .before .before .before .args in
-    let d = c .before .before .loop-test .taken in (
+    let l = c .before .before .before .before .loop in
+    let x = c .before .before .before .before .before .args in
+    let d = c .before .before .before .loop-test .taken in
+    let to = c .before .wide in (
       omega (arith, l .inv .0, and-le-r (l .rest) (l .rest - 1)),
       rest-within (x .taken) (l .rest) (l .inv .1) d (l .inv .0),
       ⊎-elim
           (λ w. followed-as (w .4) (w .5) (w .6)
           (followed-then (l .inv .2) (w .3 .ensures)
-          (standing-in (x .moves .now) (x .count) (x .a) (x .p) (x .next) (x .taken) (l .rest) (l .inv .1) d (l .inv .0) (w .0 .taken))))
+          (standing-in (x .moves .now) (x .count) (x .a) (x .p) (x .next) (x .taken) (l .rest) (l .inv .1) d (l .inv .0) (to .result)
+          (to .ensures .0) (w .0 .taken))))
           (λ w. followed-as (w .1) (w .2) (w .3)
           (followed-same (l .inv .2)
-          (standing-out (x .moves .now) (x .count) (x .a) (x .p) (x .next) (x .taken) (l .rest) (l .inv .1) d (l .inv .0) (w .0 .left))))
+          (standing-out (x .moves .now) (x .count) (x .a) (x .p) (x .next) (x .taken) (l .rest) (l .inv .1) d (l .inv .0)
+          (omega (arith, w .0 .left, to .ensures .0)))))
           (c .if1 .came),
     )
 
@@ -99,10 +102,10 @@ follow-standings-spec =
     μ-loop
     loop-holds
     cast-s
-    mul-to
-    add-to
-    mul-to-2
-    element-copy-out-to
+    mul-wide
+    add-wide
+    element-copy-out-wide
+    wide-requires
     pass-on-requires
     sub-rest
     loop-less

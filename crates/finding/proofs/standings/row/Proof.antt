@@ -7,6 +7,7 @@ use lib.ListN.{getD, take}
 use Rattle.theory.specs.Places.{intersection}
 use Rattle.theory.specs.Automaton.{nexts, step}
 use Rattle.finding.specs.Plain.{plain}
+use Rattle.finding.specs.PlaceOfLaws.{place-within}
 use Rattle.finding.specs.Exploring.{RowLoop, row-begins, row-ends, loop-turn, loop-over}
 use native.Mathlib.Omega.{arith}
 use borrow.Author.Needs.{needs}
@@ -54,14 +55,18 @@ slice-aggregate-place-of c = let l = c .before .before .before .before .loop in 
 place-of-requires : tie.Need-place-of-requires Inv-loop μ-loop
 place-of-requires c κs = search needs
 
+cast-moves : tie.Need-cast-moves Inv-loop μ-loop
+cast-moves c =
+    let l = c .before .before .before .before .before .loop in
+    let x = c .before .before .before .before .before .before .before .before .before .before .before .before .args in
+    let next = intersection (c .before .before .before .before .before .before .follows .result .0) (getD (x .enter .now) (l .a) 0) in
+    omega (arith, c .place-of .ensures, place-within next (take (l .m) (l .found)), length-take-le (l .m) (l .found) (omega arith))
+
 mul-moves : tie.Need-mul-moves Inv-loop μ-loop
 mul-moves c = search needs
 
 add-moves : tie.Need-add-moves Inv-loop μ-loop
 add-moves c = search needs
-
-mul-moves-2 : tie.Need-mul-moves-2 Inv-loop μ-loop
-mul-moves-2 c = search needs
 
 slice-write-moves : tie.Need-slice-write-moves Inv-loop μ-loop
 slice-write-moves c = search needs
@@ -150,9 +155,9 @@ row-spec =
     slice-reshare-prefix-place-of
     slice-aggregate-place-of
     place-of-requires
+    cast-moves
     mul-moves
     add-moves
-    mul-moves-2
     slice-write-moves
     same-length
     same-length-2

@@ -45,6 +45,7 @@ row-requires c κs =
       enters = s .pre .enters;
       inside = c .before .before .loop-test .taken;
       within = l .loop .inv .1;
+      most = s .pre .most;
       numbers = omega (arith, length-set (s .args .found .now) 0 1);
       rows = omega arith;
     }

@@ -81,14 +81,14 @@ mul-found c = search needs
 slice-write-found : tie.Need-slice-write-found
 slice-write-found c = search needs
 
-mul-parents : tie.Need-mul-parents
-mul-parents c = search needs
+cast-parents : tie.Need-cast-parents
+cast-parents c = search needs
 
 slice-write-parents : tie.Need-slice-write-parents
 slice-write-parents c = search needs
 
-mul-symbols : tie.Need-mul-symbols
-mul-symbols c = search needs
+cast-symbols : tie.Need-cast-symbols
+cast-symbols c = search needs
 
 slice-write-symbols : tie.Need-slice-write-symbols
 slice-write-symbols c = search needs
@@ -108,8 +108,8 @@ mul-table-4 c = search needs
 slice-write-table-2 : tie.Need-slice-write-table-2
 slice-write-table-2 c = search needs
 
-add-t40 : tie.Need-add-t40
-add-t40 c = search needs
+add-t41 : tie.Need-add-t41
+add-t41 c = search needs
 
 same-length-4 : tie.Need-same-length-4
 same-length-4 c = search needs
@@ -162,16 +162,16 @@ extend-spec =
     note-requires
     mul-found
     slice-write-found
-    mul-parents
+    cast-parents
     slice-write-parents
-    mul-symbols
+    cast-symbols
     slice-write-symbols
     cast-table-2
     mul-table-3
     add-table-2
     mul-table-4
     slice-write-table-2
-    add-t40
+    add-t41
     same-length-4
     same-length-5
     same-length-6
