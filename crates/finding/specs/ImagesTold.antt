@@ -29,9 +29,9 @@ pub record ImagesTold (D : Tables) (accepting : ℕ) (out out′ : List ℕ) : T
 
 module _ (D : Tables) (accepting : ℕ) (from out : List ℕ) where
   -- The images that are read off the sources that the search has found.
-  pub images-told : (out′ : List ℕ) → D .count ≤ 64 → Searched D (length (D .follow)) from
+  pub images-told : (out′ : List ℕ) → Searched D (length (D .follow)) from
       → Turned (D .count) (length (D .follow)) accepting from (D .count) out out′ → ImagesTold D accepting out out′
-  images-told out′ few s t =
+  images-told out′ s t =
       record {
         kept = t .kept;
         images = λ f room A found h.
@@ -43,7 +43,7 @@ module _ (D : Tables) (accepting : ℕ) (from out : List ℕ) where
           → (j < D .count) × (y : ℕ) × Member y accepting × Reaches (Onward D) (i, 0) (j, y)
       there i j l m =
           let (k, y, o, b, r) = t .exactly i j l .0 m in
-          (k, y, b, s .sound (j, y) i (omega arith) o r .1)
+          (k, y, b, s .sound (j, y) i k o r .1)
 
       back : (A : Automaton) (found : List ℕ) → Holds A found D → (i j : ℕ) → i < D .count
           → (j < D .count) × (y : ℕ) × Member y accepting × Reaches (Onward D) (i, 0) (j, y) → Member j (getD out′ i 0)
@@ -58,12 +58,6 @@ module _ (D : Tables) (accepting : ℕ) (from out : List ℕ) where
         where
           below : (u v : ℕ × ℕ) → Onward D u v → v .1 < length (D .follow)
           below u v o = entered-below A found D h accepting (o .label) (v .1) (getD (D .follow) (u .1) 0) (o .below) (o .enters)
-
--- Where there is no room, nothing is promised but that nothing changes.
-pub images-refused : (D : Tables) (accepting : ℕ) (out : List ℕ)
-    → (Fitting D → D .count ≤ length out → 0 < length (D .follow) → ⊥) → ImagesTold D accepting out out
-images-refused D accepting out no-room =
-    record { kept = refl; images = λ f room A found h. absurd (no-room f room (h .start)) }
 
 -- The moves that the exploration of the standings promises (StandingsTold) are such tables.
 pub standings-hold : (queryFollow queryEnter : List ℕ) (labels limit : ℕ) (r : Explored) (found moves : List ℕ) (l : List (Entry ℕ))

@@ -18,16 +18,16 @@ use Rattle.finding.specs.Sources.{sourcesOf}
 use Rattle.finding.specs.SourcesLaws.{Written, written}
 
 -- The sources of a standing together with some accepting places, of those below n.
-pub record Ended (n : ℕ) (Accepting : ℕ → Type 0) (from : List ℕ) (to r : ℕ) : Type 0 where
-  pub exactly : (i : ℕ) → Member i r ↔ ((y : ℕ) × (y < n) × Accepting y × Member i (sourcesOf from (to, y)))
+pub record Ended (w n : ℕ) (Accepting : ℕ → Type 0) (from : List ℕ) (to r : ℕ) : Type 0 where
+  pub exactly : (i : ℕ) → Member i r ↔ ((y : ℕ) × (y < n) × Accepting y × Member i (sourcesOf w from (to, y)))
 
-module _ (n : ℕ) (from : List ℕ) (to : ℕ) where
-  pub ended-none : (accepting : ℕ) → Ended n (Passed accepting accepting) from to 0
+module _ (w n : ℕ) (from : List ℕ) (to : ℕ) where
+  pub ended-none : (accepting : ℕ) → Ended w n (Passed accepting accepting) from to 0
   ended-none accepting =
       record { exactly = λ i. (λ m. absurd (member-none i m), λ (y, h, a, m). absurd (passed-none accepting y a)) }
 
-  pub ended-all : (accepting rest r : ℕ) → rest ≡ 0 → Ended n (Passed accepting rest) from to r
-      → Ended n (λ y. Member y accepting) from to r
+  pub ended-all : (accepting rest r : ℕ) → rest ≡ 0 → Ended w n (Passed accepting rest) from to r
+      → Ended w n (λ y. Member y accepting) from to r
   ended-all accepting rest r e s =
       record {
         exactly = λ i. (
@@ -37,33 +37,33 @@ module _ (n : ℕ) (from : List ℕ) (to : ℕ) where
       }
 
   module _ (accepting rest r : ℕ) (within : (i : ℕ) → Member i rest → Member i accepting) (d : rest ≢ 0) (h : rest < 2 ^ 64)
-      (s : Ended n (Passed accepting rest) from to r) where
+      (s : Ended w n (Passed accepting rest) from to r) where
     -- The place is below n: its sources are added.
     pub ended-in : trailingZeros 64 rest < n
-        → Ended n (Passed accepting (bitAnd rest (rest - 1))) from to (union r (getD from (64 * trailingZeros 64 rest + to) 0))
+        → Ended w n (Passed accepting (bitAnd rest (rest - 1))) from to (union r (getD from (w * trailingZeros 64 rest + to) 0))
     ended-in l =
         record {
           exactly = λ i. (
-            λ m. there i (member-union i r (getD from (64 * trailingZeros 64 rest + to) 0) .0 m),
-            λ (y, k, a, m). member-union i r (getD from (64 * trailingZeros 64 rest + to) 0) .1
+            λ m. there i (member-union i r (getD from (w * trailingZeros 64 rest + to) 0) .0 m),
+            λ (y, k, a, m). member-union i r (getD from (w * trailingZeros 64 rest + to) 0) .1
                 (back i y k m (passed-turn accepting rest within d h y .0 a)),
           );
         }
       where
-        there : (i : ℕ) → Member i r ⊎ Member i (getD from (64 * trailingZeros 64 rest + to) 0)
-            → (y : ℕ) × (y < n) × Passed accepting (bitAnd rest (rest - 1)) y × Member i (sourcesOf from (to, y))
+        there : (i : ℕ) → Member i r ⊎ Member i (getD from (w * trailingZeros 64 rest + to) 0)
+            → (y : ℕ) × (y < n) × Passed accepting (bitAnd rest (rest - 1)) y × Member i (sourcesOf w from (to, y))
         there i (inl m) =
             let (y, k, a, o) = s .exactly i .0 m in
             (y, k, passed-turn accepting rest within d h y .1 (inl a), o)
         there i (inr m) = (trailingZeros 64 rest, l, passed-turn accepting rest within d h (trailingZeros 64 rest) .1 (inr refl), m)
 
-        back : (i y : ℕ) → y < n → Member i (sourcesOf from (to, y)) → Passed accepting rest y ⊎ (y ≡ trailingZeros 64 rest)
-            → Member i r ⊎ Member i (getD from (64 * trailingZeros 64 rest + to) 0)
+        back : (i y : ℕ) → y < n → Member i (sourcesOf w from (to, y)) → Passed accepting rest y ⊎ (y ≡ trailingZeros 64 rest)
+            → Member i r ⊎ Member i (getD from (w * trailingZeros 64 rest + to) 0)
         back i y k m (inl a) = inl (s .exactly i .1 (y, k, a, m))
-        back i y k m (inr e) = inr (subst (λ z. Member i (getD from (64 * z + to) 0)) e m)
+        back i y k m (inr e) = inr (subst (λ z. Member i (getD from (w * z + to) 0)) e m)
 
     -- It is not.
-    pub ended-out : n ≤ trailingZeros 64 rest → Ended n (Passed accepting (bitAnd rest (rest - 1))) from to r
+    pub ended-out : n ≤ trailingZeros 64 rest → Ended w n (Passed accepting (bitAnd rest (rest - 1))) from to r
     ended-out l =
         record {
           exactly = λ i. (
@@ -163,18 +163,18 @@ added-more those rest to out out′ within d h room a =
 
 -- All sources of pairs are standings.
 abbrev pub Inside : ℕ → ℕ → List ℕ → Type 0
-Inside count n from = (j y i : ℕ) → j < count → y < n → Member i (sourcesOf from (j, y)) → i < count
+Inside count n from = (j y i : ℕ) → j < count → y < n → Member i (sourcesOf count from (j, y)) → i < count
 
 -- The standings below k are in the images of their sources, and what lies beyond the standings is as it was.
 pub record Turned (count n accepting : ℕ) (from : List ℕ) (k : ℕ) (out out′ : List ℕ) : Type 0 where
   pub size : length out′ ≡ length out
   pub kept : drop count out′ ≡ drop count out
   pub exactly : (i j : ℕ) → i < count
-      → Member j (getD out′ i 0) ↔ ((j < k) × (y : ℕ) × (y < n) × Member y accepting × Member i (sourcesOf from (j, y)))
+      → Member j (getD out′ i 0) ↔ ((j < k) × (y : ℕ) × (y < n) × Member y accepting × Member i (sourcesOf count from (j, y)))
 
 -- What ends at a standing are standings.
 pub ended-inside : (count n : ℕ) {Accepting : ℕ → Type 0} (from : List ℕ) (to r : ℕ) → Inside count n from → to < count
-    → Ended n Accepting from to r → (i : ℕ) → Member i r → i < count
+    → Ended count n Accepting from to r → (i : ℕ) → Member i r → i < count
 ended-inside count n from to r inside h e i m =
     let (y, k, a, o) = e .exactly i .0 m in
     inside to y i h k o
@@ -203,7 +203,7 @@ module _ (count n accepting : ℕ) (from out : List ℕ) where
       }
 
   pub turned-more : (k those : ℕ) (out′ out″ : List ℕ) → Inside count n from → k < count → Turned count n accepting from k out out′
-      → Ended n (λ y. Member y accepting) from k those → Added (λ i. Member i those) k out′ out″
+      → Ended count n (λ y. Member y accepting) from k those → Added (λ i. Member i those) k out′ out″
       → Turned count n accepting from (k + 1) out out″
   turned-more k those out′ out″ inside l t e a =
       record {
@@ -213,14 +213,14 @@ module _ (count n accepting : ℕ) (from out : List ℕ) where
       }
     where
       there : (i j : ℕ) → i < count → Member j (getD out′ i 0) ⊎ ((j ≡ k) × Member i those)
-          → (j < k + 1) × (y : ℕ) × (y < n) × Member y accepting × Member i (sourcesOf from (j, y))
+          → (j < k + 1) × (y : ℕ) × (y < n) × Member y accepting × Member i (sourcesOf count from (j, y))
       there i j h (inl m) = let (l, y, o, b, r) = t .exactly i j h .0 m in (omega arith, y, o, b, r)
       there i j h (inr (q, m)) =
           let (y, o, b, r) = e .exactly i .0 m in
-          (omega arith, y, o, b, subst (λ z. Member i (sourcesOf from (z, y))) (sym q) r)
+          (omega arith, y, o, b, subst (λ z. Member i (sourcesOf count from (z, y))) (sym q) r)
 
-      back : (i j : ℕ) → i < count → j < k + 1 → (y : ℕ) → y < n → Member y accepting → Member i (sourcesOf from (j, y)) → Dec (j ≡ k)
+      back : (i j : ℕ) → i < count → j < k + 1 → (y : ℕ) → y < n → Member y accepting → Member i (sourcesOf count from (j, y)) → Dec (j ≡ k)
           → Member j (getD out″ i 0)
       back i j h l y o b m (yes q) =
-          a .exactly i j .1 (inr (q, e .exactly i .1 (y, o, b, subst (λ z. Member i (sourcesOf from (z, y))) q m)))
+          a .exactly i j .1 (inr (q, e .exactly i .1 (y, o, b, subst (λ z. Member i (sourcesOf count from (z, y))) q m)))
       back i j h l y o b m (no q) = a .exactly i j .1 (inl (t .exactly i j h .1 (omega arith, y, o, b, m)))

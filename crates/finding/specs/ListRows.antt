@@ -1,9 +1,10 @@
 -- What the code for the images of all lists promises: a row of 64 for each list, and how its loop over the lists keeps it.
-use Prim.Native.Nat.{ℕ, suc, _+_, _*_, _^_, _≤_, _<_}
+use Prim.Native.Nat.{ℕ, suc, _+_, _-_, _*_, _^_, _≤_, _<_}
 use mathlib.Core.List.{List, _++_}
 use mathlib.Core.Logic.{_⊎_, inl, inr, _≢_}
 use mathlib.Core.Path.{_≡_, refl, sym, ap, _∙_, subst}
 use native.Mathlib.Decide.{decLt, ℕ-discrete}
+use native.Mathlib.Nat.{mul-le-mul-left}
 use native.Mathlib.Omega.{arith}
 use lib.ListN.{length, getD, take, drop, length-take, length-drop}
 use lib.Seq.{take-take}
@@ -84,6 +85,24 @@ Has T x B = Stored (T .follow) (T .enter) (T .sizes) (T .accepting) x B
 abbrev pub ListRow : JobTables → ℕ → List ℕ → Type 0
 ListRow T v images = (A : Automaton) (found : List ℕ) (B : Automaton) → Moves A found T → Has T (suc v) B
     → take (T .count) (drop (64 * v) images) ≡ imagesFrom A found (T .labels) B (T .count) 0
+
+-- Some words are enough for the pairs of a standing and a place of the list v.
+abbrev pub Paired : ℕ → List ℕ → ℕ → ℕ → Type 0
+Paired count sizes v words = getD sizes (v + 1) 0 ≤ 63 → count * (getD sizes (v + 1) 0 + 1) ≤ words
+
+pub paired-most : (count most : ℕ) (sizes : List ℕ) (v words : ℕ) → getD sizes (v + 1) 0 ≤ most → count * (most + 1) ≤ words
+    → Paired count sizes v words
+paired-most count most sizes v words h k small =
+    omega (arith, mul-le-mul-left {m = getD sizes (v + 1) 0 + 1} {n = most + 1} count (omega arith))
+
+pub paired-any : (count : ℕ) (sizes : List ℕ) (v : ℕ) → count ≤ 64 → Paired count sizes v 4096
+paired-any count sizes v h small =
+    omega (arith, mul-le-mul-left {m = getD sizes (v + 1) 0 + 1} {n = 64} count (omega arith))
+
+-- How long the part of a table is that holds a list of so many occurrences.
+pub part-length : (from size : ℕ) (l : List ℕ) → from + (size + 1) ≤ length l
+    → length (take (from + size + 1 - from) (drop from l)) ≡ size + 1
+part-length from size l h = simp (length-take, length-drop) (omega arith)
 
 pub record ListTold (T : JobTables) (v : ℕ) (images images′ : List ℕ) : Type 0 where
   pub others : T .count ≤ 64 → (w : ℕ) → w ≢ v → take (T .count) (drop (64 * w) images′) ≡ take (T .count) (drop (64 * w) images)

@@ -4,7 +4,7 @@ use Prim.Native.Nat.{ℕ, suc, _+_, _*_, _/_, _%_, _≤_, _<_}
 use mathlib.Core.List.{List, [], _∷_, _++_}
 use mathlib.Core.Path.{_≡_, sym, ap, _∙_}
 use native.Mathlib.Decide.{ℕ-discrete, decLt}
-use native.Mathlib.Nat.{mul-comm, mul-le-mul-left}
+use native.Mathlib.Nat.{mul-comm, mul-suc, mul-le-mul-left}
 use native.Mathlib.Omega.{arith}
 use lib.Arith.{digits-div, digits-mod}
 use lib.ListN.{length, getD, set, length-append, List·getD-append}
@@ -36,6 +36,9 @@ row-below w i a n h = go (decLt i n)
     go : Dec (i < n) → i < n
     go (yes l) = l
     go (no l) = let m : w * n ≤ w * i = mul-le-mul-left w (omega arith) in absurd (omega arith)
+
+pub row-within : (w i n : ℕ) → i < n → w * i + w ≤ w * n
+row-within w i n h = let m : w * suc i ≤ w * n = mul-le-mul-left w h in omega (arith, mul-suc w i)
 
 -- The table, with a number found more, and with an entry more.
 

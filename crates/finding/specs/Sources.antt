@@ -1,17 +1,18 @@
 -- The search from all standings at once, on plain data: for each pair of a standing and a list place, its sources are the standings from
--- which, with the list's start, the pair is reached. A pair (standing, place) has the word 64 × place + standing. Pending at a place are
--- the standings whose pair has sources that have not been passed on over the labels yet; a place waits where something is pending at it.
+-- which, with the list's start, the pair is reached. With w standings a pair (standing, place) has the word w × place + standing. Pending
+-- at a place are the standings whose pair has sources that have not been passed on over the labels yet; a place waits where something is
+-- pending at it.
 use Prim.Native.Nat.{ℕ, _+_, _-_, _*_, _^_, _≤_, _<_}
 use mathlib.Core.List.{List, [], _∷_}
-use mathlib.Core.Logic.{_⊎_}
+use mathlib.Core.Logic.{_↔_, _⊎_}
 use mathlib.Core.Path.{_≡_}
 use lib.ListN.{length, getD}
 use Rattle.theory.specs.Places.{Member, intersection}
 use Rattle.theory.specs.Closure.{Reaches}
 use Rattle.finding.specs.ImageSearch.{Tables, Onward}
 
-abbrev pub sourcesOf : List ℕ → ℕ × ℕ → ℕ
-sourcesOf from v = getD from (64 * v .1 + v .0) 0
+abbrev pub sourcesOf : ℕ → List ℕ → ℕ × ℕ → ℕ
+sourcesOf w from v = getD from (w * v .1 + v .0) 0
 
 -- What the search holds.
 pub record Sources : Type 0 where
@@ -32,18 +33,18 @@ unfoldable pub left : List ℕ → ℕ → ℕ
 left from waiting = room from * 2 ^ 64 + waiting
 
 -- From one moment to a later one, sources were passed on over steps of S, each from what it began with; what gained is pending.
-pub record Followed (S : ℕ × ℕ → ℕ × ℕ → Type 0) (X Y : Sources) : Type 0 where
+pub record Followed (w : ℕ) (S : ℕ × ℕ → ℕ × ℕ → Type 0) (X Y : Sources) : Type 0 where
   pub words : length (Y .from) ≡ length (X .from)
   pub slots : length (Y .pending) ≡ length (X .pending)
-  pub kept : (v : ℕ × ℕ) (i : ℕ) → Member i (sourcesOf (X .from) v) → Member i (sourcesOf (Y .from) v)
-  pub covers : (u v : ℕ × ℕ) (i : ℕ) → S u v → Member i (sourcesOf (X .from) u) → Member i (sourcesOf (Y .from) v)
-  pub sound : (v : ℕ × ℕ) (i : ℕ) → v .0 < 64 → Member i (sourcesOf (Y .from) v)
-      → (u : ℕ × ℕ) × (u .0 < 64) × Member i (sourcesOf (X .from) u) × Reaches S u v
-  pub new : (v : ℕ × ℕ) → v .0 < 64
-      → (sourcesOf (Y .from) v ≡ sourcesOf (X .from) v) ⊎ Member (v .0) (getD (Y .pending) (v .1) 0)
+  pub kept : (v : ℕ × ℕ) (i : ℕ) → Member i (sourcesOf w (X .from) v) → Member i (sourcesOf w (Y .from) v)
+  pub covers : (u v : ℕ × ℕ) (i : ℕ) → S u v → Member i (sourcesOf w (X .from) u) → Member i (sourcesOf w (Y .from) v)
+  pub sound : (v : ℕ × ℕ) (i : ℕ) → v .0 < w → Member i (sourcesOf w (Y .from) v)
+      → (u : ℕ × ℕ) × (u .0 < w) × Member i (sourcesOf w (X .from) u) × Reaches S u v
+  pub new : (v : ℕ × ℕ) → v .0 < w
+      → (sourcesOf w (Y .from) v ≡ sourcesOf w (X .from) v) ⊎ Member (v .0) (getD (Y .pending) (v .1) 0)
   pub still : (q s : ℕ) → Member s (getD (X .pending) q 0) → Member s (getD (Y .pending) q 0)
   pub stays : (q : ℕ) → Member q (X .waiting) → Member q (Y .waiting)
-  pub waits : (q s : ℕ) → Member s (getD (Y .pending) q 0) → Member s (getD (X .pending) q 0) ⊎ Member q (Y .waiting)
+  pub waits : (q s : ℕ) → Member s (getD (Y .pending) q 0) → Member s (getD (X .pending) q 0) ⊎ (Member q (Y .waiting) × (s < w))
   pub told : (q : ℕ) → Member q (Y .waiting) → Member q (X .waiting) ⊎ ((u : ℕ × ℕ) × (v : ℕ × ℕ) × S u v × (v .1 ≡ q))
   pub less : left (Y .from) (Y .waiting) ≤ left (X .from) (X .waiting)
 
@@ -67,23 +68,23 @@ abbrev pub OnwardBelow : Tables → ℕ → ℕ × ℕ → ℕ × ℕ → Type 0
 OnwardBelow D n u v = Onward D u v × (v .1 < n)
 
 -- The search begins: each standing is a source of itself with the list's start, `first` holds them all, and there is nothing else.
-pub record Begun (count n : ℕ) (from : List ℕ) (first : ℕ) : Type 0 where
-  pub start : (i : ℕ) → i < count → Member i (sourcesOf from (i, 0))
-  pub only : (v : ℕ × ℕ) (i : ℕ) → v .0 < 64 → v .1 < n → Member i (sourcesOf from v) → (v .1 ≡ 0) × (v .0 ≡ i) × (i < count)
-  pub all : (s : ℕ) → s < count → Member s first
+pub record Begun (w count n : ℕ) (from : List ℕ) (first : ℕ) : Type 0 where
+  pub start : (i : ℕ) → i < count → Member i (sourcesOf w from (i, 0))
+  pub only : (v : ℕ × ℕ) (i : ℕ) → v .0 < w → v .1 < n → Member i (sourcesOf w from v) → (v .1 ≡ 0) × (v .0 ≡ i) × (i < count)
+  pub all : (s : ℕ) → Member s first ↔ (s < count)
 
 -- What the search holds at each turn, over the list places below n.
 pub record Searching (D : Tables) (n : ℕ) (X : Sources) : Type 0 where
-  pub start : (i : ℕ) → i < D .count → Member i (sourcesOf (X .from) (i, 0))
-  pub sound : (v : ℕ × ℕ) (i : ℕ) → v .0 < 64 → v .1 < n → Member i (sourcesOf (X .from) v)
+  pub start : (i : ℕ) → i < D .count → Member i (sourcesOf (D .count) (X .from) (i, 0))
+  pub sound : (v : ℕ × ℕ) (i : ℕ) → v .0 < D .count → v .1 < n → Member i (sourcesOf (D .count) (X .from) v)
       → (i < D .count) × Reaches (Onward D) (i, 0) v
   pub closed : (u : ℕ × ℕ) → u .0 < D .count → u .1 < n
       → Member (u .0) (getD (X .pending) (u .1) 0)
-      ⊎ ((v : ℕ × ℕ) (i : ℕ) → OnwardBelow D n u v → Member i (sourcesOf (X .from) u) → Member i (sourcesOf (X .from) v))
-  pub waits : (q s : ℕ) → Member s (getD (X .pending) q 0) → Member q (X .waiting)
+      ⊎ ((v : ℕ × ℕ) (i : ℕ) → OnwardBelow D n u v → Member i (sourcesOf (D .count) (X .from) u) → Member i (sourcesOf (D .count) (X .from) v))
+  pub waits : (q s : ℕ) → Member s (getD (X .pending) q 0) → Member q (X .waiting) × (s < D .count)
   pub below : (q : ℕ) → Member q (X .waiting) → q < n
 
 -- What it has found: the sources of each pair, over the list places below n.
 pub record Searched (D : Tables) (n : ℕ) (from : List ℕ) : Type 0 where
-  pub sound : (v : ℕ × ℕ) (i : ℕ) → v .0 < 64 → v .1 < n → Member i (sourcesOf from v) → (i < D .count) × Reaches (Onward D) (i, 0) v
-  pub complete : (i : ℕ) (v : ℕ × ℕ) → i < D .count → Reaches (OnwardBelow D n) (i, 0) v → Member i (sourcesOf from v)
+  pub sound : (v : ℕ × ℕ) (i : ℕ) → v .0 < D .count → v .1 < n → Member i (sourcesOf (D .count) from v) → (i < D .count) × Reaches (Onward D) (i, 0) v
+  pub complete : (i : ℕ) (v : ℕ × ℕ) → i < D .count → Reaches (OnwardBelow D n) (i, 0) v → Member i (sourcesOf (D .count) from v)

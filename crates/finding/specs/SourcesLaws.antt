@@ -3,7 +3,7 @@
 use Prim.Native.Nat.{ℕ, zero, suc, _+_, _-_, _*_, _^_, _≤_, _<_}
 use mathlib.Core.List.{List, [], _∷_}
 use mathlib.Core.Logic.{_↔_, _≢_, _⊎_, inl, inr}
-use mathlib.Core.Path.{_≡_, refl, sym, ap, _∙_, subst}
+use mathlib.Core.Path.{_≡_, refl, sym, ap, ap₂, _∙_, subst}
 use native.Mathlib.Decide.{ℕ-discrete}
 use native.Mathlib.Omega.{arith}
 use lib.Bits.{bitAnd}
@@ -45,7 +45,7 @@ reaches-map f (onward {x = x} {y = y} r p) = onward (f x y r) (reaches-map f p)
 
 -- Steps of S, and then steps of T.
 
-pub followed-none : {S : ℕ × ℕ → ℕ × ℕ → Type 0} (X : Sources) → ((u v : ℕ × ℕ) → ¬ S u v) → Followed S X X
+pub followed-none : {w : ℕ} {S : ℕ × ℕ → ℕ × ℕ → Type 0} (X : Sources) → ((u v : ℕ × ℕ) → ¬ S u v) → Followed w S X X
 followed-none X nothing =
     record {
       words = refl;
@@ -61,8 +61,8 @@ followed-none X nothing =
       less = omega arith;
     }
 
-pub followed-same : {S T : ℕ × ℕ → ℕ × ℕ → Type 0} {X Y : Sources} → Followed S X Y → ((u v : ℕ × ℕ) → T u v ↔ S u v) → Followed T X Y
-followed-same {S} {T} {X} {Y} f e =
+pub followed-same : {w : ℕ} {S T : ℕ × ℕ → ℕ × ℕ → Type 0} {X Y : Sources} → Followed w S X Y → ((u v : ℕ × ℕ) → T u v ↔ S u v) → Followed w T X Y
+followed-same {w} {S} {T} {X} {Y} f e =
     record {
       words = f .words;
       slots = f .slots;
@@ -82,9 +82,9 @@ followed-same {S} {T} {X} {Y} f e =
     told q (inl m) = inl m
     told q (inr (u, v, s, h)) = inr (u, v, e u v .1 s, h)
 
-pub followed-then : {S T U : ℕ × ℕ → ℕ × ℕ → Type 0} {X Y Z : Sources} → Followed S X Y → Followed T Y Z
-    → ((u v : ℕ × ℕ) → U u v ↔ (S u v ⊎ T u v)) → Followed U X Z
-followed-then {S} {T} {U} {X} {Y} {Z} f g e =
+pub followed-then : {w : ℕ} {S T U : ℕ × ℕ → ℕ × ℕ → Type 0} {X Y Z : Sources} → Followed w S X Y → Followed w T Y Z
+    → ((u v : ℕ × ℕ) → U u v ↔ (S u v ⊎ T u v)) → Followed w U X Z
+followed-then {w} {S} {T} {U} {X} {Y} {Z} f g e =
     record {
       words = g .words ∙ f .words;
       slots = g .slots ∙ f .slots;
@@ -106,25 +106,26 @@ followed-then {S} {T} {U} {X} {Y} {Z} f g e =
       less = omega (arith, f .less, g .less);
     }
   where
-    covers : (u v : ℕ × ℕ) (i : ℕ) → S u v ⊎ T u v → Member i (sourcesOf (X .from) u) → Member i (sourcesOf (Z .from) v)
+    covers : (u v : ℕ × ℕ) (i : ℕ) → S u v ⊎ T u v → Member i (sourcesOf w (X .from) u) → Member i (sourcesOf w (Z .from) v)
     covers u v i (inl s) m = g .kept v i (f .covers u v i s m)
     covers u v i (inr t) m = g .covers u v i t (f .kept u i m)
 
-    new : (v : ℕ × ℕ) → (sourcesOf (Y .from) v ≡ sourcesOf (X .from) v) ⊎ Member (v .0) (getD (Y .pending) (v .1) 0)
-        → (sourcesOf (Z .from) v ≡ sourcesOf (Y .from) v) ⊎ Member (v .0) (getD (Z .pending) (v .1) 0)
-        → (sourcesOf (Z .from) v ≡ sourcesOf (X .from) v) ⊎ Member (v .0) (getD (Z .pending) (v .1) 0)
+    new : (v : ℕ × ℕ) → (sourcesOf w (Y .from) v ≡ sourcesOf w (X .from) v) ⊎ Member (v .0) (getD (Y .pending) (v .1) 0)
+        → (sourcesOf w (Z .from) v ≡ sourcesOf w (Y .from) v) ⊎ Member (v .0) (getD (Z .pending) (v .1) 0)
+        → (sourcesOf w (Z .from) v ≡ sourcesOf w (X .from) v) ⊎ Member (v .0) (getD (Z .pending) (v .1) 0)
     new v p (inr m) = inr m
     new v (inr m) (inl q) = inr (g .still (v .1) (v .0) m)
     new v (inl p) (inl q) = inl (q ∙ p)
 
-    waits : (q s : ℕ) → Member s (getD (Y .pending) q 0) ⊎ Member q (Z .waiting)
-        → Member s (getD (X .pending) q 0) ⊎ Member q (Z .waiting)
+    waits : (q s : ℕ) → Member s (getD (Y .pending) q 0) ⊎ (Member q (Z .waiting) × (s < w))
+        → Member s (getD (X .pending) q 0) ⊎ (Member q (Z .waiting) × (s < w))
     waits q s (inr m) = inr m
     waits q s (inl m) = earlier (f .waits q s m)
       where
-        earlier : Member s (getD (X .pending) q 0) ⊎ Member q (Y .waiting) → Member s (getD (X .pending) q 0) ⊎ Member q (Z .waiting)
+        earlier : Member s (getD (X .pending) q 0) ⊎ (Member q (Y .waiting) × (s < w))
+            → Member s (getD (X .pending) q 0) ⊎ (Member q (Z .waiting) × (s < w))
         earlier (inl n) = inl n
-        earlier (inr n) = inr (g .stays q n)
+        earlier (inr (n, h)) = inr (g .stays q n, h)
 
     told : (q : ℕ) → Member q (Y .waiting) ⊎ ((u : ℕ × ℕ) × (v : ℕ × ℕ) × T u v × (v .1 ≡ q))
         → Member q (X .waiting) ⊎ ((u : ℕ × ℕ) × (v : ℕ × ℕ) × U u v × (v .1 ≡ q))
@@ -137,28 +138,28 @@ followed-then {S} {T} {U} {X} {Y} {Z} f g e =
         earlier (inr (u, v, s, h)) = inr (u, v, e u v .1 (inl s), h)
 
 -- What a search holds may be named otherwise.
-pub followed-as : {S : ℕ × ℕ → ℕ × ℕ → Type 0} {X Y : Sources} {from pending : List ℕ} {waiting : ℕ} → from ≡ Y .from → pending ≡ Y .pending
-    → waiting ≡ Y .waiting → Followed S X Y → Followed S X (sources from pending waiting)
-followed-as {S} {X} e f g r = subst (Followed S X) (λ k. sources (sym e k) (sym f k) (sym g k)) r
+pub followed-as : {w : ℕ} {S : ℕ × ℕ → ℕ × ℕ → Type 0} {X Y : Sources} {from pending : List ℕ} {waiting : ℕ} → from ≡ Y .from → pending ≡ Y .pending
+    → waiting ≡ Y .waiting → Followed w S X Y → Followed w S X (sources from pending waiting)
+followed-as {w} {S} {X} e f g r = subst (Followed w S X) (λ k. sources (sym e k) (sym f k) (sym g k)) r
 
 -- One step: nothing new comes, or the pair gains.
 
-module _ (p s next to : ℕ) (X : Sources) (small : s < 64) (narrow : to < 64) where
-  from-there : (u : ℕ × ℕ) → u .1 ≡ p → u .0 ≡ s → sourcesOf (X .from) u ≡ getD (X .from) (64 * p + s) 0
-  from-there u e f = ap (λ z. getD (X .from) z 0) (omega arith)
+module _ (w p s next to : ℕ) (X : Sources) (small : s < w) (narrow : to < w) where
+  from-there : (u : ℕ × ℕ) → u .1 ≡ p → u .0 ≡ s → sourcesOf w (X .from) u ≡ getD (X .from) (w * p + s) 0
+  from-there u e f = ap₂ (λ y x. getD (X .from) (w * y + x) 0) e f
 
-  pub gained-none : union (getD (X .from) (64 * next + to) 0) (getD (X .from) (64 * p + s) 0) ≡ getD (X .from) (64 * next + to) 0
-      → Followed (Only p s next to) X X
+  pub gained-none : union (getD (X .from) (w * next + to) 0) (getD (X .from) (w * p + s) 0) ≡ getD (X .from) (w * next + to) 0
+      → Followed w (Only p s next to) X X
   gained-none e =
       record {
         words = refl;
         slots = refl;
         kept = λ v i m. m;
         covers = λ u v i (a, b, c, d) m.
-            let here : 64 * v .1 + v .0 ≡ 64 * next + to = omega arith in
+            let here : w * v .1 + v .0 ≡ w * next + to = ap₂ (λ y x. w * y + x) c d in
             subst (λ z. Member i (getD (X .from) z 0)) (sym here)
             (subst (Member i) e
-            (member-union i (getD (X .from) (64 * next + to) 0) (getD (X .from) (64 * p + s) 0) .1
+            (member-union i (getD (X .from) (w * next + to) 0) (getD (X .from) (w * p + s) 0) .1
             (inr (subst (Member i) (from-there u a b) m))));
         sound = λ v i h m. (v, h, m, here);
         new = λ v h. inl refl;
@@ -169,41 +170,41 @@ module _ (p s next to : ℕ) (X : Sources) (small : s < 64) (narrow : to < 64) w
         less = omega arith;
       }
 
-  module _ (word : getD (X .from) (64 * next + to) 0 < 2 ^ 64) (room₁ : 64 * next + to < length (X .from))
+  module _ (word : getD (X .from) (w * next + to) 0 < 2 ^ 64) (room₁ : w * next + to < length (X .from))
       (room₂ : next < length (X .pending)) (waiting′ : ℕ) (few : waiting′ < 2 ^ 64) (grows : waiting′ ≡ union (X .waiting) (one next)) where
     abbrev k : ℕ
-    k = 64 * next + to
+    k = w * next + to
 
     abbrev old : ℕ
     old = getD (X .from) k 0
 
     abbrev all : ℕ
-    all = union old (getD (X .from) (64 * p + s) 0)
+    all = union old (getD (X .from) (w * p + s) 0)
 
     abbrev more : ℕ
     more = union (getD (X .pending) next 0) (one to)
 
-    same : (v : ℕ × ℕ) → v .0 < 64 → 64 * v .1 + v .0 ≡ k → (v .1 ≡ next) × (v .0 ≡ to)
-    same v h e = same-place 64 (v .1) (v .0) next to h narrow e
+    same : (v : ℕ × ℕ) → v .0 < w → w * v .1 + v .0 ≡ k → (v .1 ≡ next) × (v .0 ≡ to)
+    same v h e = same-place w (v .1) (v .0) next to h narrow e
 
-    pub gained-more : union (getD (X .from) (64 * next + to) 0) (getD (X .from) (64 * p + s) 0) ≢ getD (X .from) (64 * next + to) 0
-        → Followed (Only p s next to) X
+    pub gained-more : union (getD (X .from) (w * next + to) 0) (getD (X .from) (w * p + s) 0) ≢ getD (X .from) (w * next + to) 0
+        → Followed w (Only p s next to) X
         (sources
-        (set (X .from) (64 * next + to) (union (getD (X .from) (64 * next + to) 0) (getD (X .from) (64 * p + s) 0)))
+        (set (X .from) (w * next + to) (union (getD (X .from) (w * next + to) 0) (getD (X .from) (w * p + s) 0)))
         (set (X .pending) next (union (getD (X .pending) next 0) (one to))) waiting′)
     unfolding left
     gained-more d =
         record {
           words = length-set (X .from) k all;
           slots = length-set (X .pending) next more;
-          kept = λ v i m. kept (64 * v .1 + v .0) i m;
+          kept = λ v i m. kept (w * v .1 + v .0) i m;
           covers = λ u v i (a, b, c, d) m.
-              let there : 64 * v .1 + v .0 ≡ k = omega arith in
+              let there : w * v .1 + v .0 ≡ k = ap₂ (λ y x. w * y + x) c d in
               subst (λ z. Member i (getD (set (X .from) k all) z 0)) (sym there)
               (subst (Member i) (sym (getD-set-same (X .from) k all 0 room₁))
-              (member-union i old (getD (X .from) (64 * p + s) 0) .1 (inr (subst (Member i) (from-there u a b) m))));
-          sound = λ v i h m. sound v i h m (written (X .from) k all (64 * v .1 + v .0) room₁);
-          new = λ v h. new v h (written (X .from) k all (64 * v .1 + v .0) room₁);
+              (member-union i old (getD (X .from) (w * p + s) 0) .1 (inr (subst (Member i) (from-there u a b) m))));
+          sound = λ v i h m. sound v i h m (written (X .from) k all (w * v .1 + v .0) room₁);
+          new = λ v h. new v h (written (X .from) k all (w * v .1 + v .0) room₁);
           still = λ q t m. still q t m (written (X .pending) next more q room₂);
           stays = λ q m. subst (Member q) (sym grows) (member-union q (X .waiting) (one next) .1 (inl m));
           waits = λ q t m. waits q t m (written (X .pending) next more q room₂);
@@ -212,7 +213,7 @@ module _ (p s next to : ℕ) (X : Sources) (small : s < 64) (narrow : to < 64) w
         }
       where
         bigger : old ≤ all
-        bigger = within-at-most old all (λ x m. member-union x old (getD (X .from) (64 * p + s) 0) .1 (inl m))
+        bigger = within-at-most old all (λ x m. member-union x old (getD (X .from) (w * p + s) 0) .1 (inl m))
 
         less : room (set (X .from) k all) < room (X .from)
         less = room-less (X .from) k all room₁ (omega (arith, bigger, d)) word
@@ -224,23 +225,23 @@ module _ (p s next to : ℕ) (X : Sources) (small : s < 64) (narrow : to < 64) w
                 → Member i (getD (set (X .from) k all) j 0)
             go (inl (e, f)) =
                 subst (Member i) (sym f)
-                (member-union i old (getD (X .from) (64 * p + s) 0) .1 (inl (subst (λ z. Member i (getD (X .from) z 0)) e m)))
+                (member-union i old (getD (X .from) (w * p + s) 0) .1 (inl (subst (λ z. Member i (getD (X .from) z 0)) e m)))
             go (inr (e, f)) = subst (Member i) (sym f) m
 
-        sound : (v : ℕ × ℕ) (i : ℕ) → v .0 < 64 → Member i (getD (set (X .from) k all) (64 * v .1 + v .0) 0)
-            → Written (X .from) k all (64 * v .1 + v .0)
-            → (u : ℕ × ℕ) × (u .0 < 64) × Member i (sourcesOf (X .from) u) × Reaches (Only p s next to) u v
+        sound : (v : ℕ × ℕ) (i : ℕ) → v .0 < w → Member i (getD (set (X .from) k all) (w * v .1 + v .0) 0)
+            → Written (X .from) k all (w * v .1 + v .0)
+            → (u : ℕ × ℕ) × (u .0 < w) × Member i (sourcesOf w (X .from) u) × Reaches (Only p s next to) u v
         sound v i h m (inr (e, f)) = (v, h, subst (Member i) f m, here)
-        sound v i h m (inl (e, f)) = either (member-union i old (getD (X .from) (64 * p + s) 0) .0 (subst (Member i) f m))
+        sound v i h m (inl (e, f)) = either (member-union i old (getD (X .from) (w * p + s) 0) .0 (subst (Member i) f m))
           where
-            either : Member i old ⊎ Member i (getD (X .from) (64 * p + s) 0)
-                → (u : ℕ × ℕ) × (u .0 < 64) × Member i (sourcesOf (X .from) u) × Reaches (Only p s next to) u v
+            either : Member i old ⊎ Member i (getD (X .from) (w * p + s) 0)
+                → (u : ℕ × ℕ) × (u .0 < w) × Member i (sourcesOf w (X .from) u) × Reaches (Only p s next to) u v
             either (inl n) = (v, h, subst (λ z. Member i (getD (X .from) z 0)) (sym e) n, here)
             either (inr n) = let c = same v h e in ((s, p), small, n, onward (refl, refl, c .0, c .1) here)
 
-        new : (v : ℕ × ℕ) → v .0 < 64
-            → Written (X .from) k all (64 * v .1 + v .0)
-            → (getD (set (X .from) k all) (64 * v .1 + v .0) 0 ≡ getD (X .from) (64 * v .1 + v .0) 0)
+        new : (v : ℕ × ℕ) → v .0 < w
+            → Written (X .from) k all (w * v .1 + v .0)
+            → (getD (set (X .from) k all) (w * v .1 + v .0) 0 ≡ getD (X .from) (w * v .1 + v .0) 0)
             ⊎ Member (v .0) (getD (set (X .pending) next more) (v .1) 0)
         new v h (inr (e, f)) = inl f
         new v h (inl (e, f)) =
@@ -259,9 +260,16 @@ module _ (p s next to : ℕ) (X : Sources) (small : s < 64) (narrow : to < 64) w
 
         waits : (q t : ℕ) → Member t (getD (set (X .pending) next more) q 0)
             → Written (X .pending) next more q
-            → Member t (getD (X .pending) q 0) ⊎ Member q waiting′
-        waits q t m (inl (e, f)) =
-            inr (subst (Member q) (sym grows) (member-union q (X .waiting) (one next) .1 (inr (member-one q next .1 e))))
+            → Member t (getD (X .pending) q 0) ⊎ (Member q waiting′ × (t < w))
+        waits q t m (inl (e, f)) = either (member-union t (getD (X .pending) next 0) (one to) .0 (subst (Member t) f m))
+          where
+            either : Member t (getD (X .pending) next 0) ⊎ Member t (one to) → Member t (getD (X .pending) q 0) ⊎ (Member q waiting′ × (t < w))
+            either (inl n) = inl (subst (λ z. Member t (getD (X .pending) z 0)) (sym e) n)
+            either (inr n) =
+                inr (
+                  subst (Member q) (sym grows) (member-union q (X .waiting) (one next) .1 (inr (member-one q next .1 e))),
+                  subst (λ z. z < w) (sym (member-one t to .0 n)) narrow,
+                )
         waits q t m (inr (e, f)) = inl (subst (Member t) f m)
 
         told : (q : ℕ) → Member q (X .waiting) ⊎ Member q (one next)

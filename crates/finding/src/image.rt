@@ -1,9 +1,9 @@
 // The images of the query's standings under a list (document 001, section 2), read off the sources of the pairs of a standing and a list
 // place.
-ghost use Prim.Native.Nat.{ℕ, _≤_, _<_};
+ghost use Prim.Native.Nat.{ℕ, _*_, _≤_, _<_};
 ghost use lib.ListN.{length};
 ghost use Rattle.theory.specs.Places.{Member};
-ghost use Rattle.finding.specs.ImageSearch.{tables};
+ghost use Rattle.finding.specs.ImageSearch.{tables, Fitting};
 ghost use Rattle.finding.specs.ImagesTurned.{Ended, Added, Inside, Turned};
 ghost use Rattle.finding.specs.ImagesTold.{ImagesTold};
 use crate::clear::clear_words;
@@ -11,16 +11,16 @@ use crate::sources::find_sources;
 use places::Places;
 
 // The sources of the standing `to` together with an accepting place.
-fn ended(from: &[u64; 4096], places: usize, accepting: u64, to: usize) -> u64
-    requires { ⌜ (places ≤ 64) × (to < 64) ⌝ }
-    ensures { λ r. ⌜ Ended places (λ y. Member y accepting) (now (from .entry)) to r ⌝ }
+fn ended(from: &[u64], count: usize, places: usize, accepting: u64, to: usize) -> u64
+    requires { ⌜ (to < count) × (count * places ≤ length (now from)) ⌝ }
+    ensures { λ r. ⌜ Ended count places (λ y. Member y accepting) (now (from .entry)) to r ⌝ }
 {
     let mut all: u64 = 0;
     let mut rest = accepting;
     while rest != 0 {
         let p = u64::trailing_zeros(rest) as usize;
         if p < places {
-            all = all | from[64 * p + to];
+            all = all | from[count * p + to];
         }
         rest = rest & (rest - 1);
     }
@@ -41,21 +41,20 @@ fn add_to(all: u64, to: usize, out: &mut [u64])
 }
 
 // Each standing is added to the images of its sources.
-fn turn(from: &[u64; 4096], count: usize, places: usize, accepting: u64, out: &mut [u64])
-    requires { ⌜ (count ≤ 64) × (places ≤ 64) × (count ≤ length (now out)) × Inside count places (now from) ⌝ }
+fn turn(from: &[u64], count: usize, places: usize, accepting: u64, out: &mut [u64])
+    requires { ⌜ (count ≤ 64) × (count * places ≤ length (now from)) × (count ≤ length (now out)) × Inside count places (now from) ⌝ }
     ensures { λ _. ⌜ Turned count places accepting (now (from .entry)) count (now (out .entry)) (now (out .exit)) ⌝ }
 {
     clear_words(out, count);
     let mut to = 0;
     while to < count {
-        let all = ended(from, places, accepting, to);
+        let all = ended(from, count, places, accepting, to);
         add_to(all, to, out);
         to += 1;
     }
 }
 
-// The images of all standings, in their order, into the first numbers of `out`. There is room for 64 standings, 32 labels and 64 places.
-// What `from` holds before and after does not matter.
+// The images of all standings, in their order, into the first numbers of `out`. What `from` holds before and after does not matter.
 pub fn images(
     moves: &[u8; 2048],
     count: u64,
@@ -63,30 +62,14 @@ pub fn images(
     follow: &[u64],
     enter: &[u64],
     accepting: Places,
-    from: &mut [u64; 4096],
+    from: &mut [u64],
     out: &mut [u64],
 )
+    requires { ⌜ Fitting (tables (now moves) count labels (now follow) (now enter)) × (0 < length (now follow))
+        × (count * length (now follow) ≤ length (now from)) × (count ≤ length (now out)) ⌝ }
     ensures { λ r. ⌜ ImagesTold (tables (now (moves .entry)) count labels (now (follow .entry)) (now (enter .entry))) (accepting .0)
         (now (out .entry)) (now (out .exit)) ⌝ }
 {
-    if count > 64 {
-        return;
-    }
-    if labels > 32 {
-        return;
-    }
-    if labels as usize > enter.len() {
-        return;
-    }
-    if count as usize > out.len() {
-        return;
-    }
-    if follow.len() > 64 {
-        return;
-    }
-    if follow.len() == 0 {
-        return;
-    }
     find_sources(moves, count as usize, labels as usize, follow, enter, from);
     turn(from, count as usize, follow.len(), accepting.0, out);
 }

@@ -4,7 +4,7 @@ pub mod clear;
 pub mod core;
 pub mod first;
 pub mod flags;
-pub mod image;
+mod image;
 mod index;
 pub mod list_images;
 pub mod number;

@@ -1,10 +1,10 @@
 // The images of all lists of a job, at 64 × list + standing.
 use crate::image::images;
 use places::Places;
-ghost use Prim.Native.Nat.{_+_, _*_, _≤_, _<_};
-ghost use lib.ListN.{length};
-ghost use Rattle.finding.specs.ImageSearch.{tables};
-ghost use Rattle.finding.specs.ListRows.{jobTables, FilledRow, ListTold, ImagesOf};
+ghost use Prim.Native.Nat.{ℕ, _+_, _*_, _≤_, _<_};
+ghost use lib.ListN.{length, getD};
+ghost use Rattle.finding.specs.ImageSearch.{tables, Fitting};
+ghost use Rattle.finding.specs.ListRows.{jobTables, FilledRow, ListTold, Paired, ImagesOf};
 
 // The row v, from a list's automaton.
 fn fill_row(
@@ -15,10 +15,11 @@ fn fill_row(
     enter: &[u64],
     accepting: u64,
     v: usize,
-    sources: &mut [u64; 4096],
+    sources: &mut [u64],
     rows: &mut [u64],
 )
-    requires { ⌜ (v < 16) × (64 * v + 64 ≤ length (now rows)) ⌝ }
+    requires { ⌜ (v < 16) × (64 * v + 64 ≤ length (now rows)) × Fitting (tables (now moves) count labels (now follow) (now enter))
+        × (0 < length (now follow)) × (count * length (now follow) ≤ length (now sources)) ⌝ }
     ensures { λ _. ⌜ FilledRow (tables (now (moves .entry)) count labels (now (follow .entry)) (now (enter .entry))) accepting v
         (now (rows .entry)) (now (rows .exit)) ⌝ }
 {
@@ -45,10 +46,10 @@ fn list_row(
     sizes: &[u64; 17],
     accepting: &[u64; 17],
     v: usize,
-    sources: &mut [u64; 4096],
+    sources: &mut [u64],
     rows: &mut [u64; 1024],
 )
-    requires { ⌜ v < 16 ⌝ }
+    requires { ⌜ (v < 16) × (count ≤ 64) × (labels ≤ 32) × Paired count (now sizes) v (length (now sources)) ⌝ }
     ensures { λ _. ⌜ ListTold (jobTables (now (moves .entry)) count labels (now (follow .entry)) (now (enter .entry)) (now (sizes .entry))
         (now (accepting .entry))) v (now (rows .entry)) (now (rows .exit)) ⌝ }
 {
@@ -76,7 +77,122 @@ fn list_row(
     );
 }
 
-// The rows of all lists. The words for the sources of pairs, used for one list after the other, take 32 KiB of the thread's stack.
+// The greatest number of occurrences of a list.
+fn greatest(sizes: &[u64; 17], lists: usize) -> u64
+    requires { ⌜ lists ≤ 16 ⌝ }
+    ensures { λ r. ⌜ ((v : ℕ) → v < lists → getD (now (sizes .entry)) (v + 1) 0 ≤ r) ⌝ }
+{
+    let mut most = 0;
+    let mut v = 0;
+    while v < lists {
+        let size = sizes[v + 1];
+        if most < size {
+            most = size;
+        }
+        v += 1;
+    }
+    most
+}
+
+// The rows of all lists. The words for the sources of pairs are used for one list after the other.
+fn rows_of(
+    moves: &[u8; 2048],
+    count: u64,
+    labels: u64,
+    lists: usize,
+    follow: &[u64; 1088],
+    enter: &[u64; 544],
+    sizes: &[u64; 17],
+    accepting: &[u64; 17],
+    sources: &mut [u64],
+    rows: &mut [u64; 1024],
+)
+    requires { ⌜ (count ≤ 64) × (labels ≤ 32) × (lists ≤ 16)
+        × ((v : ℕ) → v < lists → Paired count (now sizes) v (length (now sources))) ⌝ }
+    ensures { λ _. ⌜ ImagesOf (jobTables (now (moves .entry)) count labels (now (follow .entry)) (now (enter .entry)) (now (sizes .entry))
+        (now (accepting .entry))) lists (now (rows .exit)) ⌝ }
+{
+    let mut v = 0;
+    while v < lists {
+        list_row(
+            moves,
+            count,
+            labels,
+            follow,
+            enter,
+            sizes,
+            accepting,
+            v,
+            sources,
+            rows,
+        );
+        v += 1;
+    }
+}
+
+// The rows where 512 words are enough for the pairs of each list.
+fn rows_of_few(
+    moves: &[u8; 2048],
+    count: u64,
+    labels: u64,
+    lists: usize,
+    follow: &[u64; 1088],
+    enter: &[u64; 544],
+    sizes: &[u64; 17],
+    accepting: &[u64; 17],
+    rows: &mut [u64; 1024],
+)
+    requires { ⌜ (count ≤ 64) × (labels ≤ 32) × (lists ≤ 16) × ((v : ℕ) → v < lists → Paired count (now sizes) v 512) ⌝ }
+    ensures { λ _. ⌜ ImagesOf (jobTables (now (moves .entry)) count labels (now (follow .entry)) (now (enter .entry)) (now (sizes .entry))
+        (now (accepting .entry))) lists (now (rows .exit)) ⌝ }
+{
+    let mut sources = [0; 512];
+    rows_of(
+        moves,
+        count,
+        labels,
+        lists,
+        follow,
+        enter,
+        sizes,
+        accepting,
+        &mut sources,
+        rows,
+    );
+}
+
+// The rows for any lists, with 32 KiB of the thread's stack.
+fn rows_of_many(
+    moves: &[u8; 2048],
+    count: u64,
+    labels: u64,
+    lists: usize,
+    follow: &[u64; 1088],
+    enter: &[u64; 544],
+    sizes: &[u64; 17],
+    accepting: &[u64; 17],
+    rows: &mut [u64; 1024],
+)
+    requires { ⌜ (count ≤ 64) × (labels ≤ 32) × (lists ≤ 16) ⌝ }
+    ensures { λ _. ⌜ ImagesOf (jobTables (now (moves .entry)) count labels (now (follow .entry)) (now (enter .entry)) (now (sizes .entry))
+        (now (accepting .entry))) lists (now (rows .exit)) ⌝ }
+{
+    let mut sources = [0; 4096];
+    rows_of(
+        moves,
+        count,
+        labels,
+        lists,
+        follow,
+        enter,
+        sizes,
+        accepting,
+        &mut sources,
+        rows,
+    );
+}
+
+// The rows of all lists. There is room for 64 standings, 32 labels and 16 lists.
 pub fn list_images(
     moves: &[u8; 2048],
     count: u64,
@@ -95,21 +211,38 @@ pub fn list_images(
     if lists > 16 {
         return;
     }
-    let mut sources = [0; 4096];
-    let mut v = 0;
-    while v < lists as usize {
-        list_row(
-            moves,
-            count,
-            labels,
-            follow,
-            enter,
-            sizes,
-            accepting,
-            v,
-            &mut sources,
-            rows,
-        );
-        v += 1;
+    if count > 64 {
+        return;
     }
+    if labels > 32 {
+        return;
+    }
+    let most = greatest(sizes, lists as usize);
+    if most < 64 {
+        if count * (most + 1) <= 512 {
+            rows_of_few(
+                moves,
+                count,
+                labels,
+                lists as usize,
+                follow,
+                enter,
+                sizes,
+                accepting,
+                rows,
+            );
+            return;
+        }
+    }
+    rows_of_many(
+        moves,
+        count,
+        labels,
+        lists as usize,
+        follow,
+        enter,
+        sizes,
+        accepting,
+        rows,
+    );
 }

@@ -1,6 +1,6 @@
 // The search over (standing, list place) from all standings at once (document 001, section 2): for each pair its sources, the standings
-// from which, with the list's start, the labels lead to it. The word 64 × place + standing holds them.
-ghost use Prim.Native.Nat.{_≤_, _<_};
+// from which, with the list's start, the labels lead to it. The word count × place + standing holds them.
+ghost use Prim.Native.Nat.{ℕ, _+_, _*_, _≤_, _<_};
 ghost use mathlib.Core.Path.{_≡_};
 ghost use lib.ListN.{length};
 ghost use Rattle.theory.specs.Places.{Member};
@@ -12,6 +12,7 @@ use crate::number::wide;
 // The sources of (s, p) are passed on to (to, next). Where some are new there, that pair is pending, and its place waits; the waiting
 // places are returned.
 fn pass_on(
+    count: usize,
     p: usize,
     s: usize,
     next: usize,
@@ -20,16 +21,17 @@ fn pass_on(
     pending: &mut [u64],
     waiting: u64,
 ) -> u64
-    requires { ⌜ (p < 64) × (s < 64) × (next < 64) × (to < 64) × (length (now from) ≡ 4096) × (length (now pending) ≡ 64) ⌝ }
-    ensures { λ r. ⌜ Followed (Only p s next to) (sources (now (from .entry)) (now (pending .entry)) waiting)
+    requires { ⌜ (count ≤ 64) × (next < 64) × (s < count) × (to < count) × (count * p + count ≤ length (now from))
+        × (count * next + count ≤ length (now from)) × (length (now pending) ≡ 64) ⌝ }
+    ensures { λ r. ⌜ Followed count (Only p s next to) (sources (now (from .entry)) (now (pending .entry)) waiting)
         (sources (now (from .exit)) (now (pending .exit)) r) ⌝ }
 {
-    let new = from[64 * p + s];
-    let old = from[64 * next + to];
+    let new = from[count * p + s];
+    let old = from[count * next + to];
     if old | new == old {
         return waiting;
     }
-    from[64 * next + to] = old | new;
+    from[count * next + to] = old | new;
     pending[next] = pending[next] | (1 << to);
     waiting | (1 << next)
 }
@@ -42,12 +44,13 @@ fn follow_standings(
     p: usize,
     taken: u64,
     next: usize,
-    from: &mut [u64; 4096],
+    from: &mut [u64],
     pending: &mut [u64; 64],
     waiting: u64,
 ) -> u64
-    requires { ⌜ (count ≤ 64) × (a < 32) × (p < 64) × (next < 64) ⌝ }
-    ensures { λ r. ⌜ Followed (Moved (now (moves .entry)) count a p (λ s. Member s taken) (λ y. y ≡ next))
+    requires { ⌜ (count ≤ 64) × (a < 32) × (next < 64) × ((s : ℕ) → Member s taken → s < count)
+        × (count * p + count ≤ length (now from)) × (count * next + count ≤ length (now from)) ⌝ }
+    ensures { λ r. ⌜ Followed count (Moved (now (moves .entry)) count a p (λ s. Member s taken) (λ y. y ≡ next))
         (sources (now (from .entry)) (now (pending .entry)) waiting) (sources (now (from .exit)) (now (pending .exit)) r) ⌝ }
 {
     let mut all = waiting;
@@ -56,7 +59,7 @@ fn follow_standings(
         let s = u64::trailing_zeros(rest) as usize;
         let to = wide(moves[32 * s + a]);
         if to < count {
-            all = pass_on(p, s, next, to, from, pending, all);
+            all = pass_on(count, p, s, next, to, from, pending, all);
         }
         rest = rest & (rest - 1);
     }
@@ -72,12 +75,14 @@ fn follow_places(
     taken: u64,
     entered: u64,
     places: usize,
-    from: &mut [u64; 4096],
+    from: &mut [u64],
     pending: &mut [u64; 64],
     waiting: u64,
 ) -> u64
-    requires { ⌜ (count ≤ 64) × (a < 32) × (p < 64) ⌝ }
-    ensures { λ r. ⌜ Followed (Moved (now (moves .entry)) count a p (λ s. Member s taken) (λ y. Member y entered × (y < places)))
+    requires { ⌜ (count ≤ 64) × (a < 32) × (p < places) × ((s : ℕ) → Member s taken → s < count)
+        × (count * places ≤ length (now from)) ⌝ }
+    ensures { λ r. ⌜ Followed count
+        (Moved (now (moves .entry)) count a p (λ s. Member s taken) (λ y. Member y entered × (y < places)))
         (sources (now (from .entry)) (now (pending .entry)) waiting) (sources (now (from .exit)) (now (pending .exit)) r) ⌝ }
 {
     let mut all = waiting;
@@ -101,13 +106,15 @@ fn follow_labels(
     enter: &[u64],
     p: usize,
     taken: u64,
-    from: &mut [u64; 4096],
+    from: &mut [u64],
     pending: &mut [u64; 64],
     waiting: u64,
 ) -> u64
-    requires { ⌜ Fitting (tables (now moves) count labels (now follow) (now enter)) × (p < length (now follow)) ⌝ }
-    ensures { λ r. ⌜ Followed (Labelled (now (moves .entry)) count (now (follow .entry)) (now (enter .entry)) (length (now (follow .entry)))
-        p (λ s. Member s taken) labels)
+    requires { ⌜ Fitting (tables (now moves) count labels (now follow) (now enter)) × (p < length (now follow))
+        × ((s : ℕ) → Member s taken → s < count) × (count * length (now follow) ≤ length (now from)) ⌝ }
+    ensures { λ r. ⌜ Followed count
+        (Labelled (now (moves .entry)) count (now (follow .entry)) (now (enter .entry)) (length (now (follow .entry))) p
+        (λ s. Member s taken) labels)
         (sources (now (from .entry)) (now (pending .entry)) waiting) (sources (now (from .exit)) (now (pending .exit)) r) ⌝ }
 {
     let mut all = waiting;
@@ -133,11 +140,11 @@ fn follow_labels(
 
 // Each standing becomes a source of itself with the list's start, and no other pair below `places` has a source. The standings are
 // returned.
-fn begin(count: usize, places: usize, from: &mut [u64; 4096]) -> u64
-    requires { ⌜ (count ≤ 64) × (0 < places) × (places ≤ 64) ⌝ }
-    ensures { λ r. ⌜ Begun count places (now (from .exit)) r ⌝ }
+fn begin(count: usize, places: usize, from: &mut [u64]) -> u64
+    requires { ⌜ (count ≤ 64) × (0 < places) × (count * places ≤ length (now from)) ⌝ }
+    ensures { λ r. ⌜ Begun count count places (now (from .exit)) r ⌝ }
 {
-    clear_words(from, 64 * places);
+    clear_words(from, count * places);
     let mut all: u64 = 0;
     let mut i = 0;
     while i < count {
@@ -155,9 +162,10 @@ pub fn find_sources(
     labels: usize,
     follow: &[u64],
     enter: &[u64],
-    from: &mut [u64; 4096],
+    from: &mut [u64],
 )
-    requires { ⌜ Fitting (tables (now moves) count labels (now follow) (now enter)) × (0 < length (now follow)) ⌝ }
+    requires { ⌜ Fitting (tables (now moves) count labels (now follow) (now enter)) × (0 < length (now follow))
+        × (count * length (now follow) ≤ length (now from)) ⌝ }
     ensures { λ _. ⌜ Searched (tables (now (moves .entry)) count labels (now (follow .entry)) (now (enter .entry)))
         (length (now (follow .entry))) (now (from .exit)) ⌝ }
 {

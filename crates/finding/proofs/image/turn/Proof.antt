@@ -21,7 +21,7 @@ clear-words-requires c κs = search needs
 
 loop-holds : tie.Need-loop-holds Inv-loop μ-loop
 loop-holds c =
-    let start = c .before .before .before .before .before in
+    let start = c .before .before .before .before .before .before in
     let x = start .args in
     let e = c .before .before .clear-words .ensures (start .pre .2) in (
       omega arith,
@@ -35,16 +35,16 @@ ended-requires c κs = search needs
 
 add-to-requires : tie.Need-add-to-requires Inv-loop μ-loop
 add-to-requires c κs =
+    let start = c .before .before .before .before .before .before .before .before .before .before in
     let l = c .before .before .before .loop in
-    let start = c .before .before .before .before .before .before .before .before .before in
     let x = start .args in
-    let t = c .before .before .loop-test .taken in (
-      omega (arith, start .pre .0),
+    let p = start .pre in
+    let e = c .before .ended in (
+      omega (arith, p .0),
       λ i m.
           let h =
-          ended-inside (x .count) (x .places) (x .from .now) (l .to) (c .before .ended .result) (start .pre .3) t
-          (c .before .ended .ensures) i m in
-          omega (arith, h, start .pre .2, l .inv .1, c .before .before .before .before .before .before .clear-words .kept .0),
+          ended-inside (x .count) (x .places) (x .from .now) (l .to) (e .result) (p .3) (c .before .before .loop-test .taken) (e .ensures) i m in
+          omega (arith, h, p .2, l .inv .1, c .before .before .before .before .before .before .clear-words .kept .0),
     )
 
 add-to : tie.Need-add-to Inv-loop μ-loop
@@ -55,15 +55,15 @@ loop-less c = search needs
 
 loop-again : tie.Need-loop-again Inv-loop μ-loop
 loop-again c =
+    let start = c .before .before .before .before .before .before .before .before .before .before .before .before .before in
     let l = c .before .before .before .before .before .before .loop in
-    let start = c .before .before .before .before .before .before .before .before .before .before .before .before in
     let x = start .args in
-    let a = c .before .before .add-to in (
+    let a = c .before .before .add-to in
+    let e = c .before .before .before .before .ended in (
       omega arith,
       a .ensures .size ∙ l .inv .1,
-      turned-more (x .count) (x .places) (x .accepting) (x .from .now) _ (l .to) (c .before .before .before .before .ended .result) (l .out)
-          _ (start .pre .3) (c .before .before .before .before .before .loop-test .taken) (l .inv .2)
-          (c .before .before .before .before .ended .ensures) (a .ensures),
+      turned-more (x .count) (x .places) (x .accepting) (x .from .now) _ (l .to) (e .result) (l .out) _ (start .pre .3)
+          (c .before .before .before .before .before .loop-test .taken) (l .inv .2) (e .ensures) (a .ensures),
     )
 
 same-length : tie.Need-same-length Inv-loop μ-loop
@@ -71,12 +71,13 @@ same-length c = search needs
 
 returns : tie.Need-returns Inv-loop μ-loop
 returns c =
+    let start = c .before .before .before .before .before .before .before .before in
     let l = c .before .loop in
-    let start = c .before .before .before .before .before .before .before in
+    let p = start .pre in
     let x = start .args in
     let e : l .to ≡ x .count = omega arith in
-    let f = c .before .before .before .before .clear-words .ensures (start .pre .2) in
-    turned-cleared (x .count) (x .places) (x .accepting) (x .from .now) (x .out .now) (x .count) (l .out) (start .pre .2)
+    let f = c .before .before .before .before .clear-words .ensures (p .2) in
+    turned-cleared (x .count) (x .places) (x .accepting) (x .from .now) (x .out .now) (x .count) (l .out) (p .2)
     (subst
     (λ z. Turned (x .count) (x .places) (x .accepting) (x .from .now) z (replicate (x .count) 0 ++ drop (x .count) (x .out .now)) (l .out))
     e

@@ -29,20 +29,28 @@ part-images-end : tie.Need-part-images-end
 part-images-end c = search needs
 
 images-requires : tie.Need-images-requires
-images-requires c κs = search needs
+images-requires c κs =
+    let start = c .before .before .before .before .before .before in
+    let a = start .args in
+    let p = start .pre in
+    (p .2, p .3, p .4, simp (length-take, length-drop) (omega (arith, p .1, p .2 .standings)))
 
 same-length : tie.Need-same-length
 same-length c = search needs
 
+same-length-2 : tie.Need-same-length-2
+same-length-2 c = search needs
+
 returns : tie.Need-returns
 returns c =
-    let start = c .before .before .before .before .before .before .before .before in
+    let start = c .before .before .before .before .before .before .before .before .before .before .before in
     let a = start .args in
-    let called = c .before .before .images in
+    let room = start .pre .1 in
+    let called = c .before .before .before .before .images in
     let sized : length (called .last .1 .1 .1 .1 .1 .1 .1 .0) ≡ 64 =
-    called .kept .1 .1 .1 .1 .1 .1 .1 .0 ∙ simp (length-take, length-drop) (omega (arith, start .pre .1)) in
+    called .kept .1 .1 .1 .1 .1 .1 .1 .0 ∙ simp (length-take, length-drop) (omega (arith, room)) in
     row-filled (tables (a .moves .now) (a .count) (a .labels) (a .follow .now) (a .enter .now)) (a .accepting) (a .v) (a .rows .now)
-    (called .last .1 .1 .1 .1 .1 .1 .1 .0) (64 * a .v + 64 - 64 * a .v) (add-sub-cancel-left (64 * a .v) 64) (start .pre .1) sized
+    (called .last .1 .1 .1 .1 .1 .1 .1 .0) (64 * a .v + 64 - 64 * a .v) (add-sub-cancel-left (64 * a .v) 64) room sized
     (called .ensures)
 
 pub fill-row-spec : {M : Type 1} → statement M
@@ -57,4 +65,5 @@ fill-row-spec =
     part-images-end
     images-requires
     same-length
+    same-length-2
     returns)

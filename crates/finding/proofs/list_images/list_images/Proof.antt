@@ -1,65 +1,63 @@
--- The loop's invariant: the rows of the lists passed are in their places.
-use Prim.Native.Nat.{ℕ, _-_, _≤_}
-use mathlib.Core.Path.{_≡_, subst}
-use Rattle.finding.specs.ListRows.{jobTables, ListsDone, lists-none, lists-more, images-of}
+-- The words for the sources of pairs are enough for the list with the most occurrences.
+use Prim.Native.Nat.{_+_}
+use native.Mathlib.Nat.{mul-le-mul-left}
+use Rattle.finding.specs.ListRows.{paired-most}
 use native.Mathlib.Omega.{arith}
 use borrow.Author.Needs.{needs}
 use Rattle.finding.proofs.list_images.list_images.Statement.{statement}
 use Rattle.finding.proofs.list_images.list_images.Tie as tie
 
-abbrev Inv-loop : tie.InvT-loop
-Inv-loop moves count labels lists follow enter sizes accepting rows₀ from₀ v₀ rows from v =
-    (v ≤ lists) × ListsDone (jobTables moves count labels follow enter sizes accepting) v rows
-
-abbrev μ-loop : tie.MeasureT-loop
-μ-loop moves count labels lists follow enter sizes accepting rows₀ from₀ v₀ rows from v = lists - v
-
-returns : tie.Need-returns Inv-loop μ-loop
+returns : tie.Need-returns
 returns c = λ h. absurd (omega arith)
 
-loop-holds : tie.Need-loop-holds Inv-loop μ-loop
-loop-holds c =
-    let a = c .before .args in
-    let T =
-    jobTables (a .moves .now) (a .count) (a .labels) (a .follow .now) (a .enter .now) (a .sizes .now) (a .accepting .now) in
-    (omega arith, lists-none T (a .rows .now))
+returns-2 : tie.Need-returns-2
+returns-2 c = λ h. record { table = λ few narrow A found Bs m e s. absurd (omega arith) }
 
-list-row-requires : tie.Need-list-row-requires Inv-loop μ-loop
-list-row-requires c κs = search needs
+returns-3 : tie.Need-returns-3
+returns-3 c = λ h. record { table = λ few narrow A found Bs m e s. absurd (omega arith) }
 
-add-v : tie.Need-add-v Inv-loop μ-loop
-add-v c = search needs
+greatest-requires : tie.Need-greatest-requires
+greatest-requires c κs = search needs
 
-loop-less : tie.Need-loop-less Inv-loop μ-loop
-loop-less c = search needs
+add-if5 : tie.Need-add-if5
+add-if5 c = search needs
 
-loop-again : tie.Need-loop-again Inv-loop μ-loop
-loop-again c =
-    let l = c .before .before .before .before .loop in
-    let a = c .before .before .before .before .before .before .args in
-    let T =
-    jobTables (a .moves .now) (a .count) (a .labels) (a .follow .now) (a .enter .now) (a .sizes .now) (a .accepting .now) in
-    (omega arith, lists-more T (l .v) (l .rows) (c .list-row .last .1 .1 .1 .1 .1 .1 .1 .1 .1 .0) (l .inv .1) (c .list-row .ensures))
+mul-if5 : tie.Need-mul-if5
+mul-if5 c =
+    let a = c .before .before .before .before .before .args in
+    let most = c .before .greatest .result in
+    omega (arith, mul-le-mul-left {m = most + 1} {n = 64} (a .count) (omega arith))
 
-returns-2 : tie.Need-returns-2 Inv-loop μ-loop
-returns-2 c =
-    let l = c .before .loop in
-    let a = c .before .before .before .args in
-    let T =
-    jobTables (a .moves .now) (a .count) (a .labels) (a .follow .now) (a .enter .now) (a .sizes .now) (a .accepting .now) in
-    let e : l .v ≡ a .lists = omega arith in
-    λ h. images-of T (a .lists) (l .rows) (subst (λ (v : ℕ). ListsDone T v (l .rows)) e (l .inv .1))
+rows-of-few-requires : tie.Need-rows-of-few-requires
+rows-of-few-requires c κs =
+    let a = c .before .before .before .before .before .before .before .args in
+    let g = c .before .before .before .greatest in (
+      omega arith,
+      omega arith,
+      omega arith,
+      λ v h. paired-most (a .count) (g .result) (a .sizes .now) v 512 (g .ensures v h) (c .before .if5 .taken),
+    )
+
+returns-4 : tie.Need-returns-4
+returns-4 c = λ h. c .rows-of-few .ensures
+
+rows-of-many-requires : tie.Need-rows-of-many-requires
+rows-of-many-requires c κs = search needs
+
+returns-5 : tie.Need-returns-5
+returns-5 c = λ h. c .rows-of-many .ensures
 
 pub list-images-spec : {M : Type 1} → statement M
 list-images-spec =
     tie.close
     (tie.spec
-    Inv-loop
-    μ-loop
     returns
-    loop-holds
-    list-row-requires
-    add-v
-    loop-less
-    loop-again
-    returns-2)
+    returns-2
+    returns-3
+    greatest-requires
+    add-if5
+    mul-if5
+    rows-of-few-requires
+    returns-4
+    rows-of-many-requires
+    returns-5)

@@ -1,8 +1,9 @@
 -- The row is filled from the parts of the tables that hold the automaton number v + 1.
-use Prim.Native.Nat.{_+_, _*_, _-_}
-use lib.ListN.{getD}
+use Prim.Native.Nat.{_+_, _*_, _-_, _≤_}
+use mathlib.Core.Path.{_≡_, sym, subst}
+use lib.ListN.{length, getD, take, drop, length-take, length-drop}
 use native.Mathlib.Numerals.{add-one}
-use Rattle.finding.specs.ListRows.{jobTables, list-refused, list-told}
+use Rattle.finding.specs.ListRows.{jobTables, part-length, list-refused, list-told}
 use native.Mathlib.Omega.{arith}
 use borrow.Author.Needs.{needs}
 use Rattle.finding.proofs.list_images.list_row.Statement.{statement}
@@ -19,7 +20,7 @@ element-copy-out-size c = search needs
 
 returns : tie.Need-returns
 returns c =
-    let a = c .before .before .args in
+    let a = c .before .before .before .args in
     let T =
     jobTables (a .moves .now) (a .count) (a .labels) (a .follow .now) (a .enter .now) (a .sizes .now) (a .accepting .now) in
     list-refused T (a .v) (a .rows .now) (a .rows .now) (rw (← add-one (a .v)) (c .if1 .taken))
@@ -70,17 +71,35 @@ element-copy-out-fill-row : tie.Need-element-copy-out-fill-row
 element-copy-out-fill-row c = search needs
 
 fill-row-requires : tie.Need-fill-row-requires
-fill-row-requires c κs = search needs
+fill-row-requires c κs =
+    let start = c .before .before .before .before .before .before .before .before .before .before in
+    let a = start .args in
+    let p = start .pre in
+    let size = getD (a .sizes .now) (a .v + 1) 0 in
+    let small = c .before .before .before .before .before .before .before .if1 .left in
+    let long = part-length (64 * (a .v + 1)) size (a .follow .now) (omega (arith, start .good, p .0, small)) in
+    let wide : length (take (32 * (a .v + 1) + 32 - 32 * (a .v + 1)) (drop (32 * (a .v + 1)) (a .enter .now))) ≡ 32 =
+    simp (length-take, length-drop) (omega (arith, start .good, p .0)) in (
+      p .0,
+      omega (arith, start .good, p .0),
+      record { standings = p .1; row = p .2; enters = omega (arith, wide, p .2); places = omega (arith, long, small) },
+      omega (arith, long),
+      subst (λ n. a .count * n ≤ length (a .sources .now)) (sym long) (p .3 small),
+    )
+
+same-length : tie.Need-same-length
+same-length c = search needs
 
 returns-2 : tie.Need-returns-2
 returns-2 c =
-    let start = c .before .before .before .before .before .before .before .before .before .before in
+    let start = c .before .before .before .before .before .before .before .before .before .before .before .before .before in
     let a = start .args in
+    let row = c .before .before .fill-row in
     let T =
     jobTables (a .moves .now) (a .count) (a .labels) (a .follow .now) (a .enter .now) (a .sizes .now) (a .accepting .now) in
-    list-told T (a .v) (a .rows .now) (c .fill-row .last .1 .1 .1 .1 .1 .1 .1 .1 .0) (a .v + 1)
+    list-told T (a .v) (a .rows .now) (row .last .1 .1 .1 .1 .1 .1 .1 .1 .0) (a .v + 1)
     (64 * (a .v + 1) + getD (a .sizes .now) (a .v + 1) 0 + 1 - 64 * (a .v + 1)) (32 * (a .v + 1) + 32 - 32 * (a .v + 1)) (add-one (a .v))
-    (omega arith) (omega arith) (omega (arith, start .good, start .pre)) (c .fill-row .ensures)
+    (omega arith) (omega arith) (omega (arith, start .good, start .pre)) (row .ensures)
 
 pub list-row-spec : {M : Type 1} → statement M
 list-row-spec =
@@ -106,4 +125,5 @@ list-row-spec =
     mul-fill-row-3
     element-copy-out-fill-row
     fill-row-requires
+    same-length
     returns-2)

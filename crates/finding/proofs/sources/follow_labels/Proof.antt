@@ -13,7 +13,7 @@ use Rattle.finding.proofs.sources.follow_labels.Tie as tie
 abbrev Inv-loop : tie.InvT-loop
 Inv-loop moves count labels follow enter p taken from₀ pending₀ waiting all₀ a₀ from pending all a =
     (a ≤ labels)
-    × Followed (Labelled moves count follow enter (length follow) p (λ s. Member s taken) a) (sources from₀ pending₀ waiting)
+    × Followed count (Labelled moves count follow enter (length follow) p (λ s. Member s taken) a) (sources from₀ pending₀ waiting)
     (sources from pending all)
 
 abbrev μ-loop : tie.MeasureT-loop
@@ -21,7 +21,7 @@ abbrev μ-loop : tie.MeasureT-loop
 
 loop-holds : tie.Need-loop-holds Inv-loop μ-loop
 loop-holds c =
-    let x = c .before .before .args in (
+    let x = c .before .before .before .args in (
       omega arith,
       followed-none (sources (x .from .now) (x .pending .now) (x .waiting)) (λ u v m. omega (arith, m .1)),
     )
@@ -49,21 +49,24 @@ loop-less c = search needs
 
 loop-again : tie.Need-loop-again Inv-loop μ-loop
 loop-again c =
-    let l = c .before .before .before .before .before .before .loop in
-    let x = c .before .before .before .before .before .before .before .before .before .args in (
+    let l = c .before .before .before .before .before .before .before .before .loop in
+    let x = c .before .before .before .before .before .before .before .before .before .before .before .before .args in (
       omega arith,
-      followed-then (l .inv .1) (c .follow-places .ensures)
+      followed-then (l .inv .1) (c .before .before .follow-places .ensures)
           (label-next (x .moves .now) (x .count) (x .follow .now) (x .enter .now) (length (x .follow .now)) (x .p)
           (λ s. Member s (x .taken)) (l .a)),
     )
 
+same-length : tie.Need-same-length Inv-loop μ-loop
+same-length c = search needs
+
 returns : tie.Need-returns Inv-loop μ-loop
 returns c =
     let l = c .before .loop in
-    let x = c .before .before .before .before .args in
+    let x = c .before .before .before .before .before .args in
     let e : l .a ≡ x .labels = omega arith in
     subst
-    (λ (z : ℕ). Followed (Labelled (x .moves .now) (x .count) (x .follow .now) (x .enter .now) (length (x .follow .now)) (x .p)
+    (λ (z : ℕ). Followed (x .count) (Labelled (x .moves .now) (x .count) (x .follow .now) (x .enter .now) (length (x .follow .now)) (x .p)
     (λ s. Member s (x .taken)) z) (sources (x .from .now) (x .pending .now) (x .waiting)) (sources (l .from) (l .pending) (l .all)))
     e (l .inv .1)
 
@@ -82,4 +85,5 @@ follow-labels-spec =
     add-a
     loop-less
     loop-again
+    same-length
     returns)

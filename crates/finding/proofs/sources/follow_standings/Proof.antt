@@ -5,6 +5,7 @@ use mathlib.Core.Path.{_≡_}
 use lib.Bits.{and-le-r}
 use lib.Count.{trailing-le}
 use Rattle.theory.specs.Places.{Member}
+use Rattle.places.specs.NextPlace.{trailing-here}
 use Rattle.places.specs.Followed.{Passed, passed-none, passed-all, rest-within, least-small}
 use Rattle.finding.specs.Sources.{sources, Followed, Moved}
 use Rattle.finding.specs.SourcesLaws.{followed-none, followed-same, followed-then, followed-as, standing-in, standing-out}
@@ -16,14 +17,14 @@ use Rattle.finding.proofs.sources.follow_standings.Tie as tie
 abbrev Inv-loop : tie.InvT-loop
 Inv-loop moves count a p taken next from₀ pending₀ waiting all₀ rest₀ from pending all rest =
     (rest < 2 ^ 64) × ((i : ℕ) → Member i rest → Member i taken)
-    × Followed (Moved moves count a p (Passed taken rest) (λ y. y ≡ next)) (sources from₀ pending₀ waiting) (sources from pending all)
+    × Followed count (Moved moves count a p (Passed taken rest) (λ y. y ≡ next)) (sources from₀ pending₀ waiting) (sources from pending all)
 
 abbrev μ-loop : tie.MeasureT-loop
 μ-loop moves count a p taken next from₀ pending₀ waiting all₀ rest₀ from pending all rest = rest
 
 loop-holds : tie.Need-loop-holds Inv-loop μ-loop
 loop-holds c =
-    let x = c .args in (
+    let x = c .before .args in (
       omega arith,
       λ i m. m,
       followed-none (sources (x .from .now) (x .pending .now) (x .waiting)) (λ u v m. passed-none (x .taken) (u .0) (m .1)),
@@ -40,7 +41,7 @@ add-wide c = omega (arith, trailing-le 64 (c .before .loop .rest))
 
 element-copy-out-wide : tie.Need-element-copy-out-wide Inv-loop μ-loop
 element-copy-out-wide c =
-    omega (arith, c .before .before .pre, least-small (c .before .loop .rest) (c .loop-test .taken) (c .before .loop .inv .0))
+    omega (arith, c .before .before .before .pre, least-small (c .before .loop .rest) (c .loop-test .taken) (c .before .loop .inv .0))
 
 wide-requires : tie.Need-wide-requires Inv-loop μ-loop
 wide-requires c κs = search needs
@@ -48,12 +49,14 @@ wide-requires c κs = search needs
 pass-on-requires : tie.Need-pass-on-requires Inv-loop μ-loop
 pass-on-requires c κs =
     let l = c .before .before .before .before .before .before .loop in
-    let p = c .before .before .before .before .before .before .before .pre in (
+    let p = c .before .before .before .before .before .before .before .before .pre in
+    let d = c .before .before .before .before .before .loop-test .taken in (
+      p .0,
       p .2,
-      least-small (l .rest) (c .before .before .before .before .before .loop-test .taken) (l .inv .0),
-      p .3,
-      omega (arith, p .0, c .before .before .if1 .taken),
-      omega (arith, l .inv .2 .words),
+      p .3 _ (l .inv .1 _ (trailing-here 64 (l .rest) d (l .inv .0))),
+      c .before .before .if1 .taken,
+      omega (arith, l .inv .2 .words, p .4),
+      omega (arith, l .inv .2 .words, p .5),
       omega (arith, l .inv .2 .slots),
     )
 
@@ -68,13 +71,13 @@ loop-less c =
 loop-again : tie.Need-loop-again Inv-loop μ-loop
 loop-again c =
     let l = c .before .before .before .before .loop in
-    let x = c .before .before .before .before .before .args in
+    let x = c .before .before .before .before .before .before .args in
     let d = c .before .before .before .loop-test .taken in
     let to = c .before .wide in (
       omega (arith, l .inv .0, and-le-r (l .rest) (l .rest - 1)),
       rest-within (x .taken) (l .rest) (l .inv .1) d (l .inv .0),
       ⊎-elim
-          (λ w. followed-as (w .4) (w .5) (w .6)
+          (λ w. followed-as (w .6) (w .7) (w .8)
           (followed-then (l .inv .2) (w .3 .ensures)
           (standing-in (x .moves .now) (x .count) (x .a) (x .p) (x .next) (x .taken) (l .rest) (l .inv .1) d (l .inv .0) (to .result)
           (to .ensures .0) (w .0 .taken))))
@@ -85,10 +88,13 @@ loop-again c =
           (c .if1 .came),
     )
 
+same-length : tie.Need-same-length Inv-loop μ-loop
+same-length c = search needs
+
 returns : tie.Need-returns Inv-loop μ-loop
 returns c =
     let l = c .before .loop in
-    let x = c .before .before .args in
+    let x = c .before .before .before .args in
     followed-same (l .inv .2) (λ u v. (
       λ (e, t, n, m, b). (e, passed-all (x .taken) (l .rest) (c .loop-test .left) (u .0) .1 t, n, m, b),
       λ (e, t, n, m, b). (e, passed-all (x .taken) (l .rest) (c .loop-test .left) (u .0) .0 t, n, m, b),
@@ -110,4 +116,5 @@ follow-standings-spec =
     sub-rest
     loop-less
     loop-again
+    same-length
     returns)

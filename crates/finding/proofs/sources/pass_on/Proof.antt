@@ -41,7 +41,7 @@ returns : tie.Need-returns
 returns c =
     let x = c .before .before .before .args in
     let p = c .before .before .before .pre in
-    gained-none (x .p) (x .s) (x .next) (x .to) (sources (x .from .now) (x .pending .now) (x .waiting)) (p .1) (p .3) (c .if1 .taken)
+    gained-none (x .count) (x .p) (x .s) (x .next) (x .to) (sources (x .from .now) (x .pending .now) (x .waiting)) (p .2) (p .3) (c .if1 .taken)
 
 mul-from : tie.Need-mul-from
 mul-from c = search needs
@@ -89,17 +89,17 @@ returns-2 c =
     let waits = union (x .waiting) (1 * 2 ^ x .next % 2 ^ 64) in
     let few : waits < 2 ^ 64 =
     subst (λ z. union (x .waiting) z < 2 ^ 64) (sym place)
-    (union-below 64 (x .waiting) (one (x .next)) (start .fits .waiting .fits) (one-below 64 (x .next) (p .2))) in
+    (union-below 64 (x .waiting) (one (x .next)) (start .fits .waiting .fits) (one-below 64 (x .next) (p .1))) in
     subst
-    (λ z. Followed (Only (x .p) (x .s) (x .next) (x .to)) (sources (x .from .now) (x .pending .now) (x .waiting))
+    (λ z. Followed (x .count) (Only (x .p) (x .s) (x .next) (x .to)) (sources (x .from .now) (x .pending .now) (x .waiting))
     (sources
-    (set (x .from .now) (64 * x .next + x .to)
-    (union (getD (x .from .now) (64 * x .next + x .to) 0) (getD (x .from .now) (64 * x .p + x .s) 0)))
+    (set (x .from .now) (x .count * x .next + x .to)
+    (union (getD (x .from .now) (x .count * x .next + x .to) 0) (getD (x .from .now) (x .count * x .p + x .s) 0)))
     (set (x .pending .now) (x .next) (union (getD (x .pending .now) (x .next) 0) z)) waits))
     (sym bit)
-    (gained-more (x .p) (x .s) (x .next) (x .to) (sources (x .from .now) (x .pending .now) (x .waiting)) (p .1) (p .3)
-    (omega (arith, c .before .before .slice-known2 .given (64 * x .next + x .to))) (omega (arith, p .4)) (omega (arith, p .5)) waits few
-    (ap (union (x .waiting)) place) (c .before .if1 .left))
+    (gained-more (x .count) (x .p) (x .s) (x .next) (x .to) (sources (x .from .now) (x .pending .now) (x .waiting)) (p .2) (p .3)
+    (omega (arith, c .before .before .slice-known2 .given (x .count * x .next + x .to))) (omega (arith, p .5, p .3))
+    (omega (arith, p .1, p .6)) waits few (ap (union (x .waiting)) place) (c .before .if1 .left))
 
 pub pass-on-spec : {M : Type 1} → statement M
 pass-on-spec =

@@ -1,0 +1,80 @@
+-- The loop's invariant: the rows of the lists passed are in their places.
+use Prim.Native.Nat.{ℕ, _-_, _≤_}
+use mathlib.Core.Path.{_≡_, refl, _∙_, subst, sym}
+use lib.ListN.{length}
+use Rattle.finding.specs.ListRows.{jobTables, Paired, ListsDone, lists-none, lists-more, images-of}
+use native.Mathlib.Omega.{arith}
+use borrow.Author.Needs.{needs}
+use Rattle.finding.proofs.list_images.rows_of.Statement.{statement}
+use Rattle.finding.proofs.list_images.rows_of.Tie as tie
+
+abbrev Inv-loop : tie.InvT-loop
+Inv-loop moves count labels lists follow enter sizes accepting sources₀ rows₀ v₀ sources rows v =
+    (v ≤ lists) × (length sources ≡ length sources₀) × ListsDone (jobTables moves count labels follow enter sizes accepting) v rows
+
+abbrev μ-loop : tie.MeasureT-loop
+μ-loop moves count labels lists follow enter sizes accepting sources₀ rows₀ v₀ sources rows v = lists - v
+
+loop-holds : tie.Need-loop-holds Inv-loop μ-loop
+loop-holds c =
+    let a = c .before .args in
+    let T =
+    jobTables (a .moves .now) (a .count) (a .labels) (a .follow .now) (a .enter .now) (a .sizes .now) (a .accepting .now) in
+    (omega arith, refl, lists-none T (a .rows .now))
+
+list-row-requires : tie.Need-list-row-requires Inv-loop μ-loop
+list-row-requires c κs =
+    let start = c .before .before .before .before .before in
+    let l = c .before .before .before .loop in
+    let a = start .args in
+    let p = start .pre in
+    let h = c .before .before .loop-test .taken in (
+      omega (arith, h, p .2),
+      p .0,
+      p .1,
+      subst (Paired (a .count) (a .sizes .now) (l .v)) (sym (l .inv .1)) (p .3 (l .v) h),
+    )
+
+add-v : tie.Need-add-v Inv-loop μ-loop
+add-v c = search needs
+
+loop-less : tie.Need-loop-less Inv-loop μ-loop
+loop-less c = search needs
+
+loop-again : tie.Need-loop-again Inv-loop μ-loop
+loop-again c =
+    let l = c .before .before .before .before .before .before .loop in
+    let a = c .before .before .before .before .before .before .before .before .args in
+    let r = c .before .before .list-row in
+    let T =
+    jobTables (a .moves .now) (a .count) (a .labels) (a .follow .now) (a .enter .now) (a .sizes .now) (a .accepting .now) in (
+      omega arith,
+      r .kept .1 .1 .1 .1 .1 .1 .1 .1 .0 ∙ l .inv .1,
+      lists-more T (l .v) (l .rows) (r .last .1 .1 .1 .1 .1 .1 .1 .1 .1 .0) (l .inv .2) (r .ensures),
+    )
+
+same-length : tie.Need-same-length Inv-loop μ-loop
+same-length c = c .before .loop .inv .1
+
+returns : tie.Need-returns Inv-loop μ-loop
+returns c =
+    let l = c .before .loop in
+    let a = c .before .before .before .args in
+    let T =
+    jobTables (a .moves .now) (a .count) (a .labels) (a .follow .now) (a .enter .now) (a .sizes .now) (a .accepting .now) in
+    let e : l .v ≡ a .lists = omega arith in
+    images-of T (a .lists) (l .rows) (subst (λ (v : ℕ). ListsDone T v (l .rows)) e (l .inv .2))
+
+pub rows-of-spec : {M : Type 1} → statement M
+rows-of-spec =
+    tie.close
+    (tie.spec
+    Inv-loop
+    μ-loop
+    loop-holds
+    list-row-requires
+    add-v
+    loop-less
+    loop-again
+    same-length
+    returns)
