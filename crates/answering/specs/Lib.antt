@@ -30,6 +30,7 @@ pub mod Grown
 pub mod SetSearch
 pub mod SetRows
 pub mod SetSteps
+pub mod WordSteps
 pub mod SetSearchRun
 pub mod Marks
 pub mod MarksSteps

@@ -1,61 +1,101 @@
--- Where the links of each recording begin (Links), in one pass over the triples: the first triple of a recording stands at the first of the
--- recording before it or behind that.
+-- Where the links of each recording begin (Links), in one pass over the triples from the last to the first: each triple takes the place of
+-- those behind it that leave the same recording.
 use Prim.Native.Nat.{ℕ, _+_, _/_, _≤_, _<_}
 use mathlib.Core.List.{List}
-use mathlib.Core.Path.{_≡_}
-use native.Mathlib.Decide.{ℕ-discrete, decLt}
+use mathlib.Core.Path.{_≡_, sym, ap, _∙_, subst}
+use native.Mathlib.Decide.{ℕ-discrete}
 use native.Mathlib.Omega.{arith}
-use lib.ListN.{length, getD, set}
+use lib.ListN.{length, getD, set, replicate, length-replicate}
 use lib.Seq.{getD-set-same, getD-set-other}
 use Rattle.theory.specs.Graph.{Table}
 use Rattle.answering.specs.Links.{leaves, FirstLink}
+use Rattle.answering.specs.Pairs.{zero-at}
 
--- r is the first triple from the place on that leaves x or a later recording; the number of triples where there is none.
-pub record NextBegin (t : Table) (place x r : ℕ) : Type 0 where
-  pub onward : place ≤ r
-  pub within : r ≤ length t / 3
-  pub passed : (j : ℕ) → place ≤ j → j < r → leaves t j < x
-  pub here : r < length t / 3 → x ≤ leaves t r
+-- There is a place for each recording below n, with the first triple of all.
+pub record Unlisted (n : ℕ) (begins : List ℕ) : Type 0 where
+  pub fits : n ≤ length begins
+  pub none : (x : ℕ) → x < n → getD begins x 0 ≡ 0
+
+pub unlisted-zeros : (n m : ℕ) → n ≤ m → Unlisted n (replicate m 0)
+unlisted-zeros n m h = record { fits = let e = length-replicate {A = ℕ} m 0 in omega arith; none = λ x l. zero-at m x }
 
 -- The first triple of each recording below n is listed.
 pub record LinkBegins (t : Table) (n : ℕ) (begins : List ℕ) : Type 0 where
   pub fits : n ≤ length begins
   pub first : (x : ℕ) → x < n → FirstLink t x (getD begins x 0)
 
--- All triples before the number i leave recordings before x.
-pub record Begun (t : Table) (x i : ℕ) (begins : List ℕ) : Type 0 where
-  pub within : i ≤ length t / 3
-  pub passed : (j : ℕ) → j < i → leaves t j < x
-  pub first : (y : ℕ) → y < x → FirstLink t y (getD begins y 0)
+-- Of the triples from the number i on.
+pub record Begun (t : Table) (n i : ℕ) (begins : List ℕ) : Type 0 where
+  pub within : (x : ℕ) → x < n → getD begins x 0 ≤ length t / 3
+  pub before : (x : ℕ) → x < n → (j : ℕ) → i ≤ j → j < getD begins x 0 → ¬ (leaves t j ≡ x)
+  pub there : (x : ℕ) → x < n → (j : ℕ) → i ≤ j → j < length t / 3 → leaves t j ≡ x → leaves t (getD begins x 0) ≡ x
 
-pub begun-none : (t : Table) (begins : List ℕ) → Begun t 0 0 begins
-begun-none t begins = record { within = omega arith; passed = λ j h. absurd (omega arith); first = λ y h. absurd (omega arith) }
+module _ {t : Table} {n : ℕ} {begins : List ℕ} where
+  pub begun-none : Unlisted n begins → Begun t n (length t / 3) begins
+  begun-none u = record {
+    within = λ x h. omega (arith, u .none x h);
+    before = λ x h j l m. absurd (omega (arith, u .none x h));
+    there = λ x h j l m. absurd (omega arith);
+  }
 
-pub begun-more : {t : Table} {x i r : ℕ} {begins : List ℕ} → x < length begins → Begun t x i begins → NextBegin t i x r
-    → Begun t (x + 1) r (set begins x r)
-begun-more {t} {x} {i} {r} {begins} l b n = record {
-  within = n .within;
-  passed = λ j h. let p = earlier j h in omega arith;
-  first = λ y h. at y h (ℕ-discrete y x);
-}
-  where
-    earlier : (j : ℕ) → j < r → leaves t j < x
-    earlier j h = go (decLt j i)
-      where
-        go : Dec (j < i) → leaves t j < x
-        go (yes k) = b .passed j k
-        go (no k) = n .passed j (omega arith) h
+  -- A triple that leaves none of the recordings is passed ..
+  pub begun-over : {i : ℕ} → n ≤ leaves t i → Begun t n (i + 1) begins → Begun t n i begins
+  begun-over {i} o b = record {
+    within = b .within;
+    before = λ x h j l m. before' x h j l m (ℕ-discrete j i);
+    there = λ x h j l m. there' x h j l m (ℕ-discrete j i);
+  }
+    where
+      before' : (x : ℕ) → x < n → (j : ℕ) → i ≤ j → j < getD begins x 0 → Dec (j ≡ i) → ¬ (leaves t j ≡ x)
+      before' x h j l m (yes e) q = let p : leaves t i ≡ x = subst (λ j. leaves t j ≡ x) e q in omega arith
+      before' x h j l m (no e) q = b .before x h j (omega arith) m q
 
-    first' : FirstLink t x r
-    first' = record {
-      within = n .within;
-      before = λ sorted. earlier;
-      from = λ sorted j h k. omega (arith, n .here (omega arith), sorted r j h (omega arith));
-    }
+      there' : (x : ℕ) → x < n → (j : ℕ) → i ≤ j → j < length t / 3 → Dec (j ≡ i) → leaves t j ≡ x → leaves t (getD begins x 0) ≡ x
+      there' x h j l m (yes e) q = let p : leaves t i ≡ x = subst (λ j. leaves t j ≡ x) e q in absurd (omega arith)
+      there' x h j l m (no e) q = b .there x h j (omega arith) m q
 
-    at : (y : ℕ) → y < x + 1 → Dec (y ≡ x) → FirstLink t y (getD (set begins x r) y 0)
-    at y h (yes e) = rw (e, getD-set-same begins x r 0 l) first'
-    at y h (no e) = rw (getD-set-other begins x y r 0 e) (b .first y (omega arith))
+  -- .. and one that leaves a recording is its first so far.
+  pub begun-more : {i y : ℕ} → i < length t / 3 → y < length begins → y ≡ leaves t i → Begun t n (i + 1) begins
+      → Begun t n i (set begins y i)
+  begun-more {i} {y} l k e b = record {
+    within = λ x h. within' x h (ℕ-discrete x y);
+    before = λ x h. before' x h (ℕ-discrete x y);
+    there = λ x h. there' x h (ℕ-discrete x y);
+  }
+    where
+      own : (x : ℕ) → x ≡ y → getD (set begins y i) x 0 ≡ i
+      own x q = ap (λ x. getD (set begins y i) x 0) q ∙ getD-set-same begins y i 0 k
 
-pub begun-all : {t : Table} {n i : ℕ} {begins : List ℕ} → n ≤ length begins → Begun t n i begins → LinkBegins t n begins
-begun-all h b = record { fits = h; first = b .first }
+      other : (x : ℕ) → ¬ (x ≡ y) → getD (set begins y i) x 0 ≡ getD begins x 0
+      other x d = getD-set-other begins y x i 0 d
+
+      within' : (x : ℕ) → x < n → Dec (x ≡ y) → getD (set begins y i) x 0 ≤ length t / 3
+      within' x h (yes q) = omega (arith, own x q)
+      within' x h (no d) = omega (arith, other x d, b .within x h)
+
+      -- The triple leaves no other recording.
+      further : (x j : ℕ) → ¬ (x ≡ y) → i ≤ j → leaves t j ≡ x → i + 1 ≤ j
+      further x j d m p = go (ℕ-discrete j i)
+        where
+          go : Dec (j ≡ i) → i + 1 ≤ j
+          go (yes q) = absurd (d (sym p ∙ ap (leaves t) q ∙ sym e))
+          go (no q) = omega arith
+
+      before' : (x : ℕ) → x < n → Dec (x ≡ y) → (j : ℕ) → i ≤ j → j < getD (set begins y i) x 0 → ¬ (leaves t j ≡ x)
+      before' x h (yes q) j m o p = omega (arith, own x q)
+      before' x h (no d) j m o p = b .before x h j (further x j d m p) (omega (arith, other x d)) p
+
+      there' : (x : ℕ) → x < n → Dec (x ≡ y) → (j : ℕ) → i ≤ j → j < length t / 3 → leaves t j ≡ x
+          → leaves t (getD (set begins y i) x 0) ≡ x
+      there' x h (yes q) j m o p = ap (leaves t) (own x q) ∙ sym e ∙ sym q
+      there' x h (no d) j m o p = ap (leaves t) (other x d) ∙ b .there x h j (further x j d m p) o p
+
+  pub begun-all : n ≤ length begins → Begun t n 0 begins → LinkBegins t n begins
+  begun-all h b = record {
+    fits = h;
+    first = λ x l. record {
+      within = b .within x l;
+      before = λ i. b .before x l i (omega arith);
+      there = λ i. b .there x l i (omega arith);
+    };
+  }

@@ -1,5 +1,4 @@
--- Where the links that leave a recording begin: in a table sorted by the recordings that its triples leave, all triples before a number
--- leave earlier recordings, and all triples from it on leave the recording or later ones.
+-- Where the links that leave a recording begin: in a table sorted by the recordings that its triples leave, they stand together.
 use Prim.Native.Nat.{ℕ, _*_, _+_, _/_, _≤_, _<_}
 use mathlib.Core.Logic.{inl, inr}
 use mathlib.Core.Path.{_≡_}
@@ -18,11 +17,11 @@ leaves t i = getD t (3 * i) 0
 abbrev pub SortedByFrom : Table → Type 0
 SortedByFrom t = (i j : ℕ) → i ≤ j → 3 * j + 2 < length t → leaves t i ≤ leaves t j
 
--- The number r of the first triple that leaves x or a later recording.
+-- The number r of the first triple that leaves x, where one does.
 pub record FirstLink (t : Table) (x r : ℕ) : Type 0 where
   pub within : r ≤ length t / 3
-  pub before : SortedByFrom t → (i : ℕ) → i < r → leaves t i < x
-  pub from : SortedByFrom t → (i : ℕ) → r ≤ i → i < length t / 3 → x ≤ leaves t i
+  pub before : (i : ℕ) → i < r → ¬ (leaves t i ≡ x)
+  pub there : (i : ℕ) → i < length t / 3 → leaves t i ≡ x → leaves t r ≡ x
 
 -- The triples of a table are sorted by the recordings that they leave.
 from-rises : {x a y u b v : ℕ} → Rises x a y u b v → x ≤ u

@@ -78,7 +78,7 @@ module _ {sets : List ℕ} {k w states N start : ℕ} {reached : List ℕ} (f : 
 
 -- The local words are zero to begin with.
 pub set-beginning : {w : ℕ} {sets : List ℕ} {k states N start : ℕ} {reached : List ℕ} (i n m : ℕ)
-    → SetStarting w sets k states N start reached → 128 ≤ i → w * N ≤ n → N ≤ m
+    → SetStarting w sets k states N start reached → 128 ≤ i → w * N ≤ n → N < m
     → SetBeginning w sets k states N start reached (replicate i 0) (replicate n 0) (replicate m 0)
 set-beginning {w} {N = N} i n m b hi hn hm = record {
   starting = b;

@@ -264,7 +264,7 @@ module _ {w N k : ℕ} {table : Table} {x : ℕ} {images : List ℕ} {R P : List
       → RowsGoing w N k table x images (link .at) R P h R P S h
   rows-none r f = record {
     grown = grown-none (ByRows w N k table x images) r;
-    all = λ sorted j l e. absurd (omega (arith, f .begins .before sorted j (omega (arith, l, first-place f))));
+    all = λ sorted j l e. absurd (f .begins .before j (omega (arith, l, first-place f)) e);
   }
 
   row-followed : {i a y : ℕ} {R' P' S' R'' P'' S'' : List ℕ} {h' h'' : ℕ} → i < length table / 3 → leaves table i ≡ x
@@ -334,7 +334,8 @@ module _ {w N k : ℕ} {table : Table} {x : ℕ} {images : List ℕ} {R P : List
       go (inl b) = rows-done (λ sorted j c m d. omega arith)
       go (inr (l, d)) =
           rows-done (λ sorted j c m q. d (
-          let p = r .begins .from sorted (link .at) (r .onward) l in
-          let s = sorted (link .at) j c m in
+          let p = r .begins .there j (omega arith) q in
+          let s = sorted (r .first) (link .at) (r .onward) (omega arith) in
+          let u = sorted (link .at) j c m in
           omega arith
           ))

@@ -3,7 +3,8 @@
 use Prim.Native.Nat.{ℕ, suc, _+_, _-_, _*_, _%_, _≤_, _<_}
 use mathlib.Core.Bool.{Bool, true, false, _&&_, _||_}
 use mathlib.Core.List.{[], _∷_}
-use mathlib.Core.Path.{_≡_, refl, ap, _∙_}
+use mathlib.Core.Path.{_≡_, refl, sym, ap, _∙_}
+use native.Mathlib.Decide.{ℕ-discrete, decLt}
 use native.Mathlib.Numerals.{add-one, add-two}
 use native.Mathlib.Omega.{arith}
 use lib.Dec.{ltb}
@@ -30,17 +31,43 @@ or-false : (b : Bool) → b ≡ (b || false)
 or-false true = refl
 or-false false = refl
 
-pub rises-from : (x a y u b v : ℕ) → ¬ (x ≡ u) → ltb x u ≡ rises x a y u b v
+rises-from : (x a y u b v : ℕ) → ¬ (x ≡ u) → ltb x u ≡ rises x a y u b v
 unfolding rises
 rises-from x a y u b v h = rw (ne-eqb x u h) (or-false (ltb x u))
 
-pub rises-label : (x a y u b v : ℕ) → x ≡ u → ¬ (a ≡ b) → ltb a b ≡ rises x a y u b v
+rises-label : (x a y u b v : ℕ) → x ≡ u → ¬ (a ≡ b) → ltb a b ≡ rises x a y u b v
 unfolding rises
 rises-label x a y u b v e h = rw (le-ltb x u (omega arith), eq-eqb x u e, ne-eqb a b h) (or-false (ltb a b))
 
-pub rises-to : (x a y u b v : ℕ) → x ≡ u → a ≡ b → ltb y v ≡ rises x a y u b v
+rises-to : (x a y u b v : ℕ) → x ≡ u → a ≡ b → ltb y v ≡ rises x a y u b v
 unfolding rises
 rises-to x a y u b v e f = rw (le-ltb x u (omega arith), eq-eqb x u e, le-ltb a b (omega arith), eq-eqb a b f)
+
+-- Triples of numbers below 65,536 are in the order of these numbers.
+abbrev pub tripleNumber : ℕ → ℕ → ℕ → ℕ
+tripleNumber x a y = 4294967296 * x + 65536 * a + y
+
+same-order : (m n i j : ℕ) → (i < j → m < n) → (j ≤ i → n ≤ m) → ltb m n ≡ ltb i j
+same-order m n i j f g = go (decLt i j)
+  where
+    go : Dec (i < j) → ltb m n ≡ ltb i j
+    go (yes l) = lt-ltb m n (f l) ∙ sym (lt-ltb i j l)
+    go (no l) = le-ltb m n (g (omega arith)) ∙ sym (le-ltb i j (omega arith))
+
+pub number-rises : (x a y u b v : ℕ) → a < 65536 → y < 65536 → b < 65536 → v < 65536
+    → ltb (tripleNumber x a y) (tripleNumber u b v) ≡ rises x a y u b v
+number-rises x a y u b v ha hy hb hv = go (ℕ-discrete x u) (ℕ-discrete a b)
+  where
+    m : ℕ
+    m = tripleNumber x a y
+
+    n : ℕ
+    n = tripleNumber u b v
+
+    go : Dec (x ≡ u) → Dec (a ≡ b) → ltb m n ≡ rises x a y u b v
+    go (no d) e = same-order m n x u (λ l. omega arith) (λ l. omega arith) ∙ rises-from x a y u b v d
+    go (yes d) (no e) = same-order m n a b (λ l. omega arith) (λ l. omega arith) ∙ rises-label x a y u b v d e
+    go (yes d) (yes e) = same-order m n y v (λ l. omega arith) (λ l. omega arith) ∙ rises-to x a y u b v d e
 
 pub range-first : (N k u b v : ℕ) → N ≤ u → false ≡ (ltb u N && (ltb b k && ltb v N))
 range-first N k u b v h = rw (le-ltb u N h)

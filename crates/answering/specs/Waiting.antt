@@ -12,17 +12,18 @@ use Rattle.theory.specs.Counting.{pigeonhole}
 use Rattle.answering.specs.Pairs.{zero-at}
 use Rattle.answering.specs.WordsFrom.{SomeFrom, Zeroed, apart}
 
--- The first h numbers of the stack are the recordings below N with something pending, each once; there is room for N of them.
+-- The first h numbers of the stack are the recordings below N with something pending, each once; there is room for N of them, and one
+-- place more.
 pub record Waiting (w N : ℕ) (pending stack : List ℕ) (h : ℕ) : Type 0 where
   pub words : w * N ≤ length pending
-  pub slots : N ≤ length stack
+  pub slots : N < length stack
   pub below : (i : ℕ) → i < h → getD stack i 0 < N
   pub once : (i j : ℕ) → i < h → j < h → getD stack i 0 ≡ getD stack j 0 → i ≡ j
   pub some : (i : ℕ) → i < h → SomeFrom pending (w * getD stack i 0) w
   pub listed : (y : ℕ) → y < N → SomeFrom pending (w * y) w → (i : ℕ) × (i < h) × (getD stack i 0 ≡ y)
 
 -- Nothing is pending in zeros, and the stack is empty.
-pub waiting-none : (w N n m : ℕ) → w * N ≤ n → N ≤ m → Waiting w N (replicate n 0) (replicate m 0) 0
+pub waiting-none : (w N n m : ℕ) → w * N ≤ n → N < m → Waiting w N (replicate n 0) (replicate m 0) 0
 waiting-none w N n m h k = record {
   words = let e = length-replicate {A = ℕ} n 0 in omega arith;
   slots = let e = length-replicate {A = ℕ} m 0 in omega arith;
@@ -60,6 +61,20 @@ module _ {w N : ℕ} {P S : List ℕ} {h : ℕ} (v : Waiting w N P S h) where
   waiting-free y k n =
       pigeonhole (suc h) N (λ i l. onto y i (decLt i h)) (λ i l. onto-below y i (decLt i h) k)
       (λ i j l m q. onto-once y n i j (decLt i h) (decLt j h) l m q)
+
+-- What stands behind the stack does not matter.
+pub waiting-behind : {w N : ℕ} {P S : List ℕ} {h : ℕ} (y : ℕ) → Waiting w N P S h → Waiting w N P (set S h y) h
+waiting-behind {w} {N} {P} {S} {h} y v = record {
+  words = v .words;
+  slots = let e = length-set S h y in let l = v .slots in omega arith;
+  below = λ i l. subst (λ z. z < N) (sym (under i l)) (v .below i l);
+  once = λ i j l m q. v .once i j l m (sym (under i l) ∙ q ∙ under j m);
+  some = λ i l. subst (λ z. SomeFrom P (w * z) w) (sym (under i l)) (v .some i l);
+  listed = λ z l f. let (i, m, q) = v .listed z l f in (i, m, under i m ∙ q);
+}
+  where
+    under : (i : ℕ) → i < h → getD (set S h y) i 0 ≡ getD S i 0
+    under i l = getD-set-other S h i y 0 (λ e. omega arith)
 
 -- More is pending at one recording.
 

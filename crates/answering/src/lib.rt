@@ -11,10 +11,12 @@ mod pairs;
 mod place_sets;
 mod rows;
 mod set_search;
+mod sizes;
 mod state_search;
 mod state_sets;
 mod table;
 mod useful;
+mod word_search;
 
 pub use clear::clear_bytes;
 pub use clear::clear_words;

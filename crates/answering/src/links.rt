@@ -2,10 +2,8 @@
 use super::table::index;
 use super::table::wide;
 ghost use mathlib.Core.Path.{_≡_};
-ghost use Prim.Native.Nat.{_/_, _≤_};
-ghost use lib.ListN.{length};
 ghost use Rattle.answering.specs.LinkAt.{linkAt, placeAfter};
-ghost use Rattle.answering.specs.LinkBegins.{NextBegin, LinkBegins};
+ghost use Rattle.answering.specs.LinkBegins.{Unlisted, LinkBegins};
 
 // What a recording has at a place among the triples: whether a link that leaves it stands there, the place, and that link's label and end.
 pub(super) struct Link {
@@ -15,32 +13,18 @@ pub(super) struct Link {
     pub(super) end: usize,
 }
 
-// The first triple from the place on that leaves x or a later recording.
-fn next_begin(table: &[u16], place: usize, x: usize) -> usize
-    requires { ⌜ place ≤ length (now table) / 3 ⌝ }
-    ensures { λ r. ⌜ NextBegin (now (table .entry)) place x r ⌝ }
-{
-    let mut at = place;
-    while at < table.len() / 3 {
-        if x <= index(table[3 * at]) {
-            return at;
-        }
-        at += 1;
-    }
-    at
-}
-
-// The first triple of each recording that leaves it or a later one, in one pass.
+// The first triple that leaves each recording, where one does, from the last to the first; nothing is listed before.
 pub(super) fn link_begins(table: &[u16], recordings: usize, begins: &mut [usize])
-    requires { ⌜ recordings ≤ length (now begins) ⌝ }
+    requires { ⌜ Unlisted recordings (now begins) ⌝ }
     ensures { λ _. ⌜ LinkBegins (now (table .entry)) recordings (now (begins .exit)) ⌝ }
 {
-    let mut place = 0;
-    let mut x = 0;
-    while x < recordings {
-        place = next_begin(table, place, x);
-        begins[x] = place;
-        x += 1;
+    let mut at = table.len() / 3;
+    while 0 < at {
+        at -= 1;
+        let x = index(table[3 * at]);
+        if x < recordings {
+            begins[x] = at;
+        }
     }
 }
 

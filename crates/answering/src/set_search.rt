@@ -11,7 +11,9 @@ use super::pairs::zero_from;
 use super::rows::brings;
 use super::rows::unite;
 use super::rows::unite_new;
+use super::sizes::Sizes;
 use super::table::index;
+use super::word_search::follow_all_words;
 ghost use Prim.Native.Nat.{_+_, _*_, _≤_, _<_};
 ghost use lib.ListN.{length};
 ghost use Rattle.answering.specs.Links.{FirstLink};
@@ -20,14 +22,6 @@ ghost use Rattle.answering.specs.Grown.{Ready};
 ghost use Rattle.answering.specs.SetSearch.{SetFitting, SetSearched};
 ghost use Rattle.answering.specs.SetSteps.{Spreading, Spread, StatesAdded, RowFollowed, RowsFollowed};
 ghost use Rattle.answering.specs.SetSearchRun.{SetBeginning, SetStarting, SetAllFound};
-
-// How many symbols and states the automaton has, how many words each set of states has, and how many recordings there are.
-struct Sizes {
-    symbols: usize,
-    states: usize,
-    words: usize,
-    recordings: usize,
-}
 
 // The next states, over each symbol, of all states that are pending at the recording x.
 fn spread(sets: &[u64], sizes: Sizes, x: usize, pending: &[u64], images: &mut [u64])
@@ -102,8 +96,8 @@ fn follow_link(
     add_states(sizes, images, a, y, reached, pending, stack, height)
 }
 
-// All links that leave x are followed, `images` having the next states over each symbol, and `first` being the first triple that leaves x or
-// a later recording. The height of the stack is returned.
+// All links that leave x are followed, `images` having the next states over each symbol, and `first` being the first triple that leaves x.
+// The height of the stack is returned.
 fn follow_links(
     images: &[u64],
     sizes: Sizes,
@@ -171,19 +165,89 @@ fn follow_all(
     }
 }
 
+// All that is reached from the start in state 0.
+fn search_from(
+    sets: &[u64],
+    sizes: Sizes,
+    table: &[u16],
+    begins: &[usize],
+    start: usize,
+    reached: &mut [u64],
+    images: &mut [u64],
+    pending: &mut [u64],
+    stack: &mut [u16],
+)
+    requires { ⌜ SetBeginning (sizes .words) (now sets) (sizes .symbols) (sizes .states) (sizes .recordings) start
+        (now reached) (now images) (now pending) (now stack)
+        × LinkBegins (now table) (sizes .recordings) (now begins) ⌝ }
+    ensures { λ _. ⌜ SetAllFound (sizes .words) (now (sets .entry)) (sizes .symbols) (sizes .states)
+        (now (table .entry)) (sizes .recordings) start (now (reached .entry)) (now (reached .exit)) ⌝ }
+{
+    if sizes.words == 1 {
+        follow_all_words(
+            sets,
+            sizes,
+            table,
+            begins,
+            start,
+            reached,
+            images,
+            pending,
+            stack,
+        );
+    } else {
+        follow_all(
+            sets,
+            sizes,
+            table,
+            begins,
+            start,
+            reached,
+            images,
+            pending,
+            stack,
+        );
+    }
+}
+
 // The search with room for a few recordings.
 fn search_few(sets: &[u64], sizes: Sizes, table: &[u16], start: usize, reached: &mut [u64])
     requires { ⌜ SetStarting (sizes .words) (now sets) (sizes .symbols) (sizes .states) (sizes .recordings) start (now reached)
-        × (sizes .words * sizes .recordings ≤ 1024) ⌝ }
+        × (sizes .words * sizes .recordings ≤ 256) ⌝ }
     ensures { λ _. ⌜ SetAllFound (sizes .words) (now (sets .entry)) (sizes .symbols) (sizes .states)
         (now (table .entry)) (sizes .recordings) start (now (reached .entry)) (now (reached .exit)) ⌝ }
 {
     let mut images: [u64; 128] = [0; 128];
-    let mut pending: [u64; 1024] = [0; 1024];
-    let mut stack: [u16; 1024] = [0; 1024];
-    let mut begins: [usize; 1024] = [0; 1024];
+    let mut pending: [u64; 256] = [0; 256];
+    let mut stack: [u16; 257] = [0; 257];
+    let mut begins: [usize; 256] = [0; 256];
     link_begins(table, sizes.recordings, &mut begins);
-    follow_all(
+    search_from(
+        sets,
+        sizes,
+        table,
+        &begins,
+        start,
+        reached,
+        &mut images,
+        &mut pending,
+        &mut stack,
+    );
+}
+
+// The search with room for as many recordings as there may be, of one word each.
+fn search_middle(sets: &[u64], sizes: Sizes, table: &[u16], start: usize, reached: &mut [u64])
+    requires { ⌜ SetStarting (sizes .words) (now sets) (sizes .symbols) (sizes .states) (sizes .recordings) start (now reached)
+        × (sizes .words * sizes .recordings ≤ 4096) ⌝ }
+    ensures { λ _. ⌜ SetAllFound (sizes .words) (now (sets .entry)) (sizes .symbols) (sizes .states)
+        (now (table .entry)) (sizes .recordings) start (now (reached .entry)) (now (reached .exit)) ⌝ }
+{
+    let mut images: [u64; 128] = [0; 128];
+    let mut pending: [u64; 4096] = [0; 4096];
+    let mut stack: [u16; 4097] = [0; 4097];
+    let mut begins: [usize; 4096] = [0; 4096];
+    link_begins(table, sizes.recordings, &mut begins);
+    search_from(
         sets,
         sizes,
         table,
@@ -204,10 +268,10 @@ fn search_many(sets: &[u64], sizes: Sizes, table: &[u16], start: usize, reached:
 {
     let mut images: [u64; 128] = [0; 128];
     let mut pending: [u64; 16384] = [0; 16384];
-    let mut stack: [u16; 4096] = [0; 4096];
+    let mut stack: [u16; 4097] = [0; 4097];
     let mut begins: [usize; 4096] = [0; 4096];
     link_begins(table, sizes.recordings, &mut begins);
-    follow_all(
+    search_from(
         sets,
         sizes,
         table,
@@ -283,8 +347,10 @@ pub fn search_sets(
         words: words as usize,
         recordings: recordings as usize,
     };
-    if all <= 1024 {
+    if all <= 256 {
         search_few(sets, sizes, table, start as usize, reached);
+    } else if all <= 4096 {
+        search_middle(sets, sizes, table, start as usize, reached);
     } else {
         search_many(sets, sizes, table, start as usize, reached);
     }

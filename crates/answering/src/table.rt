@@ -3,7 +3,7 @@ ghost use mathlib.Core.Path.{_≡_};
 ghost use Prim.Native.Nat.{_+_, _≤_, _<_};
 ghost use lib.ListN.{length};
 ghost use Rattle.answering.specs.Table.{rises, isTable};
-ghost use Rattle.answering.specs.TableSteps.{inRangeAt, risesAt};
+ghost use Rattle.answering.specs.TableSteps.{inRangeAt, risesAt, tripleNumber};
 
 // The most links or lists of a table.
 const MOST_LINKS: usize = 16384;
@@ -36,17 +36,18 @@ fn in_range(table: &[u16], i: usize, recordings: u64, symbols: u64) -> bool
     wide(table[i + 2]) < recordings
 }
 
+// A triple as one number: these are in the order of the triples.
+fn number_of(x: u16, a: u16, y: u16) -> u64
+    ensures { λ r. ⌜ r ≡ tripleNumber x a y ⌝ }
+{
+    4294967296 * wide(x) + 65536 * wide(a) + wide(y)
+}
+
 // Whether the triple (x, a, y) comes before the triple (u, b, v).
 fn comes_before(x: u16, a: u16, y: u16, u: u16, b: u16, v: u16) -> bool
     ensures { λ r. ⌜ r ≡ rises x a y u b v ⌝ }
 {
-    if x != u {
-        return x < u;
-    }
-    if a != b {
-        return a < b;
-    }
-    y < v
+    number_of(x, a, y) < number_of(u, b, v)
 }
 
 // Whether the triple comes after the one before it.

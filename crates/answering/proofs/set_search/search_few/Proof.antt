@@ -1,4 +1,5 @@
 -- `search_few` meets its contract: the local words are zero, and there are enough for so few recordings.
+use Rattle.answering.specs.LinkBegins.{unlisted-zeros}
 use Rattle.answering.specs.SetSearchRun.{recordings-below, set-beginning}
 use native.Mathlib.Omega.{arith}
 use borrow.Author.Needs.{needs}
@@ -11,35 +12,36 @@ slice-aggregate-link-begins c = search needs
 link-begins-requires : tie.Need-link-begins-requires
 link-begins-requires c κs =
     let at-start = c .before .before .before .before in
-    let p = at-start .pre in omega (arith, recordings-below (p .0 .fits) 1024 (p .1))
+    let p = at-start .pre in
+    unlisted-zeros _ 256 (recordings-below (p .0 .fits) 256 (p .1))
 
-slice-aggregate-follow-all : tie.Need-slice-aggregate-follow-all
-slice-aggregate-follow-all c = search needs
+slice-aggregate-search-from : tie.Need-slice-aggregate-search-from
+slice-aggregate-search-from c = search needs
 
-slice-aggregate-follow-all-2 : tie.Need-slice-aggregate-follow-all-2
-slice-aggregate-follow-all-2 c = search needs
+slice-aggregate-search-from-2 : tie.Need-slice-aggregate-search-from-2
+slice-aggregate-search-from-2 c = search needs
 
-slice-aggregate-follow-all-3 : tie.Need-slice-aggregate-follow-all-3
-slice-aggregate-follow-all-3 c = search needs
+slice-aggregate-search-from-3 : tie.Need-slice-aggregate-search-from-3
+slice-aggregate-search-from-3 c = search needs
 
-slice-aggregate-follow-all-4 : tie.Need-slice-aggregate-follow-all-4
-slice-aggregate-follow-all-4 c = search needs
+slice-aggregate-search-from-4 : tie.Need-slice-aggregate-search-from-4
+slice-aggregate-search-from-4 c = search needs
 
-follow-all-requires : tie.Need-follow-all-requires
-follow-all-requires c κs =
+search-from-requires : tie.Need-search-from-requires
+search-from-requires c κs =
     let at-link-begins = c .before .before .before .before .before .before in
     let at-start = at-link-begins .before .before .before .before .before in
     let p = at-start .pre in
-    let l = recordings-below (p .0 .fits) 1024 (p .1) in
-    (set-beginning 128 1024 1024 (p .0) (omega arith) (p .1) l, at-link-begins .link-begins .ensures)
+    let l = recordings-below (p .0 .fits) 256 (p .1) in
+    (set-beginning 128 256 257 (p .0) (omega arith) (p .1) (omega arith), at-link-begins .link-begins .ensures)
 
 same-length : tie.Need-same-length
 same-length c = search needs
 
 returns : tie.Need-returns
 returns c =
-    let at-follow-all = c .before .before .before .before .before in
-    at-follow-all .follow-all .ensures
+    let at-search-from = c .before .before .before .before .before in
+    at-search-from .search-from .ensures
 
 pub search-few-spec : {M : Type 1} → statement M
 search-few-spec =
@@ -47,10 +49,10 @@ search-few-spec =
     (tie.spec
     slice-aggregate-link-begins
     link-begins-requires
-    slice-aggregate-follow-all
-    slice-aggregate-follow-all-2
-    slice-aggregate-follow-all-3
-    slice-aggregate-follow-all-4
-    follow-all-requires
+    slice-aggregate-search-from
+    slice-aggregate-search-from-2
+    slice-aggregate-search-from-3
+    slice-aggregate-search-from-4
+    search-from-requires
     same-length
     returns)

@@ -35,9 +35,19 @@ search-few-requires c κs =
     let d = at-clear-words .clear-words in
     (set-starting f (d .ensures) (d .kept .0), at-if2 .if2 .taken)
 
+search-middle-requires : tie.Need-search-middle-requires
+search-middle-requires c κs =
+    let at-if3 = c .before in
+    let at-clear-words = at-if3 .before .before .before .before in
+    let at-if1 = at-clear-words .before .before in
+    let at-fitting = at-if1 .before in
+    let f = at-fitting .fitting .ensures .fits (not-false _ (at-if1 .if1 .left)) in
+    let d = at-clear-words .clear-words in
+    (set-starting f (d .ensures) (d .kept .0), at-if3 .if3 .taken)
+
 search-many-requires : tie.Need-search-many-requires
 search-many-requires c κs =
-    let at-clear-words = c .before .before .before .before in
+    let at-clear-words = c .before .before .before .before .before in
     let at-if1 = at-clear-words .before .before in
     let at-fitting = at-if1 .before in
     let f = at-fitting .fitting .ensures .fits (not-false _ (at-if1 .if1 .left)) in
@@ -63,8 +73,22 @@ same-length-3 c = search needs
 
 returns-3 : tie.Need-returns-3
 returns-3 c =
+    let at-search-middle = c .before .before in
+    let at-clear-words = at-search-middle .before .before .before .before .before .before in
+    let at-if1 = at-clear-words .before .before in
+    let at-fitting = at-if1 .before in
+    let f = at-fitting .fitting .ensures .fits (not-false _ (at-if1 .if1 .left)) in
+    let d = at-clear-words .clear-words in
+    let r = at-search-middle .search-middle in
+    set-searched f (cleared-beyond (d .ensures) (f .room)) (r .kept .1 .1 .1 .1 .0 ∙ d .kept .0) (r .ensures)
+
+same-length-4 : tie.Need-same-length-4
+same-length-4 c = search needs
+
+returns-4 : tie.Need-returns-4
+returns-4 c =
     let at-search-many = c .before .before in
-    let at-clear-words = at-search-many .before .before .before .before .before in
+    let at-clear-words = at-search-many .before .before .before .before .before .before in
     let at-if1 = at-clear-words .before .before in
     let at-fitting = at-if1 .before in
     let f = at-fitting .fitting .ensures .fits (not-false _ (at-if1 .if1 .left)) in
@@ -82,8 +106,11 @@ search-sets-spec =
     mul-all
     clear-words-requires
     search-few-requires
+    search-middle-requires
     search-many-requires
     same-length-2
     returns-2
     same-length-3
-    returns-3)
+    returns-3
+    same-length-4
+    returns-4)

@@ -1,24 +1,24 @@
--- `comes_before` meets its contract: the order of triples goes by the first number in which they differ.
-use Rattle.answering.specs.TableSteps.{rises-from, rises-label, rises-to}
+-- `comes_before` meets its contract: triples are in the order of their numbers.
+use mathlib.Core.Path.{ap, _∙_}
+use lib.Dec.{ltb}
+use Rattle.answering.specs.TableSteps.{tripleNumber, number-rises}
+use native.Mathlib.Omega.{arith}
+use borrow.Author.Needs.{needs}
 use Rattle.answering.proofs.table.comes_before.Statement.{statement}
 use Rattle.answering.proofs.table.comes_before.Tie as tie
 
+number-of-requires : tie.Need-number-of-requires
+number-of-requires c κs = search needs
+
+number-of-requires-2 : tie.Need-number-of-requires-2
+number-of-requires-2 c κs = search needs
+
 returns : tie.Need-returns
 returns c =
-    let a = c .before .args in
-    rises-from (a .x) (a .a) (a .y) (a .u) (a .b) (a .v) (c .if1 .taken)
-
-returns-2 : tie.Need-returns-2
-returns-2 c =
-    let at-start = c .before .before in
-    let a = at-start .args in
-    rises-label (a .x) (a .a) (a .y) (a .u) (a .b) (a .v) (c .before .if1 .left) (c .if2 .taken)
-
-returns-3 : tie.Need-returns-3
-returns-3 c =
-    let at-start = c .before .before in
-    let a = at-start .args in
-    rises-to (a .x) (a .a) (a .y) (a .u) (a .b) (a .v) (c .before .if1 .left) (c .if2 .left)
+    let a = c .before .before .args in
+    ap (λ m. ltb m (c .number-of2 .result)) (c .before .number-of .ensures)
+    ∙ ap (ltb (tripleNumber (a .x) (a .a) (a .y))) (c .number-of2 .ensures)
+    ∙ number-rises (a .x) (a .a) (a .y) (a .u) (a .b) (a .v) (omega arith) (omega arith) (omega arith) (omega arith)
 
 pub comes-before-spec : {M : Type 1} → statement M
-comes-before-spec = tie.close (tie.spec returns returns-2 returns-3)
+comes-before-spec = tie.close (tie.spec number-of-requires number-of-requires-2 returns)
