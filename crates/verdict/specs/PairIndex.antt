@@ -1,5 +1,5 @@
 -- An index of the pairs in a workspace (PairTable), by which a pair is found again (finding: Buckets): 4,093 buckets.
-use Prim.Native.Nat.{ℕ, _+_, _*_, _%_, _^_}
+use Prim.Native.Nat.{ℕ, _+_, _*_, _%_, _^_, _≤_}
 use mathlib.Core.List.{List}
 use mathlib.Core.Path.{_≡_}
 use lib.ListN.{drop}
@@ -15,9 +15,18 @@ use Rattle.verdict.specs.declared.pairs.Explored.the-variants.{All}
 unfoldable pub bucketOf : Pair → ℕ
 bucketOf x = (x .cover * 2 ^ 64 + x .standing) % 4093
 
--- r is the remainder of the words from j on.
-abbrev pub Remains : List ℕ → ℕ → ℕ → Type 0
-Remains l j r = r ≡ numberOf (drop j l) % 4093
+-- With what the halves of the word j count for the bucket.
+
+abbrev pub lowWeight : ℕ → ℕ
+lowWeight j = 2 ^ (64 * (j + 1)) % 4093
+
+abbrev pub highWeight : ℕ → ℕ
+highWeight j = 2 ^ (64 * (j + 1) + 32) % 4093
+
+-- The sum, with the words from j on, has the remainder of the standing and all words.
+pub record Summed (l : List ℕ) (standing j sum : ℕ) : Type 0 where
+  pub small : sum ≤ 4092 + 2 ^ 45 * j
+  pub left : (sum + numberOf (drop j l) * 2 ^ (64 * (j + 1))) % 4093 ≡ (numberOf l * 2 ^ 64 + standing) % 4093
 
 -- The first n pairs are indexed.
 pub record Indexed (space : List ℕ) (n : ℕ) (heads nexts : List ℕ) : Type 0 where

@@ -4,9 +4,11 @@ use Prim.Native.Nat.{ℕ, zero, suc, _+_, _*_, _-_, _/_, _%_, _^_, _≤_, _<_}
 use mathlib.Core.Bool.{true, false, true≢false, false≢true}
 use mathlib.Core.List.{List, [], _∷_}
 use mathlib.Core.Path.{_≡_, refl, sym, ap, _∙_, subst, subst₂}
-use native.Mathlib.Nat.{mul-add-mod-self-left}
+use native.Mathlib.Nat.{mul-assoc, mul-comm, mul-add, add-mul, zero-mul, mul-le-mul, div-add-mod, mod-add-div', mul-add-mod-self-left}
+use native.Mathlib.Numerals.{add-one}
 use native.Mathlib.Omega.{arith}
 use lib.ListN.{length, getD, drop, replicate}
+use lib.Pow.{pow-add}
 use Rattle.places.specs.Words.{numberOf}
 use Rattle.finding.specs.Buckets.{Noted, Walk}
 use Rattle.finding.specs.BucketsLaws.{chained-none, chained-more}
@@ -14,14 +16,14 @@ use Rattle.verdict.specs.Pairs.{Pair}
 use Rattle.verdict.specs.PairTable.{pairAt, Stored, Seen}
 use Rattle.verdict.specs.PairTableLaws.{stored-pair, other-pair}
 use Rattle.verdict.specs.Workspace.{pair}
-use Rattle.verdict.specs.PairIndex.{bucketOf, Remains, Indexed, IndexedAll}
+use Rattle.verdict.specs.PairIndex.{bucketOf, lowWeight, highWeight, Summed, Indexed, IndexedAll}
 use Rattle.verdict.specs.declared.pairs.Explored.the-variants.{All, Over}
 
 pub bucket-below : (x : Pair) → bucketOf x < 4093
 unfolding bucketOf
 bucket-below x = omega arith
 
--- The bucket, word by word from the highest.
+-- The bucket, word by word from the lowest.
 
 number-from : (l : List ℕ) (j : ℕ) → numberOf (drop j l) ≡ numberOf (drop (suc j) l) * 2 ^ 64 + getD l j 0
 unfolding numberOf
@@ -37,30 +39,84 @@ number-none [] (suc j) h = refl
 number-none (w ∷ l) zero h = absurd (omega arith)
 number-none (w ∷ l) (suc j) h = number-none l j (omega arith)
 
-remainder-word : (N w : ℕ) → (N % 4093 * 2 ^ 64 + w) % 4093 ≡ (N * 2 ^ 64 + w) % 4093
-remainder-word N w =
-    let q : N * 2 ^ 64 + w ≡ 4093 * (N / 4093 * 2 ^ 64) + (N % 4093 * 2 ^ 64 + w) = omega arith in
-    sym (ap (λ x. x % 4093) q ∙ mul-add-mod-self-left 4093 (N / 4093 * 2 ^ 64) (N % 4093 * 2 ^ 64 + w))
+times-rest : (a p : ℕ) → (a * (p % 4093)) % 4093 ≡ (a * p) % 4093
+times-rest a p =
+    let swap : a * (4093 * (p / 4093)) ≡ 4093 * (a * (p / 4093)) =
+    sym (mul-assoc a 4093 (p / 4093)) ∙ ap (λ (z : ℕ). z * (p / 4093)) (mul-comm a 4093) ∙ mul-assoc 4093 a (p / 4093) in
+    let parts : a * p ≡ 4093 * (a * (p / 4093)) + a * (p % 4093) =
+    ap (λ (z : ℕ). a * z) (sym (div-add-mod p 4093)) ∙ mul-add a (4093 * (p / 4093)) (p % 4093)
+    ∙ ap (λ (z : ℕ). z + a * (p % 4093)) swap in
+    sym (ap (λ (z : ℕ). z % 4093) parts ∙ mul-add-mod-self-left 4093 (a * (p / 4093)) (a * (p % 4093)))
 
-pub remains-start : (l : List ℕ) (j : ℕ) → length l ≤ j → Remains l j 0
-remains-start l j h = ap (λ x. x % 4093) (sym (number-none l j h))
+-- What the halves of the word j count.
+module _ (word j : ℕ) where
+  abbrev weighed : ℕ
+  weighed = word % 2 ^ 32 * lowWeight j + word / 2 ^ 32 * highWeight j
 
-pub remains-turn : (l : List ℕ) (j r s : ℕ) → 0 < j → Remains l j r → s ≡ (r * 2 ^ 64 + getD l (j - 1) 0) % 4093 → Remains l (j - 1) s
-remains-turn l j r s p e q =
-    let k : j ≡ suc (j - 1) = omega arith in
-    q ∙ ap (λ x. (x * 2 ^ 64 + getD l (j - 1) 0) % 4093) e
-    ∙ remainder-word (numberOf (drop j l)) (getD l (j - 1) 0)
-    ∙ ap (λ x. (numberOf (drop x l) * 2 ^ 64 + getD l (j - 1) 0) % 4093) k
-    ∙ ap (λ x. x % 4093) (sym (number-from l (j - 1)))
+  halves : word % 2 ^ 32 * 2 ^ (64 * (j + 1)) + word / 2 ^ 32 * 2 ^ (64 * (j + 1) + 32) ≡ word * 2 ^ (64 * (j + 1))
+  halves =
+      let p = 2 ^ (64 * (j + 1)) in
+      ap (λ (z : ℕ). word % 2 ^ 32 * p + word / 2 ^ 32 * z) (pow-add 2 (64 * (j + 1)) 32 ∙ mul-comm p (2 ^ 32))
+      ∙ ap (λ (z : ℕ). word % 2 ^ 32 * p + z) (sym (mul-assoc (word / 2 ^ 32) (2 ^ 32) p))
+      ∙ sym (add-mul (word % 2 ^ 32) (word / 2 ^ 32 * 2 ^ 32) p)
+      ∙ ap (λ (z : ℕ). z * p) (mod-add-div' word (2 ^ 32))
 
-pub remains-end : (l : List ℕ) (j r standing b : ℕ) → j ≤ 0 → Remains l j r → b ≡ (r * 2 ^ 64 + standing) % 4093
-    → b ≡ bucketOf (pair standing l)
+  same-rest : weighed % 4093 ≡ (word * 2 ^ (64 * (j + 1))) % 4093
+  same-rest =
+      let low = times-rest (word % 2 ^ 32) (2 ^ (64 * (j + 1))) in
+      let high = times-rest (word / 2 ^ 32) (2 ^ (64 * (j + 1) + 32)) in
+      omega (arith, halves)
+
+-- What the halves of a word count is small.
+pub halves-small : (word j low high : ℕ) → word < 2 ^ 64 → low ≡ lowWeight j → high ≡ highWeight j
+    → (word % 2 ^ 32 * low < 2 ^ 44) × (word / 2 ^ 32 * high < 2 ^ 44)
+halves-small word j low high h e f =
+    (small (word % 2 ^ 32) low (omega arith) (omega arith), small (word / 2 ^ 32) high (omega arith) (omega arith))
+  where
+    small : (a b : ℕ) → a ≤ 2 ^ 32 → b ≤ 4092 → a * b < 2 ^ 44
+    small a b x y = omega (arith, mul-le-mul x y)
+
+pub summed-start : (l : List ℕ) (standing : ℕ) → Summed l standing 0 (standing % 4093)
+summed-start l standing =
+    record {
+      small = omega arith;
+      left = omega arith;
+    }
+
+pub summed-turn : (l : List ℕ) (standing j sum low high : ℕ) → getD l j 0 < 2 ^ 64 → low ≡ lowWeight j → high ≡ highWeight j
+    → Summed l standing j sum
+    → Summed l standing (j + 1) (sum + (getD l j 0 % 2 ^ 32 * low + getD l j 0 / 2 ^ 32 * high))
+summed-turn l standing j sum low high fits e f s =
+    record {
+      small = omega (arith, s .small, halves-small word j low high fits e f);
+      left =
+          let same : (word % 2 ^ 32 * low + word / 2 ^ 32 * high) % 4093 ≡ (word * p) % 4093 =
+          ap (λ (z : ℕ). (word % 2 ^ 32 * z + word / 2 ^ 32 * high) % 4093) e
+          ∙ ap (λ (z : ℕ). (word % 2 ^ 32 * lowWeight j + word / 2 ^ 32 * z) % 4093) f
+          ∙ same-rest word j in
+          omega (arith, s .left, next);
+    }
+  where
+    word : ℕ
+    word = getD l j 0
+
+    p : ℕ
+    p = 2 ^ (64 * (j + 1))
+
+    next : numberOf (drop j l) * p ≡ numberOf (drop (j + 1) l) * 2 ^ (64 * (j + 1 + 1)) + word * p
+    next =
+        let up : 64 + 64 * (j + 1) ≡ 64 * (j + 1 + 1) = omega arith in
+        ap (λ (z : ℕ). z * p) (number-from l j) ∙ add-mul (numberOf (drop (suc j) l) * 2 ^ 64) word p
+        ∙ ap (λ (z : ℕ). z + word * p) (mul-assoc (numberOf (drop (suc j) l)) (2 ^ 64) p
+        ∙ ap (λ (z : ℕ). numberOf (drop (suc j) l) * z) (sym (pow-add 2 64 (64 * (j + 1))) ∙ ap (λ (z : ℕ). 2 ^ z) up)
+        ∙ ap (λ (z : ℕ). numberOf (drop z l) * 2 ^ (64 * (j + 1 + 1))) (sym (add-one j)))
+
+pub summed-end : (l : List ℕ) (standing j sum : ℕ) → length l ≤ j → Summed l standing j sum → sum % 4093 ≡ bucketOf (pair standing l)
 unfolding bucketOf
-remains-end l j r standing b z e q =
-    let k : j ≡ 0 = omega arith in
-    q ∙ ap (λ x. (x * 2 ^ 64 + standing) % 4093) e
-    ∙ remainder-word (numberOf (drop j l)) standing
-    ∙ ap (λ x. (numberOf (drop x l) * 2 ^ 64 + standing) % 4093) k
+summed-end l standing j sum h s =
+    let none : numberOf (drop j l) * 2 ^ (64 * (j + 1)) ≡ 0 =
+    ap (λ (z : ℕ). z * 2 ^ (64 * (j + 1))) (number-none l j h) ∙ zero-mul (2 ^ (64 * (j + 1))) in
+    omega (arith, s .left)
 
 -- No pair is indexed.
 pub indexed-none : (space : List ℕ) → Indexed space 0 (replicate 4093 0) (replicate 4096 0)

@@ -1,5 +1,5 @@
 // An index of the pairs in a lent workspace: 4,093 buckets, each with a chain of its pairs, the newest first.
-ghost use Prim.Native.Nat.{_+_, _*_, _%_, _^_, _≤_, _<_};
+ghost use Prim.Native.Nat.{_+_, _*_, _≤_, _<_};
 ghost use mathlib.Core.Path.{_≡_};
 ghost use lib.ListN.{length};
 ghost use Rattle.finding.specs.Buckets.{Noted};
@@ -8,32 +8,61 @@ ghost use Rattle.verdict.specs.Workspace.{pair};
 ghost use Rattle.verdict.specs.PairIndex.{bucketOf, Indexed};
 use places::wide::Wide;
 
-// The remainder of a number by 4,093: `rest` is that of its words but the lowest, and `word` is the lowest. 3,888 is that of 2^64. The
-// highest words are often 0: no division is then made.
-fn remainder(rest: u64, word: u64) -> u64
-    requires { ⌜ rest < 4093 ⌝ }
-    ensures { λ r. ⌜ r ≡ (rest * 2 ^ 64 + word) % 4093 ⌝ }
-{
-    if rest == 0 {
-        if word == 0 {
-            return 0;
-        }
-    }
-    (rest * 3888 + word % 4093) % 4093
-}
+// The remainders by 4,093 of 2 ^ (64 × (j + 1)), with which the lower half of the word j counts, and of 2 ^ (64 × (j + 1) + 32), with which
+// its upper half does.
+const LOWS: [u64; 16] = [
+    3888,
+    1095,
+    640,
+    3869,
+    897,
+    300,
+    3988,
+    1060,
+    3722,
+    2381,
+    3055,
+    4047,
+    1244,
+    2839,
+    3304,
+    2118,
+];
 
-// The bucket of a pair.
+const HIGHS: [u64; 16] = [
+    2468,
+    1592,
+    1080,
+    3715,
+    3816,
+    3576,
+    3660,
+    2812,
+    653,
+    1204,
+    2853,
+    434,
+    1076,
+    442,
+    3529,
+    1016,
+];
+
+// The bucket of a pair: the halves of the words are summed, each with what it counts, and divided once.
 pub fn bucket(standing: u64, cover: Wide) -> usize
     ensures { λ r. ⌜ r ≡ bucketOf (pair standing (cover .words)) ⌝ }
 {
     let words = cover.words;
-    let mut rest: u64 = 0;
-    let mut j = 16;
-    while 0 < j {
-        j -= 1;
-        rest = remainder(rest, words[j]);
+    let lows = LOWS;
+    let highs = HIGHS;
+    let mut sum: u64 = standing % 4093;
+    let mut j = 0;
+    while j < 16 {
+        let word = words[j];
+        sum += (word % 4294967296) * lows[j] + (word / 4294967296) * highs[j];
+        j += 1;
     }
-    remainder(rest, standing) as usize
+    (sum % 4093) as usize
 }
 
 // Puts the pair number m in front of the chain of the bucket `at`.
