@@ -1,6 +1,6 @@
 -- When the longest run of name bytes at the front of a text is a name: its bytes are those of a name already, so that its length and its first
 -- byte decide.
-use Prim.Native.Nat.{ℕ, zero, suc, _-_, _<_, _≤_}
+use Prim.Native.Nat.{ℕ, suc, _<_}
 use mathlib.Core.Bool.{Bool, true, false, _&&_, and-true, and-false, false≢true}
 use mathlib.Core.List.{[], _∷_, _++_, append-nil}
 use mathlib.Core.Path.{_≡_, refl, sym, ap, _∙_}
@@ -11,7 +11,7 @@ use lib.ListN.{length, getD}
 use Rattle.syntax.specs.Byte.{Bytes, kind, letter, hyphen, nameByte}
 use Rattle.syntax.specs.Name.{nameBytes, isName}
 use Rattle.syntax.specs.Parser.{run, pastRun}
-use Rattle.syntax.proofs.Run.{run-past, run-lengths, run-whole}
+use Rattle.syntax.proofs.Run.{run-past, run-whole}
 
 run-bytes : (s : Bytes) → nameBytes (run s) ≡ true
 unfolding nameBytes run
