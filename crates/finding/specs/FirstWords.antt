@@ -26,33 +26,33 @@ firstWord (some w) = record { any = true; length = length w; word = w ++ replica
 
 -- For the states l with these flags and these trails, r is the first accepted word.
 pub record FirstTold (flags : List ℕ) (count : ℕ) (parents symbols : List ℕ) (r : FirstWord) : Type 0 where
-  pub told : (accepting lists : ℕ) (l : List (Entry ℕ)) → count ≡ length l → count ≤ 256
-      → take count flags ≡ map (λ X. flag (stateAccepts accepting X)) (values l) → Trailed lists parents symbols (trails l)
+  pub told : (accepting : ℕ) (l : List (Entry ℕ)) → count ≡ length l → count ≤ 256
+      → take count flags ≡ map (λ X. flag (stateAccepts accepting X)) (values l) → Trailed parents symbols (trails l)
       → r ≡ firstWord (firstAccepted accepting l)
 
 -- The length of a state's trail.
 pub record TrailLength (parents : List ℕ) (state r : ℕ) : Type 0 where
   pub within : r ≤ state
-  pub exact : (k : ℕ) (symbols : List ℕ) (found : List (List ℕ)) → Trailed k parents symbols found → state < length found
+  pub exact : (symbols : List ℕ) (found : List (List ℕ)) → Trailed parents symbols found → state < length found
       → r ≡ length (getD found state [])
 
 -- On the way back, `steps` steps from the state.
 pub record Walking (parents : List ℕ) (state at steps : ℕ) : Type 0 where
   pub within : steps + at ≤ state
-  pub exact : (k : ℕ) (symbols : List ℕ) (found : List (List ℕ)) → Trailed k parents symbols found → state < length found
+  pub exact : (symbols : List ℕ) (found : List (List ℕ)) → Trailed parents symbols found → state < length found
       → (at < length found) × (steps + length (getD found at []) ≡ length (getD found state []))
 
 module _ (parents : List ℕ) (state : ℕ) where
   pub walking-start : Walking parents state state 0
-  walking-start = record { within = omega arith; exact = λ k symbols found t h. (h, omega arith) }
+  walking-start = record { within = omega arith; exact = λ symbols found t h. (h, omega arith) }
 
   pub walking-more : (at steps parent : ℕ) → Walking parents state at steps → 0 < at → parent ≡ getD parents at 0 → parent < at
       → Walking parents state parent (steps + 1)
   walking-more at steps parent w h e l =
       record {
         within = omega (arith, w .within);
-        exact = λ k symbols found t m.
-            let x = w .exact k symbols found t m in
+        exact = λ symbols found t m.
+            let x = w .exact symbols found t m in
             let y : length (getD found at []) ≡ suc (length (getD found parent [])) =
             ap length (t .trail at h (x .0)) ∙ ap (λ p. suc (length (getD found p []))) (sym e) in
             (omega arith, omega arith);
@@ -64,15 +64,15 @@ module _ (parents : List ℕ) (state : ℕ) where
   walking-stuck at steps parent w h e l =
       record {
         within = omega (arith, w .within);
-        exact = λ k symbols found t m. absurd (omega (arith, t .parent at h (w .exact k symbols found t m .0)));
+        exact = λ symbols found t m. absurd (omega (arith, t .parent at h (w .exact symbols found t m .0)));
       }
 
   pub walking-end : (at steps : ℕ) → Walking parents state at steps → at ≤ 0 → TrailLength parents state steps
   walking-end at steps w h =
       record {
         within = omega (arith, w .within);
-        exact = λ k symbols found t m.
-            let x = w .exact k symbols found t m in
+        exact = λ symbols found t m.
+            let x = w .exact symbols found t m in
             let z : at ≡ 0 = omega arith in
             let y : length (getD found at []) ≡ 0 = ap (λ a. length (getD found a [])) z ∙ ap length (t .first) in
             omega arith;
@@ -80,7 +80,7 @@ module _ (parents : List ℕ) (state : ℕ) where
 
 -- The word of a state's trail, stored from 0 to `size`.
 pub record Spelled (parents symbols : List ℕ) (state size : ℕ) (before word : List ℕ) : Type 0 where
-  pub told : (k : ℕ) (found : List (List ℕ)) → Trailed k parents symbols found → state < length found
+  pub told : (found : List (List ℕ)) → Trailed parents symbols found → state < length found
       → size ≡ length (getD found state []) → word ≡ reverse (getD found state []) ++ drop size before
 
 -- At `at`, what is stored from `end` on completes the word of the state.
@@ -93,7 +93,7 @@ pub record Spelling (parents symbols : List ℕ) (state size : ℕ) (before : Li
   pub below : end ≤ size
   pub sized : length word ≡ length before
   pub behind : drop size word ≡ drop size before
-  pub told : (k : ℕ) (found : List (List ℕ)) → Trailed k parents symbols found → state < length found
+  pub told : (found : List (List ℕ)) → Trailed parents symbols found → state < length found
       → size ≡ length (getD found state []) → Completes found state size word at end
 
 module _ (parents symbols : List ℕ) (state size : ℕ) (before : List ℕ) where
@@ -103,7 +103,7 @@ module _ (parents symbols : List ℕ) (state size : ℕ) (before : List ℕ) whe
         below = omega arith;
         sized = refl;
         behind = refl;
-        told = λ k found t l e. (
+        told = λ found t l e. (
           l,
           e,
           ap (λ r. reverse (getD found state []) ++ r) (slice-empty size before) ∙ append-nil (reverse (getD found state [])),
@@ -125,12 +125,12 @@ module _ (parents symbols : List ℕ) (state size : ℕ) (before : List ℕ) whe
         below = omega (arith, s .below);
         sized = length-set word (end - 1) x ∙ s .sized;
         behind = drop-set-lt size word (end - 1) x (omega (arith, s .below)) ∙ s .behind;
-        told = λ k found t l z. step k found t (s .told k found t l z);
+        told = λ found t l z. step found t (s .told found t l z);
       }
     where
-      step : (k : ℕ) (found : List (List ℕ)) → Trailed k parents symbols found
+      step : (found : List (List ℕ)) → Trailed parents symbols found
           → Completes found state size word at end → Completes found state size (set word (end - 1) x) parent (end - 1)
-      step k found t y =
+      step found t y =
           let later : 0 < at = after-first (decLt 0 at) in
           let trail : getD found at [] ≡ getD symbols at 0 ∷ getD found parent [] =
           t .trail at later (y .0) ∙ ap (λ p. getD symbols at 0 ∷ getD found p []) (sym e) in
@@ -152,7 +152,7 @@ module _ (parents symbols : List ℕ) (state size : ℕ) (before : List ℕ) whe
   pub spelling-end : (at end : ℕ) (word : List ℕ) → Spelling parents symbols state size before at end word → size ≤ length before → end ≤ 0
       → Spelled parents symbols state size before word
   spelling-end at end word s room h =
-      record { told = λ k found t l z. whole found (s .told k found t l z) }
+      record { told = λ found t l z. whole found (s .told found t l z) }
     where
       empty : (l : List ℕ) → length l ≡ 0 → l ≡ []
       empty [] e = refl
@@ -231,7 +231,7 @@ module _ (flags : List ℕ) (count : ℕ) (parents symbols : List ℕ) where
   unfolding placeOf marks
   first-none state r e h w =
       record {
-        told = λ accepting lists l n c f t. w ∙ ap firstWord (sym (none-from accepting 0 l (omega (arith, ap (placeFrom 0 1) f))));
+        told = λ accepting l n c f t. w ∙ ap firstWord (sym (none-from accepting 0 l (omega (arith, ap (placeFrom 0 1) f))));
       }
 
   pub first-word : (state size : ℕ) (word : List ℕ) → state ≡ placeOf 1 (take count flags) → state < count → TrailLength parents state size
@@ -239,32 +239,32 @@ module _ (flags : List ℕ) (count : ℕ) (parents symbols : List ℕ) where
       → FirstTold flags count parents symbols (record { any = true; length = size; word = word })
   unfolding placeOf firstWord marks
   first-word state size word e h m s =
-      record { told = λ accepting lists l n c f t. same accepting lists l n f t }
+      record { told = λ accepting l n c f t. same accepting l n f t }
     where
-      same : (accepting lists : ℕ) (l : List (Entry ℕ)) → count ≡ length l
-          → take count flags ≡ map (λ X. flag (stateAccepts accepting X)) (values l) → Trailed lists parents symbols (trails l)
+      same : (accepting : ℕ) (l : List (Entry ℕ)) → count ≡ length l
+          → take count flags ≡ map (λ X. flag (stateAccepts accepting X)) (values l) → Trailed parents symbols (trails l)
           → _≡_ {A = FirstWord} (record { any = true; length = size; word = word }) (firstWord (firstAccepted accepting l))
-      same accepting lists l n f t =
+      same accepting l n f t =
           let p : placeFrom 0 1 (marks accepting (values l)) ≡ state = sym (e ∙ ap (placeFrom 0 1) f) in
           let z : placeFrom 0 1 (marks accepting (values l)) - 0 ≡ state = omega arith in
           let inside : state < length (trails l) = omega (arith, length-trails l) in
           let first : firstAccepted accepting l ≡ some (reverse (getD (trails l) state [])) =
           found-from accepting 0 l (omega arith) ∙ ap (λ q. some (reverse (getD (trails l) q []))) z in
-          let exact : size ≡ length (getD (trails l) state []) = m .exact lists symbols (trails l) t inside in
+          let exact : size ≡ length (getD (trails l) state []) = m .exact symbols (trails l) t inside in
           let r : length (reverse (getD (trails l) state [])) ≡ size = length-reverse (getD (trails l) state []) ∙ sym exact in
           ap₂ (λ n w. record { any = true; length = n; word = w }) (sym r)
-          (s .told lists (trails l) t inside exact ∙ ap (λ b. reverse (getD (trails l) state []) ++ b) (drop-replicate size 256 0
+          (s .told (trails l) t inside exact ∙ ap (λ b. reverse (getD (trails l) state []) ++ b) (drop-replicate size 256 0
           ∙ ap (λ q. replicate (256 - q) 0) (sym r)))
           ∙ ap firstWord (sym first)
 
   -- There are no such states.
   pub first-many : (r : FirstWord) → 256 < count → FirstTold flags count parents symbols r
-  first-many r h = record { told = λ accepting lists l n c f t. absurd (omega arith) }
+  first-many r h = record { told = λ accepting l n c f t. absurd (omega arith) }
 
   pub first-short : (r : FirstWord) → length flags < count → FirstTold flags count parents symbols r
   first-short r h =
       record {
-        told = λ accepting lists l n c f t.
+        told = λ accepting l n c f t.
             absurd
             (omega (arith, ap length f, length-take count flags, length-map (values l) (λ X. flag (stateAccepts accepting X)), length-values l));
       }

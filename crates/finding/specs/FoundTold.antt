@@ -31,8 +31,7 @@ pub record Reached (explored : List ℕ) (n : ℕ) (parents symbols flags : List
   pub size : n ≡ length l
   pub most : n ≤ 256
   pub numbers : take n explored ≡ values l
-  pub lists : ℕ
-  pub trailed : Trailed lists parents symbols (trails l)
+  pub trailed : Trailed parents symbols (trails l)
   pub long : 256 ≤ length lent
   pub clear : flags ≡ cleared 256 lent
 
@@ -56,7 +55,7 @@ module _ (found : List ℕ) (count accepting : ℕ) (explored : List ℕ) (n : �
 
   word-told : (l : List (Entry ℕ)) (lent : List ℕ) → Reached explored n parents symbols flags l lent → word ≡ firstWord (firstAccepted good l)
   word-told l lent h =
-      first .told good (h .lists) l (h .size) (h .most)
+      first .told good l (h .size) (h .most)
       (ap (λ i. take i flags′) (h .size) ∙ flags-front good l lent flags′ (marks-left l lent h)) (h .trailed)
 
   pub found-told : FoundTold found count accepting explored n parents symbols flags (record { finding = Told count n; first = word }) flags′

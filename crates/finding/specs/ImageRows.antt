@@ -1,14 +1,13 @@
 -- The images of lists in lent memory, at 64 × list + standing: for each list the row of the images of the standings.
-use Prim.Native.Nat.{ℕ, zero, suc, _+_, _*_, _≤_, _<_}
+use Prim.Native.Nat.{ℕ, zero, suc, _+_, _*_, _<_}
 use mathlib.Core.List.{List, [], _∷_}
 use mathlib.Core.Path.{_≡_, refl, ap, sym, _∙_}
 use native.Mathlib.Nat.{add-zero}
 use native.Mathlib.Omega.{arith}
-use lib.ListN.{length, getD, take, drop}
-use lib.Seq.{getD-take}
-use Rattle.theory.specs.Places.{unionOver}
+use lib.ListN.{length, getD, take, drop, length-take}
+use Rattle.theory.specs.Automaton.{nexts}
 use Rattle.finding.specs.States.{stateStep}
-use Rattle.finding.specs.UnionSteps.{unionOver-agree}
+use Rattle.finding.specs.UnionSteps.{nexts-over}
 
 -- The rows of n lists from v on, for m standings.
 unfoldable pub imageRowsFrom : List ℕ → ℕ → ℕ → ℕ → List (List ℕ)
@@ -41,14 +40,11 @@ image-row images m n v h =
     let e : 0 + v ≡ v = omega arith in
     row-from images m n 0 v h ∙ ap (λ k. take m (drop (64 * k) images)) e
 
--- The step of a state reads a row of 64 images.
-pub state-row : (images : List ℕ) (m n v X : ℕ) → v < n → m ≤ 64
-    → unionOver (λ i. getD (take 64 (drop (64 * v) images)) i 0) m X ≡ stateStep (imageRows images m n) m X v
+-- The step of a state reads the row of its list.
+pub state-row : (images : List ℕ) (m n v X : ℕ) → v < n → nexts X (take m (drop (64 * v) images)) ≡ stateStep (imageRows images m n) m X v
 unfolding stateStep
-state-row images m n v X h l =
-    unionOver-agree (λ i. getD (take 64 (drop (64 * v) images)) i 0) (λ i. getD (getD (imageRows images m n) v []) i 0) m X same
+state-row images m n v X h =
+    ap (nexts X) (sym (image-row images m n v h)) ∙ nexts-over X row m (omega (arith, ap length (image-row images m n v h), length-take m (drop (64 * v) images)))
   where
-    same : (i : ℕ) → i < m → getD (take 64 (drop (64 * v) images)) i 0 ≡ getD (getD (imageRows images m n) v []) i 0
-    same i k =
-        getD-take 64 (drop (64 * v) images) i 0 (omega arith)
-        ∙ (sym (getD-take m (drop (64 * v) images) i 0 k) ∙ ap (λ r. getD r i 0) (sym (image-row images m n v h)))
+    row : List ℕ
+    row = getD (imageRows images m n) v []

@@ -1,10 +1,11 @@
 -- The laws of the index of numbers (NumberIndex): it grows by a number that is not among those indexed, and the walk along a chain gives
 -- the place of a number.
-use Prim.Native.Nat.{ℕ, _+_, _-_, _≤_, _<_}
+use Prim.Native.Nat.{ℕ, zero, suc, _+_, _-_, _≤_, _<_}
 use mathlib.Core.List.{List}
 use mathlib.Core.Logic.{_≢_}
 use mathlib.Core.Path.{_≡_, sym, ap, _∙_, subst}
 use native.Mathlib.Decide.{ℕ-discrete}
+use native.Mathlib.Numerals.{add-one}
 use native.Mathlib.Omega.{arith}
 use lib.ListN.{length, getD, set, take, replicate}
 use lib.Seq.{getD-set-same, getD-set-other, length-take-le, getD-take}
@@ -12,26 +13,36 @@ use Rattle.finding.specs.declared.standings.Explored.the-variants.{All, 
 use Rattle.finding.specs.Standings.{placeOf}
 use Rattle.finding.specs.Numbers.{NoDuplicates, placeOf-finds, placeOf-only}
 use Rattle.finding.specs.PlaceOfLaws.{place-absent}
-use Rattle.finding.specs.Buckets.{Noted, Walk}
+use Rattle.finding.specs.Buckets.{Chained, Noted, Walk}
 use Rattle.finding.specs.BucketsLaws.{chained-none, chained-more}
-use Rattle.finding.specs.NumberIndex.{bucketOf, numberAt, Indexed, IndexedAll}
+use Rattle.finding.specs.NumberIndex.{bucketOf, numberAfter, Indexed, IndexedAll}
 
-pub indexed-none : (found : List ℕ) → Indexed found 0 (replicate 1019 0) (replicate 256 0)
-indexed-none found =
-    record { chained = chained-none bucketOf 1019 256 (numberAt found); distinct = λ i j h. absurd (omega arith) }
+-- The start alone.
+pub indexed-first : (found : List ℕ) → Indexed found 1 (replicate 509 0) (replicate 255 0)
+indexed-first found =
+    record { some = omega arith; chained = chained-none bucketOf 509 255 (numberAfter found); distinct = λ i j h k e. omega arith }
 
 -- The number x that is not among the first m becomes the number m, and is put in front of its chain.
 pub indexed-more : (found : List ℕ) (m x b : ℕ) (heads nexts heads′ nexts′ : List ℕ) → b ≡ bucketOf x → m < 256 → m < length found
-    → m ≤ placeOf x (take m found) → Indexed found m heads nexts → Noted b m heads nexts heads′ nexts′
+    → m ≤ placeOf x (take m found) → Indexed found m heads nexts → Noted b (m - 1) heads nexts heads′ nexts′
     → Indexed (set found m x) (m + 1) heads′ nexts′
 indexed-more found m x b heads nexts heads′ nexts′ at few room fresh old noted =
     record {
+      some = omega arith;
       chained =
-          chained-more bucketOf (numberAt found) (numberAt (set found m x)) m x others new 1019 256 b heads nexts heads′ nexts′
-          at (omega arith) few (old .chained) noted;
+          subst (λ n. Chained bucketOf 509 255 (numberAfter (set found m x)) n heads′ nexts′) size
+          (chained-more bucketOf (numberAfter found) (numberAfter (set found m x)) (m - 1) x
+          (λ i h. others (i + 1) (omega arith)) (ap (λ n. getD (set found m x) n 0) last ∙ new) 509 255 b heads nexts heads′ nexts′
+          at (omega arith) (omega (arith, old .some)) (old .chained) noted);
       distinct = λ i j h k e. distinct i j h k e (ℕ-discrete i m) (ℕ-discrete j m);
     }
   where
+    last : m - 1 + 1 ≡ m
+    last = omega (arith, old .some)
+
+    size : m - 1 + 1 ≡ m + 1 - 1
+    size = omega (arith, old .some)
+
     others : (i : ℕ) → i < m → getD (set found m x) i 0 ≡ getD found i 0
     others i h = getD-set-other found m i x 0 (λ e. omega arith)
 
@@ -47,11 +58,16 @@ indexed-more found m x b heads nexts heads′ nexts′ at few room fresh old not
     distinct : (i j : ℕ) → i < m + 1 → j < m + 1 → getD (set found m x) i 0 ≡ getD (set found m x) j 0 → Dec (i ≡ m) → Dec (j ≡ m) → i ≡ j
     distinct i j h k e (yes p) (yes q) = p ∙ sym q
     distinct i j h k e (yes p) (no q) =
-        absurd (absent j (omega arith) (sym (others j (omega arith)) ∙ sym e ∙ ap (numberAt (set found m x)) p ∙ new))
+        absurd (absent j (omega arith) (sym (others j (omega arith)) ∙ sym e ∙ ap (λ n. getD (set found m x) n 0) p ∙ new))
     distinct i j h k e (no p) (yes q) =
-        absurd (absent i (omega arith) (sym (others i (omega arith)) ∙ e ∙ ap (numberAt (set found m x)) q ∙ new))
+        absurd (absent i (omega arith) (sym (others i (omega arith)) ∙ e ∙ ap (λ n. getD (set found m x) n 0) q ∙ new))
     distinct i j h k e (no p) (no q) =
         old .distinct i j (omega arith) (omega arith) (sym (others i (omega arith)) ∙ e ∙ others j (omega arith))
+
+-- What is indexed may be named otherwise.
+pub indexed-as : {found found′ heads heads′ nexts nexts′ : List ℕ} {n n′ : ℕ} → found′ ≡ found → heads′ ≡ heads → nexts′ ≡ nexts → n′ ≡ n
+    → Indexed found n heads nexts → Indexed found′ n′ heads′ nexts′
+indexed-as e f g h old = rw (e, f, g, h) old
 
 pub indexed-all : {found heads nexts : List ℕ} {n : ℕ} → Indexed found n heads nexts → IndexedAll found heads nexts (All n)
 indexed-all {found} {heads} {nexts} {n} old m e = let z : n ≡ m = cc in subst (λ k. Indexed found k heads nexts) z old
@@ -59,9 +75,9 @@ indexed-all {found} {heads} {nexts} {n} old m e = let z : n ≡ m = cc in subst 
 pub indexed-over : {found heads nexts : List ℕ} → IndexedAll found heads nexts Over
 indexed-over m e = let z : _≡_ {A = ℕ} 0 1 = cc in absurd (omega arith)
 
--- What the walk along the chain of x's bucket ends with.
+-- What the walk along the chain of x's bucket, and then the start, end with.
 module _ (found : List ℕ) (n x : ℕ) (heads nexts : List ℕ) (fits : n ≤ length found) (indexed : Indexed found n heads nexts) (c : ℕ)
-    (walk : Walk bucketOf (numberAt found) n x c) where
+    (walk : Walk bucketOf (numberAfter found) (n - 1) x c) where
   size : length (take n found) ≡ n
   size = length-take-le n found fits
 
@@ -74,14 +90,18 @@ module _ (found : List ℕ) (n x : ℕ) (heads nexts : List ℕ) (fits : n ≤ l
       let q : j < n = omega (arith, size) in
       indexed .distinct i j p q (sym (at i p) ∙ e ∙ at j q)
 
-  pub walk-found : 0 < c → getD found (c - 1) 0 ≡ x → c - 1 ≡ placeOf x (take n found)
-  walk-found p e =
-      let h : c - 1 < n = omega (arith, walk .within) in
-      sym (placeOf-only x (take n found) (c - 1) distinct (omega (arith, size)) (at (c - 1) h ∙ e))
+  pub walk-found : getD found c 0 ≡ x → c ≡ placeOf x (take n found)
+  walk-found e =
+      let h : c < n = omega (arith, walk .within, indexed .some) in
+      sym (placeOf-only x (take n found) c distinct (omega (arith, size)) (at c h ∙ e))
 
-  pub walk-end : c ≤ 0 → n ≡ placeOf x (take n found)
-  walk-end h =
-      sym (place-absent x (take n found) (λ j k e.
-      let l : j < n = omega (arith, size) in
-      walk .passed j (omega arith) l (sym (at j l) ∙ e))
-      ∙ size)
+  pub walk-end : c ≤ 0 → getD found 0 0 ≢ x → n ≡ placeOf x (take n found)
+  walk-end h d = sym (place-absent x (take n found) (λ j k e. absent j (omega (arith, size)) (sym (at j (omega (arith, size))) ∙ e)) ∙ size)
+    where
+      absent : (j : ℕ) → j < n → getD found j 0 ≡ x → ⊥
+      absent zero l e = d e
+      absent (suc j) l e = walk .passed j (omega arith) (omega arith) (ap (λ i. getD found i 0) (add-one j) ∙ e)
+
+-- The walk goes on where the number differs.
+pub number-before : (found : List ℕ) (x c : ℕ) → 0 < c → getD found c 0 ≢ x → numberAfter found (c - 1) ≢ x
+number-before found x c h d e = let z : c ≡ c - 1 + 1 = omega arith in d (ap (λ i. getD found i 0) z ∙ e)

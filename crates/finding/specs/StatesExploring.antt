@@ -6,7 +6,8 @@ use native.Mathlib.Numerals.{add-one}
 use native.Mathlib.Omega.{arith}
 use lib.ListN.{length, getD, take, drop, set, length-set}
 use lib.Seq.{length-take-le, drop-set-lt}
-use Rattle.theory.specs.Places.{one, unionOver}
+use Rattle.theory.specs.Places.{one}
+use Rattle.theory.specs.Automaton.{nexts}
 use Rattle.theory.specs.Exploration.{System, Entry, Exploration, over, explore}
 use Rattle.finding.specs.declared.standings.Explored.{Explored}
 use Rattle.finding.specs.declared.standings.Explored.the-variants.{All, Over}
@@ -85,10 +86,10 @@ pub record Swept (images : List ℕ) (count lists limit s n : ℕ) (old : Memory
 -- The three ways of a step: x is the state that the list leads to, p its place.
 module _ (images : List ℕ) (count limit s v n x p : ℕ) (old : Memory) (room : Room limit old)
     (narrow : v < 16) (inside : s < n) (within : n ≤ limit)
-    (leads : x ≡ unionOver (λ i. getD (take 64 (drop (64 * v) images)) i 0) count (getD (old .found) s 0))
+    (leads : x ≡ nexts (getD (old .found) s 0) (take count (drop (64 * v) images)))
     (place : p ≡ placeOf x (take n (old .found))) where
-  next-state : (lists : ℕ) → v < lists → count ≤ 64 → x ≡ stateStep (imageRows images count lists) count (getD (old .found) s 0) v
-  next-state lists h l = leads ∙ state-row images count lists v (getD (old .found) s 0) h l
+  next-state : (lists : ℕ) → v < lists → x ≡ stateStep (imageRows images count lists) count (getD (old .found) s 0) v
+  next-state lists h = leads ∙ state-row images count lists v (getD (old .found) s 0) h
 
   behind : (y : ℕ) → drop 4096 (set (old .table) (16 * s + v) y) ≡ drop 4096 (old .table)
   behind y = drop-set-lt 4096 (old .table) (16 * s + v) y (omega (arith, room .most))
@@ -105,7 +106,7 @@ module _ (images : List ℕ) (count limit s v n x p : ℕ) (old : Memory) (room 
         told = λ lists before h k c held.
             rw place
             (explores-known (stateStep (imageRows images count lists) count) (one 0) lists limit 16 s v n x (old .found) (old .parents)
-            (old .symbols) before (old .table) held inside h fits (next-state lists h c) k (omega (arith, room .rows, room .most))
+            (old .symbols) before (old .table) held inside h fits (next-state lists h) k (omega (arith, room .rows, room .most))
             (omega (arith, place)));
       }
 
@@ -116,7 +117,7 @@ module _ (images : List ℕ) (count limit s v n x p : ℕ) (old : Memory) (room 
         behind = refl;
         told = λ lists before k w c held.
             explores-over (stateStep (imageRows images count lists) count) (one 0) lists limit 16 s v n x (old .found) (old .parents)
-            (old .symbols) before (old .table) held inside k fits (next-state lists k c) h
+            (old .symbols) before (old .table) held inside k fits (next-state lists k) h
             (omega (arith, place, place-within x (take n (old .found)), length-take-le n (old .found) fits));
       }
 
@@ -130,7 +131,7 @@ module _ (images : List ℕ) (count limit s v n x p : ℕ) (old : Memory) (room 
         told = λ lists before k w c held.
             rw add-one
             (explores-new (stateStep (imageRows images count lists) count) (one 0) lists limit 16 s v n x (old .found) (old .parents)
-            (old .symbols) before (old .table) held inside k fits (next-state lists k c) w (omega (arith, room .rows, room .most)) h
+            (old .symbols) before (old .table) held inside k fits (next-state lists k) w (omega (arith, room .rows, room .most)) h
             (omega (arith, room .states)) (omega (arith, room .origins)) (omega (arith, room .steps))
             (omega (arith, place, place-within x (take n (old .found)), length-take-le n (old .found) fits)));
       }

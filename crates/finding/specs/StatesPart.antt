@@ -132,7 +132,6 @@ module _ (T : JobTables) (lists limit : ℕ) (found table flags : List ℕ) (ima
             size = k;
             most = omega (arith, t .within l p, room .states);
             numbers = ap (λ i. take i explored) k ∙ t .stored l p .numbers;
-            lists = lists;
             trailed = t .stored l p .trailed;
             long = room .flags;
             clear = marks-cleared (room .flags);

@@ -27,7 +27,7 @@ pub record StatesStored (images : List (List ℕ)) (standings lists : ℕ) (befo
     (found parents symbols table : List ℕ) : Type 0 where
   pub count : r ≡ All (length l)
   pub numbers : take (length l) found ≡ values l
-  pub trailed : Trailed lists parents symbols (trails l)
+  pub trailed : Trailed parents symbols (trails l)
   pub moved : (s v : ℕ) → s < length l → v < lists
       → getD table (16 * s + v) 0 ≡ placeOf (stateStep images standings (getD (values l) s 0) v) (values l)
   -- a list leads from a state to a state

@@ -14,11 +14,10 @@ unfoldable pub trails : {A : Type 0} → List (Entry A) → List (List ℕ)
 trails [] = []
 trails (e ∷ l) = e .trail ∷ trails l
 
--- `parents` and `symbols` hold the trails, over the symbols below k.
-pub record Trailed (k : ℕ) (parents symbols : List ℕ) (found : List (List ℕ)) : Type 0 where
+-- `parents` and `symbols` hold the trails.
+pub record Trailed (parents symbols : List ℕ) (found : List (List ℕ)) : Type 0 where
   pub first : getD found 0 [] ≡ []
   pub parent : (j : ℕ) → 0 < j → j < length found → getD parents j 0 < j
-  pub symbol : (j : ℕ) → 0 < j → j < length found → getD symbols j 0 < k
   pub trail : (j : ℕ) → 0 < j → j < length found → getD found j [] ≡ getD symbols j 0 ∷ getD found (getD parents j 0) []
 
 pub length-trails : {A : Type 0} (l : List (Entry A)) → length (trails l) ≡ length l
@@ -38,24 +37,22 @@ trail-at (x ∷ l) zero e h = refl
 trail-at (x ∷ l) (suc i) e h = trail-at l i e (omega arith)
 
 -- The start alone.
-pub trailed-start : (k : ℕ) (parents symbols : List ℕ) → Trailed k parents symbols ([] ∷ [])
-trailed-start k parents symbols =
+pub trailed-start : (parents symbols : List ℕ) → Trailed parents symbols ([] ∷ [])
+trailed-start parents symbols =
     record {
       first = refl;
       parent = λ j h l. absurd (omega arith);
-      symbol = λ j h l. absurd (omega arith);
       trail = λ j h l. absurd (omega arith);
     }
 
 -- One more, over the symbol a from entry i.
-pub trailed-more : {k : ℕ} {parents symbols : List ℕ} {found : List (List ℕ)} (i a : ℕ) → Trailed k parents symbols found → i < length found
-    → a < k → length found < length parents → length found < length symbols
-    → Trailed k (set parents (length found) i) (set symbols (length found) a) (found ++ ((a ∷ getD found i []) ∷ []))
-trailed-more {k} {parents} {symbols} {found} i a t h l room room′ =
+pub trailed-more : {parents symbols : List ℕ} {found : List (List ℕ)} (i a : ℕ) → Trailed parents symbols found → i < length found
+    → length found < length parents → length found < length symbols
+    → Trailed (set parents (length found) i) (set symbols (length found) a) (found ++ ((a ∷ getD found i []) ∷ []))
+trailed-more {parents} {symbols} {found} i a t h room room′ =
     record {
       first = kept 0 (omega arith) ∙ t .first;
       parent = λ j m n. parent j m (bound j n) (ℕ-discrete j (length found));
-      symbol = λ j m n. symbol j m (bound j n) (ℕ-discrete j (length found));
       trail = λ j m n. trail j m (bound j n) (ℕ-discrete j (length found));
     }
   where
@@ -74,10 +71,6 @@ trailed-more {k} {parents} {symbols} {found} i a t h l room room′ =
     parent : (j : ℕ) → 0 < j → j < suc (length found) → Dec (j ≡ length found) → getD (set parents (length found) i) j 0 < j
     parent j m n (yes e) = omega (arith, here parents i room j e)
     parent j m n (no d) = omega (arith, getD-set-other parents (length found) j i 0 d, t .parent j m (omega arith))
-
-    symbol : (j : ℕ) → 0 < j → j < suc (length found) → Dec (j ≡ length found) → getD (set symbols (length found) a) j 0 < k
-    symbol j m n (yes e) = omega (arith, here symbols a room′ j e)
-    symbol j m n (no d) = omega (arith, getD-set-other symbols (length found) j a 0 d, t .symbol j m (omega arith))
 
     trail : (j : ℕ) → 0 < j → j < suc (length found) → Dec (j ≡ length found)
         → getD (found ++ (new ∷ [])) j []

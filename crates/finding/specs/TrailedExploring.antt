@@ -56,7 +56,7 @@ pub record Explores (next : ℕ → ℕ → ℕ) (start k limit w : ℕ) (rest :
   pub entries : List (Entry ℕ)
   pub held : values entries ≡ take n found
   pub left : rest entries ≡ explore (numbers next start k) limit
-  pub trailed : Trailed k parents symbols (trails entries)
+  pub trailed : Trailed parents symbols (trails entries)
   pub tabled : Tabled next w k done (take n found) table
   pub kept : Kept w k done before table
 
@@ -162,7 +162,7 @@ module _ (next : ℕ → ℕ → ℕ) (start k limit w i a n x : ℕ) (found par
         entries = s .entries ++ (new ∷ []);
         held = values-append (s .entries) (new ∷ []) ∙ longer;
         left = row-next (s .entries ++ (new ∷ [])) added (List·getD-append (s .entries) (new ∷ []) _ i (omega (arith, count))) ∙ s .left;
-        trailed = subst (Trailed k (set parents n i) (set symbols n a)) (sym (trails-append (s .entries) (new ∷ []))) longer-trails;
+        trailed = subst (Trailed (set parents n i) (set symbols n a)) (sym (trails-append (s .entries) (new ∷ []))) longer-trails;
         tabled =
             subst (λ v. Tabled next w k (w * i + suc a) v (set table (w * i + a) n)) (sym (take-suc-set found n x space))
             (subst (λ t. Tabled next w k (w * i + suc a) (take n found ++ (x ∷ [])) (set table (w * i + a) t)) place
@@ -190,12 +190,12 @@ module _ (next : ℕ → ℕ → ℕ) (start k limit w i a n x : ℕ) (found par
       trail-count : length (trails (s .entries)) ≡ n
       trail-count = length-trails (s .entries) ∙ count
 
-      longer-trails : Trailed k (set parents n i) (set symbols n a) (trails (s .entries) ++ ((a ∷ here .trail) ∷ []))
+      longer-trails : Trailed (set parents n i) (set symbols n a) (trails (s .entries) ++ ((a ∷ here .trail) ∷ []))
       longer-trails =
-          subst (λ m. Trailed k (set parents m i) (set symbols m a) (trails (s .entries) ++ ((a ∷ here .trail) ∷ []))) trail-count
-          (subst (λ t. Trailed k (set parents (length (trails (s .entries))) i) (set symbols (length (trails (s .entries))) a)
+          subst (λ m. Trailed (set parents m i) (set symbols m a) (trails (s .entries) ++ ((a ∷ here .trail) ∷ []))) trail-count
+          (subst (λ t. Trailed (set parents (length (trails (s .entries))) i) (set symbols (length (trails (s .entries))) a)
           (trails (s .entries) ++ ((a ∷ t) ∷ []))) (trail-at (s .entries) i (record { value = start; trail = [] }) (omega (arith, count)))
-          (trailed-more i a (s .trailed) (omega (arith, trail-count)) more (omega (arith, trail-count)) (omega (arith, trail-count))))
+          (trailed-more i a (s .trailed) (omega (arith, trail-count)) (omega (arith, trail-count)) (omega (arith, trail-count))))
 
   -- It is new, and there is no room.
   pub explores-over : limit ≤ n → placeOf x (take n found) ≡ n → explore (numbers next start k) limit ≡ over
@@ -221,7 +221,7 @@ module _ {next : ℕ → ℕ → ℕ} {start k limit w : ℕ} where
         entries = record { value = start; trail = [] } ∷ [];
         held = sym (take-suc-set found 0 start l);
         left = rw sub-zero (sym (explore-some (numbers next start k) limit h));
-        trailed = trailed-start k parents symbols;
+        trailed = trailed-start parents symbols;
         tabled = tabled-none (take 1 (set found 0 start)) table;
         kept = kept-none w k (w * 0) table;
       }

@@ -1,32 +1,14 @@
--- The union over a set (theory, unionOver), one place at a time, as a loop makes it, past places that are not in it, and by two
--- functions that agree.
-use Prim.Native.Nat.{ℕ, zero, suc, _+_, _≤_, _<_}
-use mathlib.Core.Bool.{true, false}
-use mathlib.Core.Path.{_≡_, refl, ap, ap₂, _∙_}
+-- The union over a set (theory, unionOver): past places that are not in it, and of the entries of a table.
+use Prim.Native.Nat.{ℕ, _≤_, _<_}
+use mathlib.Core.List.{List}
+use mathlib.Core.Path.{_≡_, subst}
 use native.Mathlib.Decide.{decLt}
-use native.Mathlib.Numerals.{add-one}
 use native.Mathlib.Omega.{arith}
-use lib.Bits.{or-zero-r}
-use Rattle.theory.specs.Places.{Member, member, union, when, unionOver}
-use Rattle.theory.specs.PlacesLaws.{member-unionOver, equal-members}
-
-pub unionOver-next : (next : ℕ → ℕ) (i s : ℕ) → unionOver next (i + 1) s ≡ union (unionOver next i s) (when (member i s) (next i))
-unfolding unionOver
-unionOver-next next i s = rw add-one
-
--- A member adds its set; any other place adds nothing.
-pub unionOver-member : (next : ℕ → ℕ) (i s : ℕ) → member i s ≡ true → unionOver next (i + 1) s ≡ union (unionOver next i s) (next i)
-unionOver-member next i s h = unionOver-next next i s ∙ ap (λ b. union (unionOver next i s) (when b (next i))) h
-
-pub unionOver-other : (next : ℕ → ℕ) (i s : ℕ) → member i s ≡ false → unionOver next (i + 1) s ≡ unionOver next i s
-unionOver-other next i s h =
-    unionOver-next next i s ∙ (ap (λ b. union (unionOver next i s) (when b (next i))) h ∙ or-zero-r (unionOver next i s))
-
-pub unionOver-agree : (f g : ℕ → ℕ) (n s : ℕ) → ((i : ℕ) → i < n → f i ≡ g i) → unionOver f n s ≡ unionOver g n s
-unfolding unionOver
-unionOver-agree f g zero s h = refl
-unionOver-agree f g (suc n) s h =
-    ap₂ (λ a b. union a (when (member n s) b)) (unionOver-agree f g n s (λ i l. h i (omega arith))) (h n (omega arith))
+use lib.ListN.{length, getD, List·getD-eq-default}
+use Rattle.theory.specs.Places.{Member, unionOver}
+use Rattle.theory.specs.PlacesLaws.{member-none, member-unionOver, equal-members}
+use Rattle.theory.specs.Automaton.{nexts}
+use Rattle.theory.specs.AutomatonLaws.{member-nexts}
 
 -- Where s has no place from p on and below r, those below r lead where those below p do.
 pub unionOver-skip : (next : ℕ → ℕ) (s p r : ℕ) → p ≤ r → ((i : ℕ) → p ≤ i → i < r → ¬ Member i s) → unionOver next p s ≡ unionOver next r s
@@ -38,3 +20,14 @@ unionOver-skip next s p r h none = equal-members (unionOver next p s) (unionOver
     low : (x : ℕ) → x < r → Member x s → Dec (x < p) → x < p
     low x l a (yes k) = k
     low x l a (no k) = absurd (none x (omega arith) l a)
+
+-- A table has nothing beyond its end.
+pub nexts-over : (s : ℕ) (t : List ℕ) (m : ℕ) → length t ≤ m → nexts s t ≡ unionOver (λ x. getD t x 0) m s
+nexts-over s t m h = equal-members (nexts s t) (unionOver (λ x. getD t x 0) m s) λ y. (
+  λ k. let (x, l, a, b) = member-nexts s t y .0 k in member-unionOver (λ x. getD t x 0) m s y .1 (x, omega arith, a, b),
+  λ k. let (x, l, a, b) = member-unionOver (λ x. getD t x 0) m s y .0 k in member-nexts s t y .1 (x, inside y x b (decLt x (length t)), a, b),
+)
+  where
+    inside : (y x : ℕ) → Member y (getD t x 0) → Dec (x < length t) → x < length t
+    inside y x b (yes l) = l
+    inside y x b (no l) = absurd (member-none y (subst (Member y) (List·getD-eq-default t 0 (omega arith)) b))

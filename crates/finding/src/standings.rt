@@ -3,8 +3,11 @@ ghost use Prim.Native.Nat.{_*_, _≤_, _<_};
 ghost use lib.ListN.{length};
 ghost use Rattle.theory.specs.Automaton.{step as stepOf};
 ghost use Rattle.finding.specs.Plain.{plain};
+ghost use Rattle.finding.specs.NumberIndex.{Indexed, IndexedAll};
 ghost use Rattle.finding.specs.StandingsTold.{RowResult, SweepResult, Room, StandingsTold};
-use crate::search::place_of;
+use crate::index::bucket;
+use crate::index::find_place;
+use crate::index::note;
 use crate::step::follows;
 use places::Places;
 
@@ -25,10 +28,13 @@ fn row(
     n: usize,
     found: &mut [u64],
     moves: &mut [u8],
+    heads: &mut [u8; 509],
+    nexts: &mut [u8; 255],
 ) -> Explored
-    requires { ⌜ Room labels limit i n (now enter) (now found) (now moves) ⌝ }
+    requires { ⌜ Room labels limit i n (now enter) (now found) (now moves) × Indexed (now found) n (now heads) (now nexts) ⌝ }
     ensures { λ r. ⌜ RowResult (stepOf (plain (now (follow .entry)) (now (enter .entry)) 0)) 1 labels limit 32 i n
         (now (found .entry)) (now (moves .entry)) r (now (found .exit)) (now (moves .exit)) ⌝ }
+    ensures indexed { λ r. ⌜ IndexedAll (now (found .exit)) (now (heads .exit)) (now (nexts .exit)) r ⌝ }
 {
     let from = found[i];
     let after = follows(follow, Places(from));
@@ -36,12 +42,14 @@ fn row(
     let mut a = 0;
     while a < labels {
         let next = after.0 & enter[a];
-        let to = place_of(&found[..m], next);
+        let at = bucket(next);
+        let to = find_place(found, heads, nexts, at, m, next);
         moves[32 * i + a] = to as u8;
         if to == m {
             if m == limit {
                 return Explored::Over;
             }
+            note(heads, nexts, at, m - 1);
             found[m] = next;
             m += 1;
         }
@@ -63,11 +71,24 @@ fn sweep(
     ensures { λ r. ⌜ SweepResult (stepOf (plain (now (follow .entry)) (now (enter .entry)) 0)) 1 labels limit 32 r
         (now (found .exit)) (now (moves .exit)) ⌝ }
 {
+    let mut heads: [u8; 509] = [0; 509];
+    let mut nexts: [u8; 255] = [0; 255];
     found[0] = Places::START.0;
     let mut n = 1;
     let mut i = 0;
     while i < n {
-        let told = row(follow, enter, labels, limit, i, n, found, moves);
+        let told = row(
+            follow,
+            enter,
+            labels,
+            limit,
+            i,
+            n,
+            found,
+            moves,
+            &mut heads,
+            &mut nexts,
+        );
         match told {
             Explored::All(m) => {
                 n = m as usize;

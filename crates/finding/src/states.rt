@@ -5,25 +5,25 @@ use crate::index::bucket;
 use crate::index::find_place;
 use crate::index::note;
 use crate::standings::Explored;
-use crate::state::state_step;
+use crate::step::follows;
 use places::Places;
 ghost use mathlib.Core.Path.{_≡_};
 ghost use Prim.Native.Nat.{_*_, _≤_, _<_};
-ghost use lib.ListN.{length, getD, take, drop};
-ghost use Rattle.theory.specs.Places.{unionOver};
+ghost use lib.ListN.{length, take, drop};
+ghost use Rattle.theory.specs.Automaton.{nexts};
 ghost use Rattle.finding.specs.NumberIndex.{Indexed, IndexedAll};
 ghost use Rattle.finding.specs.StatesTold.{StatesTold};
 ghost use Rattle.finding.specs.StatesExploring.{memory, Room, Extended, Swept, AllSwept};
 
-// The state that a list leads to.
+// The state that a list leads to (document 01, "State"): the union of the images of the standings in the state.
 fn next_state(images: &[u64; 1024], count: u64, list: usize, state: u64) -> u64
-    requires { ⌜ list < 16 ⌝ }
-    ensures { λ r. ⌜ r ≡ unionOver (λ i. getD (take 64 (drop (64 * list) (now (images .entry)))) i 0) count state ⌝ }
+    requires { ⌜ (list < 16) × (count ≤ 64) ⌝ }
+    ensures { λ r. ⌜ r ≡ nexts state (take count (drop (64 * list) (now (images .entry)))) ⌝ }
 {
     let all = &images[..];
     let from = 64 * list;
-    let to = from + 64;
-    state_step(&all[from..to], count, state)
+    let to = from + (count as usize);
+    follows(&all[from..to], Places(state)).0
 }
 
 // State s over one list, with n states found.
@@ -38,11 +38,11 @@ fn extend(
     parents: &mut [u8],
     symbols: &mut [u8],
     table: &mut [u16],
-    heads: &mut [u16; 1019],
-    nexts: &mut [u16; 256],
+    heads: &mut [u8; 509],
+    nexts: &mut [u8; 255],
 ) -> Explored
     requires { ⌜ (list < 16) × (s < n) × (n ≤ limit) × Room limit (memory (now found) (now parents) (now symbols) (now table))
-        × Indexed (now found) n (now heads) (now nexts) ⌝ }
+        × Indexed (now found) n (now heads) (now nexts) × (count ≤ 64) ⌝ }
     ensures { λ r. ⌜ Extended (now (images .entry)) count limit s list n
         (memory (now (found .entry)) (now (parents .entry)) (now (symbols .entry)) (now (table .entry))) r
         (memory (now (found .exit)) (now (parents .exit)) (now (symbols .exit)) (now (table .exit))) ⌝ }
@@ -58,7 +58,7 @@ fn extend(
     if n >= limit {
         return Explored::Over;
     }
-    note(heads, nexts, at, n);
+    note(heads, nexts, at, n - 1);
     found[n] = next;
     parents[n] = s as u8;
     symbols[n] = list as u8;
@@ -78,11 +78,11 @@ fn row(
     parents: &mut [u8],
     symbols: &mut [u8],
     table: &mut [u16],
-    heads: &mut [u16; 1019],
-    nexts: &mut [u16; 256],
+    heads: &mut [u8; 509],
+    nexts: &mut [u8; 255],
 ) -> Explored
     requires { ⌜ (lists ≤ 16) × (s < n) × (n ≤ limit) × Room limit (memory (now found) (now parents) (now symbols) (now table))
-        × Indexed (now found) n (now heads) (now nexts) ⌝ }
+        × Indexed (now found) n (now heads) (now nexts) × (count ≤ 64) ⌝ }
     ensures { λ r. ⌜ Swept (now (images .entry)) count lists limit s n
         (memory (now (found .entry)) (now (parents .entry)) (now (symbols .entry)) (now (table .entry))) r
         (memory (now (found .exit)) (now (parents .exit)) (now (symbols .exit)) (now (table .exit))) ⌝ }
@@ -118,7 +118,7 @@ fn row(
     Explored::All(m as u64)
 }
 
-// The rows of all states, in their order, from the start alone. The index of states takes about 3 KiB of the thread's stack.
+// The rows of all states, in their order, from the start alone.
 fn sweep(
     images: &[u64; 1024],
     count: u64,
@@ -129,15 +129,14 @@ fn sweep(
     symbols: &mut [u8],
     table: &mut [u16],
 ) -> Explored
-    requires { ⌜ (lists ≤ 16) × (0 < limit) × Room limit (memory (now found) (now parents) (now symbols) (now table)) ⌝ }
+    requires { ⌜ (lists ≤ 16) × (0 < limit) × Room limit (memory (now found) (now parents) (now symbols) (now table))
+        × (count ≤ 64) ⌝ }
     ensures { λ r. ⌜ AllSwept (now (images .entry)) count lists limit (now (table .entry)) r
         (memory (now (found .exit)) (now (parents .exit)) (now (symbols .exit)) (now (table .exit))) ⌝ }
 {
-    let mut heads: [u16; 1019] = [0; 1019];
-    let mut nexts: [u16; 256] = [0; 256];
-    let start = Places::START.0;
-    note(&mut heads, &mut nexts, bucket(start), 0);
-    found[0] = start;
+    let mut heads: [u8; 509] = [0; 509];
+    let mut nexts: [u8; 255] = [0; 255];
+    found[0] = Places::START.0;
     let mut n = 1;
     let mut s = 0;
     while s < n {
@@ -190,6 +189,9 @@ pub fn states(
         return Explored::Over;
     }
     if lists > 16 {
+        return Explored::Over;
+    }
+    if count > 64 {
         return Explored::Over;
     }
     if table.len() < 4096 {

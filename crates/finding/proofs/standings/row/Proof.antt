@@ -5,9 +5,11 @@ use mathlib.Core.Path.{_≡_, sym, ap, _∙_}
 use lib.Seq.{getD-take, length-take-le}
 use lib.ListN.{getD, take}
 use Rattle.theory.specs.Places.{intersection}
-use Rattle.theory.specs.Automaton.{nexts, step}
+use Rattle.theory.specs.Automaton.{nexts as reached, step}
 use Rattle.finding.specs.Plain.{plain}
 use Rattle.finding.specs.PlaceOfLaws.{place-within}
+use Rattle.finding.specs.NumberIndex.{Indexed}
+use Rattle.finding.specs.NumberIndexLaws.{indexed-more, indexed-as, indexed-all, indexed-over}
 use Rattle.finding.specs.Exploring.{RowLoop, row-begins, row-ends, loop-turn, loop-over}
 use native.Mathlib.Omega.{arith}
 use borrow.Author.Needs.{needs}
@@ -15,12 +17,13 @@ use Rattle.finding.proofs.standings.row.Statement.{statement}
 use Rattle.finding.proofs.standings.row.Tie as tie
 
 abbrev Inv-loop : tie.InvT-loop
-Inv-loop follow enter labels limit i n found₀ moves₀ from after m₀ a₀ found moves m a =
-    (after .0 ≡ nexts (getD (take n found₀) i 0) follow)
+Inv-loop follow enter labels limit i n found₀ moves₀ heads₀ nexts₀ from after m₀ a₀ found moves heads nexts m a =
+    (after .0 ≡ reached (getD (take n found₀) i 0) follow)
     × RowLoop (step (plain follow enter 0)) 1 labels limit 32 i n found₀ moves₀ a m found moves
+    × Indexed found m heads nexts
 
 abbrev μ-loop : tie.MeasureT-loop
-μ-loop follow enter labels limit i n found₀ moves₀ from after m₀ a₀ found moves m a = labels - a
+μ-loop follow enter labels limit i n found₀ moves₀ heads₀ nexts₀ from after m₀ a₀ found moves heads nexts m a = labels - a
 
 mul-from : tie.Need-mul-from Inv-loop μ-loop
 mul-from c = search needs
@@ -34,10 +37,12 @@ follows-requires c κs = search needs
 loop-holds : tie.Need-loop-holds Inv-loop μ-loop
 loop-holds c =
     let s = c .before .before .before .before .before .before in
-    let x = s .args in (
-      c .follows .ensures ∙ ap (λ p. nexts p (x .follow .now)) (sym (getD-take (x .n) (x .found .now) (x .i) 0 (s .pre .inside))),
+    let x = s .args in
+    let p = s .pre .0 in (
+      c .follows .ensures ∙ ap (λ y. reached y (x .follow .now)) (sym (getD-take (x .n) (x .found .now) (x .i) 0 (p .inside))),
       row-begins (step (plain (x .follow .now) (x .enter .now) 0)) 1 (x .labels) (x .limit) 32 (x .i) (x .n) (x .found .now) (x .moves .now)
-          (s .pre .within),
+          (p .within),
+      s .pre .1,
     )
 
 mul-next : tie.Need-mul-next Inv-loop μ-loop
@@ -46,21 +51,25 @@ mul-next c = search needs
 shared-slice-read-next : tie.Need-shared-slice-read-next Inv-loop μ-loop
 shared-slice-read-next c = search needs
 
-slice-reshare-prefix-place-of : tie.Need-slice-reshare-prefix-place-of Inv-loop μ-loop
-slice-reshare-prefix-place-of c = search needs
+bucket-requires : tie.Need-bucket-requires Inv-loop μ-loop
+bucket-requires c κs = search needs
 
-slice-aggregate-place-of : tie.Need-slice-aggregate-place-of Inv-loop μ-loop
-slice-aggregate-place-of c = let l = c .before .before .before .before .loop in sym (length-take-le (l .m) (l .found) (omega arith))
-
-place-of-requires : tie.Need-place-of-requires Inv-loop μ-loop
-place-of-requires c κs = search needs
+find-place-requires : tie.Need-find-place-requires Inv-loop μ-loop
+find-place-requires c κs =
+    let l = c .before .before .before .before .before .before .before .loop in
+    let p = c .before .before .before .before .before .before .before .before .before .before .before .before .before .before .pre .0 in (
+      omega (arith, l .inv .1 .within, l .inv .1 .room),
+      omega (arith, l .inv .1 .within, p .most),
+      c .before .before .before .bucket .ensures,
+      l .inv .2,
+    )
 
 cast-moves : tie.Need-cast-moves Inv-loop μ-loop
 cast-moves c =
-    let l = c .before .before .before .before .before .loop in
-    let x = c .before .before .before .before .before .before .before .before .before .before .before .before .args in
-    let next = intersection (c .before .before .before .before .before .before .follows .result .0) (getD (x .enter .now) (l .a) 0) in
-    omega (arith, c .place-of .ensures, place-within next (take (l .m) (l .found)), length-take-le (l .m) (l .found) (omega arith))
+    let l = c .before .before .before .before .before .before .before .before .loop in
+    let x = c .before .before .before .before .before .before .before .before .before .before .before .before .before .before .before .args in
+    let next = intersection (c .before .before .before .before .before .before .before .before .before .follows .result .0) (getD (x .enter .now) (l .a) 0) in
+    omega (arith, c .find-place .ensures, place-within next (take (l .m) (l .found)), length-take-le (l .m) (l .found) (omega arith))
 
 mul-moves : tie.Need-mul-moves Inv-loop μ-loop
 mul-moves c = search needs
@@ -80,17 +89,23 @@ same-length-2 c = search needs
 returns : tie.Need-returns Inv-loop μ-loop
 unfolding step
 returns c =
-    let l = c .before .before .before .before .before .before .before in
-    let s = c .before .before .before .before .before .before .before .before .before .before .before .before .before .before in
+    let l = c .before .before .before .before .before .before .before .before .before .before .loop in
+    let s = c .before .before .before .before .before .before .before .before .before .before .before .before .before .before .before .before .before in
     let x = s .args in
-    let entered = getD (x .enter .now) (l .loop .a) 0 in
-    loop-over (step (plain (x .follow .now) (x .enter .now) 0)) 1 (x .labels) (x .limit) 32 (x .i) (x .n) (x .found .now) (x .moves .now)
-    (l .loop .a) (l .loop .m) (l .loop .found) (l .loop .moves) (l .loop .inv .1)
-    (c .before .before .before .before .before .before .loop-test .taken)
-    (s .pre .inside) (s .pre .numbers) (s .pre .row) (omega arith)
-    (intersection (l .before .follows .result .0) entered) (c .before .before .place-of .result)
-    (ap (λ p. intersection p entered) (l .loop .inv .0))
-    (c .before .before .place-of .ensures) (c .before .if1 .taken) (omega arith)
+    let p = s .pre .0 in
+    let entered = getD (x .enter .now) (l .a) 0 in (
+      loop-over (step (plain (x .follow .now) (x .enter .now) 0)) 1 (x .labels) (x .limit) 32 (x .i) (x .n) (x .found .now) (x .moves .now)
+          (l .a) (l .m) (l .found) (l .moves) (l .inv .1) (c .before .before .before .before .before .before .before .before .before .loop-test .taken) (p .inside) (p .numbers) (p .row) (omega arith)
+          (intersection (c .before .before .before .before .before .before .before .before .before .before .before .follows .result .0) entered) (c .before .before .find-place .result)
+          (ap (λ y. intersection y entered) (l .inv .0)) (c .before .before .find-place .ensures) (c .before .if1 .taken) (omega arith),
+      indexed-over,
+    )
+
+sub-note : tie.Need-sub-note Inv-loop μ-loop
+sub-note c = search needs
+
+note-requires : tie.Need-note-requires Inv-loop μ-loop
+note-requires c κs = search needs
 
 mul-found : tie.Need-mul-found Inv-loop μ-loop
 mul-found c = search needs
@@ -110,19 +125,24 @@ loop-less c = search needs
 loop-again : tie.Need-loop-again Inv-loop μ-loop
 unfolding step
 loop-again c =
-    let l = c .before .before .before .before .before .before in
-    let s = c .before .before .before .before .before .before .before .before .before .before .before .before .before in
+    let l = c .before .before .before .before .before .before .before .before .before .loop in
+    let s = c .before .before .before .before .before .before .before .before .before .before .before .before .before .before .before .before in
     let x = s .args in
-    let entered = getD (x .enter .now) (l .loop .a) 0 in (
-      l .loop .inv .0,
+    let p = s .pre .0 in
+    let entered = getD (x .enter .now) (l .a) 0 in
+    let next = intersection (c .before .before .before .before .before .before .before .before .before .before .follows .result .0) entered in
+    let f = c .before .find-place in (
+      l .inv .0,
       loop-turn (step (plain (x .follow .now) (x .enter .now) 0)) 1 (x .labels) (x .limit) 32 (x .i) (x .n) (x .found .now) (x .moves .now)
-          (l .loop .a) (l .loop .m) (l .loop .found) (l .loop .moves) (l .loop .inv .1)
-          (c .before .before .before .before .before .loop-test .taken)
-          (s .pre .inside) (s .pre .numbers) (s .pre .row) (omega arith)
-          (intersection (l .before .follows .result .0) entered) (c .before .place-of .result) (c .if1 .m) (c .if1 .found)
-          (ap (λ p. intersection p entered) (l .loop .inv .0))
-          (c .before .place-of .ensures)
-          (⊎-elim (λ w. inl (w .0 .taken, omega arith, w .2, w .3)) (λ w. inr (w .0 .left, w .1, w .2)) (c .if1 .came)),
+          (l .a) (l .m) (l .found) (l .moves) (l .inv .1) (c .before .before .before .before .before .before .before .before .loop-test .taken) (p .inside) (p .numbers) (p .row) (omega arith)
+          next (f .result) (c .if1 .m) (c .if1 .found) (ap (λ y. intersection y entered) (l .inv .0)) (f .ensures)
+          (⊎-elim (λ w. inl (w .0 .taken, omega arith, w .5, w .8)) (λ w. inr (w .0 .left, w .1, w .4)) (c .if1 .came)),
+      ⊎-elim
+          (λ w. indexed-as (w .5) (w .6) (w .7) (w .8)
+          (indexed-more (l .found) (l .m) next _ _ _ _ _ (c .before .before .before .before .before .bucket .ensures) (omega (arith, p .most, l .inv .1 .within)) (omega arith)
+          (omega (arith, f .ensures, w .0 .taken)) (l .inv .2) (w .4 .ensures)))
+          (λ w. indexed-as (w .1) (w .2) (w .3) (w .4) (l .inv .2))
+          (c .if1 .came),
     )
 
 same-length-3 : tie.Need-same-length-3 Inv-loop μ-loop
@@ -133,12 +153,12 @@ same-length-4 c = search needs
 
 returns-2 : tie.Need-returns-2 Inv-loop μ-loop
 returns-2 c =
-    let l = c .before in
-    let s = c .before .before .before .before .before .before .before .before in
-    let x = s .args in
-    row-ends (step (plain (x .follow .now) (x .enter .now) 0)) 1 (x .labels) (x .limit) 32 (x .i) (x .n) (x .found .now) (x .moves .now)
-    (l .loop .m) (l .loop .found) (l .loop .moves)
-    (let e : l .loop .a ≡ x .labels = omega arith in rw e at (l .loop .inv .1))
+    let l = c .before .loop in
+    let x = c .before .before .before .before .before .before .before .before .args in (
+      row-ends (step (plain (x .follow .now) (x .enter .now) 0)) 1 (x .labels) (x .limit) 32 (x .i) (x .n) (x .found .now) (x .moves .now)
+          (l .m) (l .found) (l .moves) (let e : l .a ≡ x .labels = omega arith in rw e at (l .inv .1)),
+      indexed-all (l .inv .2),
+    )
 
 pub row-spec : {M : Type 1} → statement M
 row-spec =
@@ -152,9 +172,8 @@ row-spec =
     loop-holds
     mul-next
     shared-slice-read-next
-    slice-reshare-prefix-place-of
-    slice-aggregate-place-of
-    place-of-requires
+    bucket-requires
+    find-place-requires
     cast-moves
     mul-moves
     add-moves
@@ -162,6 +181,8 @@ row-spec =
     same-length
     same-length-2
     returns
+    sub-note
+    note-requires
     mul-found
     slice-write-found
     add-m

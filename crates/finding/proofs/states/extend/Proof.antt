@@ -72,6 +72,9 @@ returns-2 c =
       indexed-over,
     )
 
+sub-note : tie.Need-sub-note
+sub-note c = search needs
+
 note-requires : tie.Need-note-requires
 note-requires c κs = search needs
 
@@ -159,6 +162,7 @@ extend-spec =
     returns
     same-length-3
     returns-2
+    sub-note
     note-requires
     mul-found
     slice-write-found

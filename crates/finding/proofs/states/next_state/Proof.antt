@@ -1,9 +1,9 @@
--- The part of the images from 64 × list on has 64 of them.
-use Prim.Native.Nat.{_+_, _*_, _-_}
-use mathlib.Core.Path.{_≡_, ap, _∙_}
-use lib.ListN.{getD, take, drop}
-use Rattle.theory.specs.Places.{unionOver}
-use native.Mathlib.Omega.{arith}
+-- The part of the images from 64 × list on has an image for each standing.
+use Prim.Native.Nat.{_*_}
+use mathlib.Core.Path.{ap, _∙_}
+use lib.ListN.{take, drop}
+use Rattle.theory.specs.Automaton.{nexts}
+use native.Mathlib.Nat.{add-sub-cancel-left}
 use borrow.Author.Needs.{needs}
 use Rattle.finding.proofs.states.next_state.Statement.{statement}
 use Rattle.finding.proofs.states.next_state.Tie as tie
@@ -14,26 +14,26 @@ mul-from c = search needs
 add-to : tie.Need-add-to
 add-to c = search needs
 
-mul-state-step : tie.Need-mul-state-step
-mul-state-step c = search needs
+mul-follows : tie.Need-mul-follows
+mul-follows c = search needs
 
-sub-state-step : tie.Need-sub-state-step
-sub-state-step c = search needs
+sub-follows : tie.Need-sub-follows
+sub-follows c = search needs
 
-part-state-step-start : tie.Need-part-state-step-start
-part-state-step-start c = search needs
+part-follows-start : tie.Need-part-follows-start
+part-follows-start c = search needs
 
-part-state-step-end : tie.Need-part-state-step-end
-part-state-step-end c = search needs
+part-follows-end : tie.Need-part-follows-end
+part-follows-end c = search needs
 
-state-step-requires : tie.Need-state-step-requires
-state-step-requires c κs = search needs
+follows-requires : tie.Need-follows-requires
+follows-requires c κs = search needs
 
 returns : tie.Need-returns
 returns c =
     let a = c .before .before .before .args in
-    let e : 64 * a .list + 64 - 64 * a .list ≡ 64 = omega arith in
-    c .state-step .ensures ∙ ap (λ n. unionOver (λ i. getD (take n (drop (64 * a .list) (a .images .now))) i 0) (a .count) (a .state)) e
+    c .follows .ensures
+    ∙ ap (λ n. nexts (a .state) (take n (drop (64 * a .list) (a .images .now)))) (add-sub-cancel-left (64 * a .list) (a .count))
 
 pub next-state-spec : {M : Type 1} → statement M
 next-state-spec =
@@ -41,9 +41,9 @@ next-state-spec =
     (tie.spec
     mul-from
     add-to
-    mul-state-step
-    sub-state-step
-    part-state-step-start
-    part-state-step-end
-    state-step-requires
+    mul-follows
+    sub-follows
+    part-follows-start
+    part-follows-end
+    follows-requires
     returns)

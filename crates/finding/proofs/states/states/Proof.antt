@@ -22,15 +22,18 @@ returns-3 c = λ h k l m. absurd (omega arith)
 returns-4 : tie.Need-returns-4
 returns-4 c = λ h k l m. absurd (omega arith)
 
+returns-5 : tie.Need-returns-5
+returns-5 c = λ h k l m. absurd (omega arith)
+
 sweep-requires : tie.Need-sweep-requires
 sweep-requires c κs = search needs
 
 same-length : tie.Need-same-length
 same-length c = search needs
 
-returns-5 : tie.Need-returns-5
-returns-5 c =
-    let a = c .before .before .before .before .before .before .before .before .before .before .before .before .args in
+returns-6 : tie.Need-returns-6
+returns-6 c =
+    let a = c .before .before .before .before .before .before .before .before .before .before .before .before .before .args in
     let e = c .before .before .sweep in
     let last = e .last .1 .1 .1 .1 in
     λ h k l m.
@@ -39,4 +42,13 @@ returns-5 c =
 
 pub states-spec : {M : Type 1} → statement M
 states-spec =
-    tie.close (tie.spec returns returns-2 returns-3 returns-4 sweep-requires same-length returns-5)
+    tie.close
+    (tie.spec
+    returns
+    returns-2
+    returns-3
+    returns-4
+    returns-5
+    sweep-requires
+    same-length
+    returns-6)

@@ -5,45 +5,38 @@ use native.Mathlib.Omega.{arith}
 use lib.ListN.{set, length-set}
 use Rattle.finding.specs.StatesExploring.{memory, InSweep, in-sweep-start, in-sweep-more, in-sweep-over, in-sweep-end}
 use Rattle.finding.specs.NumberIndex.{Indexed}
-use Rattle.finding.specs.NumberIndexLaws.{indexed-none, indexed-more}
+use Rattle.finding.specs.NumberIndexLaws.{indexed-first}
 use borrow.Author.Needs.{needs}
 use Rattle.finding.proofs.states.sweep.Statement.{statement}
 use Rattle.finding.proofs.states.sweep.Tie as tie
 
 abbrev Inv-loop : tie.InvT-loop
-Inv-loop images count lists limit found₀ parents₀ symbols₀ table₀ heads₀ nexts₀ start n₀ s₀ found parents symbols table heads nexts n s =
+Inv-loop images count lists limit found₀ parents₀ symbols₀ table₀ heads₀ nexts₀ n₀ s₀ found parents symbols table heads nexts n s =
     InSweep images count lists limit (memory found₀ parents₀ symbols₀ table₀) s n (memory found parents symbols table)
     × Indexed found n heads nexts
 
 abbrev μ-loop : tie.MeasureT-loop
-μ-loop images count lists limit found₀ parents₀ symbols₀ table₀ heads₀ nexts₀ start n₀ s₀ found parents symbols table heads nexts n s =
+μ-loop images count lists limit found₀ parents₀ symbols₀ table₀ heads₀ nexts₀ n₀ s₀ found parents symbols table heads nexts n s =
     limit - s
-
-bucket-requires : tie.Need-bucket-requires Inv-loop μ-loop
-bucket-requires c κs = search needs
-
-note-requires : tie.Need-note-requires Inv-loop μ-loop
-note-requires c κs = search needs
 
 slice-write-found : tie.Need-slice-write-found Inv-loop μ-loop
 slice-write-found c = search needs
 
 loop-holds : tie.Need-loop-holds Inv-loop μ-loop
 loop-holds c =
-    let start = c .before .before .before .before .before .before .before .before in
+    let start = c .before .before .before .before in
     let a = start .args in (
       in-sweep-start (a .images .now) (a .count) (a .lists) (a .limit) (a .found .now) (a .parents .now) (a .symbols .now)
           (a .table .now) (start .pre .1) (start .pre .2),
-      indexed-more (a .found .now) 0 1 _ _ _ _ _ (c .before .bucket .ensures) (omega arith)
-          (omega (arith, start .pre .1, start .pre .2 .states)) (omega arith) (indexed-none (a .found .now)) (c .note .ensures),
+      indexed-first (set (a .found .now) 0 1),
     )
 
 row-requires : tie.Need-row-requires Inv-loop μ-loop
 row-requires c κs =
     let head = c .before .before .before .before .before .before .before in
-    let start = head .before .before .before .before .before .before .before .before .before in
+    let start = head .before .before .before .before .before in
     let inv = head .loop .inv in
-    (start .pre .0, c .before .before .before .before .before .before .loop-test .taken, inv .0 .within, inv .0 .room, inv .1)
+    (start .pre .0, c .before .before .before .before .before .before .loop-test .taken, inv .0 .within, inv .0 .room, inv .1, start .pre .3)
 
 enum-known-told : tie.Need-enum-known-told Inv-loop μ-loop
 enum-known-told c = search needs
@@ -79,7 +72,7 @@ returns : tie.Need-returns Inv-loop μ-loop
 returns c =
     let call = c .before .before .before .before .before .before .before .before .before .before in
     let head = call .before .before .before .before .before .before .before .before in
-    let start = head .before .before .before .before .before .before .before .before .before in
+    let start = head .before .before .before .before .before in
     let a = start .args in
     let l = head .loop in
     let e = call .row in
@@ -103,7 +96,7 @@ loop-again : tie.Need-loop-again Inv-loop μ-loop
 loop-again c =
     let call = c .before .before .before .before .before .before .before .before .before .before .before in
     let head = call .before .before .before .before .before .before .before .before in
-    let start = head .before .before .before .before .before .before .before .before .before in
+    let start = head .before .before .before .before .before in
     let a = start .args in
     let l = head .loop in
     let e = call .row in
@@ -133,7 +126,7 @@ same-length-8 c = c .before .loop .inv .0 .sizes .rows
 
 returns-2 : tie.Need-returns-2 Inv-loop μ-loop
 returns-2 c =
-    let start = c .before .before .before .before .before .before .before .before .before .before in
+    let start = c .before .before .before .before .before .before in
     let a = start .args in
     let l = c .before .loop in
     in-sweep-end (a .images .now) (a .count) (a .lists) (a .limit)
@@ -146,8 +139,6 @@ sweep-spec =
     (tie.spec
     Inv-loop
     μ-loop
-    bucket-requires
-    note-requires
     slice-write-found
     loop-holds
     row-requires
