@@ -1,13 +1,11 @@
--- A machine (Product) as lent numbers: its next states in rows, its accepting states as bits of words.
-use Prim.Native.Nat.{ℕ, _+_, _*_, _/_, _%_, _<_}
+-- A machine (Product) as lent numbers: its next states in rows.
+use Prim.Native.Nat.{ℕ, _+_, _*_, _<_}
 use mathlib.Core.Bool.{true}
 use mathlib.Core.List.{List}
-use mathlib.Core.Logic.{_↔_}
 use mathlib.Core.Path.{_≡_}
 use native.Mathlib.Omega.{arith}
 use lib.ListN.{getD}
 use Rattle.theory.specs.Graph.{Table}
-use Rattle.theory.specs.Places.{Member}
 use Rattle.answering.specs.Table.{isTable}
 use Rattle.answering.specs.TableLaws.{is-table-exactly, table-labels}
 use Rattle.answering.specs.Product.{Machine}
@@ -20,10 +18,6 @@ pub record Runs (M : Machine) (moves : List ℕ) (stride states symbols : ℕ) (
   pub same-states : M .states ≡ states
   pub same-next : (s a : ℕ) → s < states → a < symbols → M .next s a ≡ getD moves (stride * s + a) 0
   pub next-below : (s a : ℕ) → s < states → a < symbols → getD moves (stride * s + a) 0 < states
-
--- The accepting words stand for the machine's accepting states.
-abbrev pub Accepts : Machine → ℕ → List ℕ → Type 0
-Accepts M states accepting = (s : ℕ) → s < states → Member (s % 64) (getD accepting (s / 64) 0) ↔ Member s (M .accepting)
 
 -- Over such a table the machine stays within its states.
 pub stays : {M : Machine} {moves : List ℕ} {stride states symbols : ℕ} {table : Table} {N : ℕ}

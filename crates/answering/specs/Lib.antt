@@ -38,6 +38,7 @@ pub mod SetMarks
 pub mod PlaceSets
 pub mod PlaceSearch
 pub mod Useful
+pub mod Ranks
 pub mod StateSets
 pub mod LentMachine
 pub mod StateSearch

@@ -4,18 +4,12 @@ use Prim.Native.Nat.{ℕ, _+_, _*_, _≤_, _<_}
 use mathlib.Core.Bool.{true}
 use mathlib.Core.List.{List, _++_}
 use mathlib.Core.Path.{_≡_}
-use lib.Dec.{eqb}
 use lib.ListN.{length, getD, drop, replicate}
 use Rattle.theory.specs.Graph.{Table}
-use Rattle.theory.specs.Places.{collect}
 use Rattle.verdict.specs.Cover.{Rewritten, nextState}
 use Rattle.answering.specs.Table.{isTable}
 use Rattle.answering.specs.Product.{marks, ones}
 use Rattle.answering.specs.Answer.{listMachine}
-
--- The states with flag 1 among the n from `base` on, counted from there.
-abbrev pub flagged : List ℕ → ℕ → ℕ → ℕ
-flagged flags base n = collect (λ i. eqb (getD flags (base + i) 0) 1) n
 
 -- The start is one of the recordings, and the lent marks and words suffice for these.
 pub record ListsLent (N start : ℕ) (before workspace : List ℕ) : Type 0 where

@@ -9,6 +9,7 @@ mod lists_operation;
 mod marks;
 mod pairs;
 mod place_sets;
+mod ranks;
 mod rows;
 mod set_search;
 mod sizes;

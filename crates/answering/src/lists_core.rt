@@ -1,36 +1,24 @@
 // Marks by the states of a rewriting, on plain data: its next states and flags, a table of links over lists and a start.
 use super::clear::clear_words;
 use super::marks::mark;
+use super::ranks::accept_ranks;
+use super::ranks::rank_useful;
 use super::state_search::search_states;
-use super::useful::add_useful;
 ghost use mathlib.Core.Bool.{true};
 ghost use mathlib.Core.Logic.{_↔_};
 ghost use mathlib.Core.Path.{_≡_};
-ghost use Prim.Native.Nat.{_+_, _*_, _≤_};
+ghost use Prim.Native.Nat.{_*_, _≤_, _<_};
 ghost use lib.ListN.{length};
 ghost use Rattle.verdict.specs.Cover.{Rewritten};
-ghost use Rattle.answering.specs.ListsCore.{flagged, ListsLent, ListsGiven, ListsMarked};
+ghost use Rattle.answering.specs.ListsCore.{ListsLent, ListsGiven, ListsMarked};
 
-// The states with flag 1 among the 64 from base on.
-fn accepting_word(flags: &[u8; 256], base: u64) -> u64
-    requires { ⌜ base + 64 ≤ 256 ⌝ }
-    ensures { λ r. ⌜ r ≡ flagged (now (flags .entry)) base 64 ⌝ }
-{
-    let mut word: u64 = 0;
-    let mut i: u64 = 0;
-    while i < 64 {
-        if flags[(base + i) as usize] == 1 {
-            word = word | (1 << i);
-        }
-        i += 1;
-    }
-    word
-}
-
-// Whether there are at most 256 states and 16 lists, with a row of next states for each state.
+// Whether there are states, at most 256 of them, and at most 16 lists, with a row of next states for each state.
 fn has_rows(next: &[u16], states: u64, lists: u64) -> bool
-    ensures { λ r. ⌜ (r ≡ true) ↔ ((states ≤ 256) × (lists ≤ 16) × (16 * states ≤ length (now (next .entry)))) ⌝ }
+    ensures { λ r. ⌜ (r ≡ true) ↔ ((0 < states) × (states ≤ 256) × (lists ≤ 16) × (16 * states ≤ length (now (next .entry)))) ⌝ }
 {
+    if states == 0 {
+        return false;
+    }
     if 256 < states {
         return false;
     }
@@ -64,20 +52,27 @@ pub fn mark_lists(
     if !has_rows(next, states, lists) {
         return 0;
     }
-    let first = accepting_word(flags, 0);
-    let second = accepting_word(flags, 64);
-    let third = accepting_word(flags, 128);
-    let fourth = accepting_word(flags, 192);
-    let accepts: [u64; 4] = [first, second, third, fourth];
-    let mut useful: [u64; 4] = [first, second, third, fourth];
-    add_useful(next, lists as usize, states as usize, &mut useful);
-    let words = (states + 63) / 64;
+    let mut ranks: [u16; 256] = [256; 256];
+    let mut kept: [u16; 256] = [0; 256];
+    let count = rank_useful(
+        next,
+        flags,
+        lists as usize,
+        states as usize,
+        &mut ranks,
+        &mut kept,
+    );
+    let mut accepts: [u64; 4] = [0; 4];
+    accept_ranks(flags, &kept, count, &mut accepts);
+    let words = (count as u64 + 63) / 64;
     search_states(
         next,
         lists,
         states,
         words,
-        &useful,
+        &ranks,
+        &kept,
+        count as u64,
         table,
         recordings,
         start,

@@ -1,10 +1,10 @@
-// What a deterministic automaton reaches over a table from one recording, where only useful states are followed.
+// What a deterministic automaton reaches over a table from one recording, by ranks: only states that are kept are followed.
 use super::set_search::search_sets;
 use super::state_sets::put_rows;
 ghost use Prim.Native.Nat.{_*_, _≤_};
 ghost use lib.ListN.{length};
-ghost use Rattle.answering.specs.StateSets.{Filled};
-ghost use Rattle.answering.specs.StateSearch.{StatesLent, StatesSearched};
+ghost use Rattle.answering.specs.StateSets.{RankedStep, StatesLent, Filled};
+ghost use Rattle.answering.specs.StateSearch.{StatesSearched};
 
 // The search, with lent words for the next states.
 fn search_lent(
@@ -12,36 +12,32 @@ fn search_lent(
     lists: u64,
     states: u64,
     words: u64,
-    useful: &[u64],
+    ranks: &[u16],
+    kept: &[u16],
+    count: u64,
     table: &[u16],
     recordings: u64,
     start: u64,
     sets: &mut [u64],
     reached: &mut [u64],
 )
-    requires { ⌜ StatesLent (now next) lists states words (now useful) × (words * (lists * states) ≤ length (now sets))
-        × Filled (now next) lists states words (now useful) 0 (now sets) ⌝ }
-    ensures { λ _. ⌜ StatesSearched (now (next .entry)) lists states words (now (useful .entry)) (now (table .entry)) recordings start
-        (now (reached .entry)) (now (reached .exit)) ⌝ }
+    requires { ⌜ StatesLent (now next) lists states words (now ranks) (now kept) count
+        × (words * (lists * count) ≤ length (now sets))
+        × Filled lists words (RankedStep (now next) states (now ranks) (now kept) count) 0 (now sets) ⌝ }
+    ensures { λ _. ⌜ StatesSearched (now (next .entry)) lists states words (now (ranks .entry)) (now (kept .entry)) count
+        (now (table .entry)) recordings start (now (reached .entry)) (now (reached .exit)) ⌝ }
 {
     put_rows(
         next,
         lists as usize,
         states as usize,
         words as usize,
-        useful,
+        ranks,
+        kept,
+        count as usize,
         sets,
     );
-    search_sets(
-        sets,
-        lists,
-        words,
-        states,
-        table,
-        recordings,
-        start,
-        reached,
-    );
+    search_sets(sets, lists, words, count, table, recordings, start, reached);
 }
 
 // The search, where 1024 words suffice for the next states: they are zeroed sooner than those for all automata.
@@ -50,15 +46,17 @@ fn search_few(
     lists: u64,
     states: u64,
     words: u64,
-    useful: &[u64],
+    ranks: &[u16],
+    kept: &[u16],
+    count: u64,
     table: &[u16],
     recordings: u64,
     start: u64,
     reached: &mut [u64],
 )
-    requires { ⌜ StatesLent (now next) lists states words (now useful) × (words * (lists * states) ≤ 1024) ⌝ }
-    ensures { λ _. ⌜ StatesSearched (now (next .entry)) lists states words (now (useful .entry)) (now (table .entry)) recordings start
-        (now (reached .entry)) (now (reached .exit)) ⌝ }
+    requires { ⌜ StatesLent (now next) lists states words (now ranks) (now kept) count × (words * (lists * count) ≤ 1024) ⌝ }
+    ensures { λ _. ⌜ StatesSearched (now (next .entry)) lists states words (now (ranks .entry)) (now (kept .entry)) count
+        (now (table .entry)) recordings start (now (reached .entry)) (now (reached .exit)) ⌝ }
 {
     let mut sets: [u64; 1024] = [0; 1024];
     search_lent(
@@ -66,7 +64,9 @@ fn search_few(
         lists,
         states,
         words,
-        useful,
+        ranks,
+        kept,
+        count,
         table,
         recordings,
         start,
@@ -81,15 +81,17 @@ fn search_many(
     lists: u64,
     states: u64,
     words: u64,
-    useful: &[u64],
+    ranks: &[u16],
+    kept: &[u16],
+    count: u64,
     table: &[u16],
     recordings: u64,
     start: u64,
     reached: &mut [u64],
 )
-    requires { ⌜ StatesLent (now next) lists states words (now useful) ⌝ }
-    ensures { λ _. ⌜ StatesSearched (now (next .entry)) lists states words (now (useful .entry)) (now (table .entry)) recordings start
-        (now (reached .entry)) (now (reached .exit)) ⌝ }
+    requires { ⌜ StatesLent (now next) lists states words (now ranks) (now kept) count ⌝ }
+    ensures { λ _. ⌜ StatesSearched (now (next .entry)) lists states words (now (ranks .entry)) (now (kept .entry)) count
+        (now (table .entry)) recordings start (now (reached .entry)) (now (reached .exit)) ⌝ }
 {
     let mut sets: [u64; 16384] = [0; 16384];
     search_lent(
@@ -97,7 +99,9 @@ fn search_many(
         lists,
         states,
         words,
-        useful,
+        ranks,
+        kept,
+        count,
         table,
         recordings,
         start,
@@ -106,30 +110,34 @@ fn search_many(
     );
 }
 
-// All recordings that are reached from the start in state 0, with the states that they are reached in, as bits of the first
-// words × recordings words, where `words` is as many as the states need.
+// All recordings that are reached from the start in state 0, with the ranks of the states that they are reached in, as bits of the first
+// words × recordings words, where `words` is as many as the ranks need.
 pub(super) fn search_states(
     next: &[u16],
     lists: u64,
     states: u64,
     words: u64,
-    useful: &[u64],
+    ranks: &[u16],
+    kept: &[u16],
+    count: u64,
     table: &[u16],
     recordings: u64,
     start: u64,
     reached: &mut [u64],
 )
-    requires { ⌜ StatesLent (now next) lists states words (now useful) ⌝ }
-    ensures { λ _. ⌜ StatesSearched (now (next .entry)) lists states words (now (useful .entry)) (now (table .entry)) recordings start
-        (now (reached .entry)) (now (reached .exit)) ⌝ }
+    requires { ⌜ StatesLent (now next) lists states words (now ranks) (now kept) count ⌝ }
+    ensures { λ _. ⌜ StatesSearched (now (next .entry)) lists states words (now (ranks .entry)) (now (kept .entry)) count
+        (now (table .entry)) recordings start (now (reached .entry)) (now (reached .exit)) ⌝ }
 {
-    if words * (lists * states) <= 1024 {
+    if words * (lists * count) <= 1024 {
         search_few(
             next,
             lists,
             states,
             words,
-            useful,
+            ranks,
+            kept,
+            count,
             table,
             recordings,
             start,
@@ -141,7 +149,9 @@ pub(super) fn search_states(
             lists,
             states,
             words,
-            useful,
+            ranks,
+            kept,
+            count,
             table,
             recordings,
             start,

@@ -1,8 +1,8 @@
--- `mark_lists` meets its contract by what the accepting words, the useful states, the search and the marks promise together.
+-- `mark_lists` meets its contract by what the ranks, the search and the marks promise together.
 use mathlib.Core.Bool.{false≢true}
-use mathlib.Core.List.{[], _∷_}
 use mathlib.Core.Path.{refl, sym, _∙_}
 use borrow.Author.Tests.{not-true, not-false}
+use Rattle.answering.specs.Ranks.{unranked, accepted-none}
 use Rattle.answering.specs.ListsCoreLaws.{lists-marked}
 use native.Mathlib.Omega.{arith}
 use borrow.Author.Needs.{needs}
@@ -19,50 +19,70 @@ returns-2 : tie.Need-returns-2
 returns-2 c =
     λ l R g.
     absurd
-    (false≢true (sym (not-true _ (c .if2 .taken)) ∙ c .before .has-rows .ensures .1 (g .most, g .few-lists, g .rows)))
+    (false≢true (sym (not-true _ (c .if2 .taken)) ∙ c .before .has-rows .ensures .1 (g .some, g .most, g .few-lists, g .rows)))
 
-accepting-word-requires : tie.Need-accepting-word-requires
-accepting-word-requires c κs = search needs
+slice-aggregate-rank-useful : tie.Need-slice-aggregate-rank-useful
+slice-aggregate-rank-useful c = search needs
 
-accepting-word-requires-2 : tie.Need-accepting-word-requires-2
-accepting-word-requires-2 c κs = search needs
+slice-aggregate-rank-useful-2 : tie.Need-slice-aggregate-rank-useful-2
+slice-aggregate-rank-useful-2 c = search needs
 
-accepting-word-requires-3 : tie.Need-accepting-word-requires-3
-accepting-word-requires-3 c κs = search needs
+rank-useful-requires : tie.Need-rank-useful-requires
+rank-useful-requires c κs =
+    let at-if2 = c .before .before in
+    let (some, few, lists, rows) = at-if2 .before .has-rows .ensures .0 (not-false _ (at-if2 .if2 .left)) in
+    (unranked few, some, lists, rows)
 
-accepting-word-requires-4 : tie.Need-accepting-word-requires-4
-accepting-word-requires-4 c κs = search needs
+slice-aggregate-accept-ranks : tie.Need-slice-aggregate-accept-ranks
+slice-aggregate-accept-ranks c = search needs
 
-slice-aggregate-add-useful : tie.Need-slice-aggregate-add-useful
-slice-aggregate-add-useful c = search needs
+slice-aggregate-accept-ranks-2 : tie.Need-slice-aggregate-accept-ranks-2
+slice-aggregate-accept-ranks-2 c = search needs
 
-add-useful-requires : tie.Need-add-useful-requires
-add-useful-requires c κs =
-    let at-if2 = c .before .before .before .before .before in
-    let (few, lists, rows) = at-if2 .before .has-rows .ensures .0 (not-false _ (at-if2 .if2 .left)) in
-    record { few-lists = lists; few = few; rows = rows; words = omega arith }
+accept-ranks-requires : tie.Need-accept-ranks-requires
+accept-ranks-requires c κs =
+    let at-rank-useful = c .before .before .before .before in
+    let at-if2 = at-rank-useful .before .before .before in
+    let (some, few, lists, rows) = at-if2 .before .has-rows .ensures .0 (not-false _ (at-if2 .if2 .left)) in
+    let f = at-rank-useful .rank-useful in
+    let k = f .ensures in (
+      omega (arith, k .few),
+      omega (arith, k .few),
+      λ r h. omega (arith, k .inside r h),
+      omega arith,
+      accepted-none _ _ 4,
+    )
 
 add-words : tie.Need-add-words
 add-words c =
-    let at-if2 = c .before .before .before .before .before .before .before in
-    let (few, lists, rows) = at-if2 .before .has-rows .ensures .0 (not-false _ (at-if2 .if2 .left)) in omega arith
+    let at-rank-useful = c .before .before .before .before .before .before in
+    let at-if2 = at-rank-useful .before .before .before in
+    let (some, few, lists, rows) = at-if2 .before .has-rows .ensures .0 (not-false _ (at-if2 .if2 .left)) in
+    omega (arith, at-rank-useful .rank-useful .ensures .few)
 
 slice-aggregate-search-states : tie.Need-slice-aggregate-search-states
 slice-aggregate-search-states c = search needs
 
+slice-aggregate-search-states-2 : tie.Need-slice-aggregate-search-states-2
+slice-aggregate-search-states-2 c = search needs
+
 search-states-requires : tie.Need-search-states-requires
 search-states-requires c κs =
-    let at-add-useful = c .before .before .before in
-    let at-if2 = at-add-useful .before .before .before .before .before .before in
-    let (few, lists, rows) = at-if2 .before .has-rows .ensures .0 (not-false _ (at-if2 .if2 .left)) in
-    let same = at-add-useful .add-useful .kept .1 .1 .1 .0 in
+    let at-rank-useful = c .before .before .before .before .before .before .before .before .before in
+    let at-if2 = at-rank-useful .before .before .before in
+    let (some, few, lists, rows) = at-if2 .before .has-rows .ensures .0 (not-false _ (at-if2 .if2 .left)) in
+    let k = at-rank-useful .rank-useful .ensures in
+    let n = k .few in
     record {
       few-lists = lists;
       few = few;
+      given = rows;
+      ranks-fit = omega arith;
+      kept-fit = omega arith;
+      few-kept = omega arith;
+      inside = k .inside;
       width = omega arith;
       few-words = omega arith;
-      given = rows;
-      words = omega arith;
     }
 
 mark-requires : tie.Need-mark-requires
@@ -86,18 +106,12 @@ returns-3 c =
     let at-mark = at-clear-words .before .before .before .before in
     let at-known = at-mark .before .before .before .before in
     let at-search = at-known .before .before in
-    let at-add-useful = at-search .before .before .before .before in
-    let at-fourth = at-add-useful .before .before in
-    let at-third = at-fourth .before in
-    let at-second = at-third .before in
-    let at-first = at-second .before in
+    let at-accept-ranks = at-search .before .before .before .before .before in
+    let at-rank-useful = at-accept-ranks .before .before .before .before .before in
     λ l R g.
-    lists-marked g l refl _
-    (λ i.
-    at-first .accepting-word .ensures i
-    ∷ (at-second .accepting-word2 .ensures i ∷ (at-third .accepting-word3 .ensures i ∷ (at-fourth .accepting-word4 .ensures i ∷ []))))
-    (at-add-useful .add-useful .ensures) (at-search .search-states .ensures) (λ i. at-known .slice-known3 .given i .fits)
-    (at-mark .mark .ensures) (at-clear-words .clear-words .ensures)
+    lists-marked g l (at-rank-useful .rank-useful .ensures) (at-accept-ranks .accept-ranks .ensures) refl
+    (at-search .search-states .ensures) (λ i. at-known .slice-known3 .given i .fits) (at-mark .mark .ensures)
+    (at-clear-words .clear-words .ensures)
 
 pub mark-lists-spec : {M : Type 1} → statement M
 mark-lists-spec =
@@ -106,14 +120,15 @@ mark-lists-spec =
     returns
     has-rows-requires
     returns-2
-    accepting-word-requires
-    accepting-word-requires-2
-    accepting-word-requires-3
-    accepting-word-requires-4
-    slice-aggregate-add-useful
-    add-useful-requires
+    slice-aggregate-rank-useful
+    slice-aggregate-rank-useful-2
+    rank-useful-requires
+    slice-aggregate-accept-ranks
+    slice-aggregate-accept-ranks-2
+    accept-ranks-requires
     add-words
     slice-aggregate-search-states
+    slice-aggregate-search-states-2
     search-states-requires
     mark-requires
     mul-clear-words

@@ -1,13 +1,12 @@
 -- `search_lent` meets its contract: the search goes by the next states that were put into their rows.
-use Rattle.answering.specs.StateSearch.{lent-room}
 use borrow.Author.Needs.{needs}
 use Rattle.answering.proofs.state_search.search_lent.Statement.{statement}
 use Rattle.answering.proofs.state_search.search_lent.Tie as tie
 
 put-rows-requires : tie.Need-put-rows-requires
 put-rows-requires c κs =
-    let p = c .before .before .before .before .before .before .pre in
-    (lent-room (p .0) (p .1), p .2)
+    let at-start = c .before .before .before .before .before .before .before in
+    at-start .pre
 
 search-sets-requires : tie.Need-search-sets-requires
 search-sets-requires c κs = search needs

@@ -1,6 +1,5 @@
 -- `search_many` meets its contract: the words are zero to begin with, and suffice.
-use Rattle.answering.specs.StateSets.{filled-none}
-use Rattle.answering.specs.StateSearch.{lent-most}
+use Rattle.answering.specs.StateSets.{lent-most, filled-none}
 use borrow.Author.Needs.{needs}
 use Rattle.answering.proofs.state_search.search_many.Statement.{statement}
 use Rattle.answering.proofs.state_search.search_many.Tie as tie
@@ -10,10 +9,10 @@ slice-aggregate-search-lent c = search needs
 
 search-lent-requires : tie.Need-search-lent-requires
 search-lent-requires c κs =
-    let at-start = c .before .before .before .before .before .before in
+    let at-start = c .before .before .before .before .before .before .before in
     let a = at-start .args in
     let p = at-start .pre in
-    (p, lent-most p .1, filled-none (a .next .now) (a .lists) (a .states) (a .words) (a .useful .now) 16384)
+    (p, lent-most p .1, filled-none (a .lists) (a .words) _ 16384)
 
 same-length : tie.Need-same-length
 same-length c = search needs

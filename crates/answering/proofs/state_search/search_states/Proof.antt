@@ -1,5 +1,5 @@
 -- `search_states` meets its contract: either search does.
-use Rattle.answering.specs.StateSearch.{lent-most}
+use Rattle.answering.specs.StateSets.{lent-most}
 use native.Mathlib.Omega.{arith}
 use borrow.Author.Needs.{needs}
 use Rattle.answering.proofs.state_search.search_states.Statement.{statement}
@@ -7,17 +7,17 @@ use Rattle.answering.proofs.state_search.search_states.Tie as tie
 
 mul-if1 : tie.Need-mul-if1
 mul-if1 c =
-    let (m, n) = lent-most (c .before .before .before .before .pre) in omega arith
+    let (m, n) = lent-most (c .before .before .before .before .before .pre) in omega arith
 
 mul-if1-2 : tie.Need-mul-if1-2
 mul-if1-2 c =
-    let (m, n) = lent-most (c .before .before .before .before .pre) in omega arith
+    let (m, n) = lent-most (c .before .before .before .before .before .pre) in omega arith
 
 search-few-requires : tie.Need-search-few-requires
-search-few-requires c κs = (c .before .before .before .before .before .before .pre, c .before .if1 .taken)
+search-few-requires c κs = (c .before .before .before .before .before .before .before .pre, c .before .if1 .taken)
 
 search-many-requires : tie.Need-search-many-requires
-search-many-requires c κs = c .before .before .before .before .before .before .pre
+search-many-requires c κs = c .before .before .before .before .before .before .before .pre
 
 same-length : tie.Need-same-length
 same-length c = search needs

@@ -1,0 +1,163 @@
+-- `rank_states` meets its contract. The loop's invariant: the states of the set below s have their ranks.
+use Prim.Native.Nat.{_-_, _≤_}
+use mathlib.Core.Bool.{false≢true}
+use mathlib.Core.Logic.{⊎-elim}
+use mathlib.Core.Path.{_≡_, refl, sym, _∙_}
+use lib.ListN.{length, length-set}
+use Rattle.answering.specs.Useful.{in-set-test}
+use Rattle.answering.specs.Ranks.{Ranked, member-room, ranked-none, ranked-out, ranked-next}
+use native.Mathlib.Omega.{arith}
+use borrow.Author.Needs.{needs}
+use Rattle.answering.proofs.ranks.rank_states.Statement.{statement}
+use Rattle.answering.proofs.ranks.rank_states.Tie as tie
+
+abbrev Inv-loop : tie.InvT-loop
+Inv-loop set states ranks₀ kept₀ count₀ s₀ ranks kept count s =
+    (s ≤ states) × (length ranks ≡ length ranks₀) × (length kept ≡ length kept₀) × Ranked set states s ranks kept count
+
+abbrev μ-loop : tie.MeasureT-loop
+μ-loop set states ranks₀ kept₀ count₀ s₀ ranks kept count s = states - s
+
+loop-holds : tie.Need-loop-holds Inv-loop μ-loop
+loop-holds c =
+    let at-start = c .before .before .before in
+    (omega arith, refl, refl, ranked-none (at-start .pre .0))
+
+has-requires : tie.Need-has-requires Inv-loop μ-loop
+has-requires c κs =
+    let at-start = c .before .before .before .before .before in
+    let p = at-start .pre in
+    member-room (at-start .args .set .now) (p .0 .few) (p .1) (c .loop-test .taken)
+
+cast-ranks : tie.Need-cast-ranks Inv-loop μ-loop
+cast-ranks c =
+    let at-loop = c .before .before .before in
+    let at-start = c .before .before .before .before .before .before .before in
+    let b = at-start .pre .0 in
+    let v = at-loop .loop .inv in
+    let f = v .3 .few in
+    omega (arith, b .few)
+
+mul-ranks : tie.Need-mul-ranks Inv-loop μ-loop
+mul-ranks c =
+    let at-loop = c .before .before .before in
+    let at-start = c .before .before .before .before .before .before .before in
+    let b = at-start .pre .0 in
+    let v = at-loop .loop .inv in
+    let f = v .3 .few in
+    omega (arith, b .few)
+
+slice-write-ranks : tie.Need-slice-write-ranks Inv-loop μ-loop
+slice-write-ranks c =
+    let at-loop = c .before .before .before in
+    let at-start = c .before .before .before .before .before .before .before in
+    let b = at-start .pre .0 in
+    let v = at-loop .loop .inv in
+    let f = v .3 .few in
+    omega (arith, b .ranks-fit)
+
+cast-kept : tie.Need-cast-kept Inv-loop μ-loop
+cast-kept c =
+    let at-loop = c .before .before .before in
+    let at-start = c .before .before .before .before .before .before .before in
+    let b = at-start .pre .0 in
+    let v = at-loop .loop .inv in
+    let f = v .3 .few in
+    omega (arith, b .few)
+
+mul-kept : tie.Need-mul-kept Inv-loop μ-loop
+mul-kept c =
+    let at-loop = c .before .before .before in
+    let at-start = c .before .before .before .before .before .before .before in
+    let b = at-start .pre .0 in
+    let v = at-loop .loop .inv in
+    let f = v .3 .few in
+    omega (arith, b .few)
+
+slice-write-kept : tie.Need-slice-write-kept Inv-loop μ-loop
+slice-write-kept c =
+    let at-loop = c .before .before .before in
+    let at-start = c .before .before .before .before .before .before .before in
+    let b = at-start .pre .0 in
+    let v = at-loop .loop .inv in
+    let f = v .3 .few in
+    omega (arith, b .kept-fit)
+
+add-count : tie.Need-add-count Inv-loop μ-loop
+add-count c =
+    let at-loop = c .before .before .before in
+    let at-start = c .before .before .before .before .before .before .before in
+    let b = at-start .pre .0 in
+    let v = at-loop .loop .inv in
+    let f = v .3 .few in
+    omega (arith, b .few)
+
+add-s : tie.Need-add-s Inv-loop μ-loop
+add-s c = search needs
+
+loop-less : tie.Need-loop-less Inv-loop μ-loop
+loop-less c = search needs
+
+loop-again : tie.Need-loop-again Inv-loop μ-loop
+loop-again c =
+    let at-has = c .before in
+    let at-loop-test = c .before .before in
+    let at-loop = c .before .before .before in
+    let at-start = c .before .before .before .before .before .before .before in
+    let a = at-start .args in
+    let b = at-start .pre .0 in
+    let l = at-loop .loop in
+    let v = l .inv in
+    let f = v .3 .few in
+    let h = at-loop-test .loop-test .taken in
+    let test = in-set-test (a .set .now) (l .s) in
+    ⊎-elim
+    (λ w. rw (w .1, w .2, w .3) (
+      omega arith,
+      simp length-set (v .1),
+      simp length-set (v .2),
+      ranked-next (v .3) h (b .few) (omega (arith, b .ranks-fit)) (omega (arith, b .kept-fit))
+          (test .0 (sym (at-has .has .ensures) ∙ w .0 .taken)),
+    ))
+    (λ w. rw (w .1, w .2, w .3) (
+      omega arith,
+      v .1,
+      v .2,
+      ranked-out (v .3) (λ m. false≢true (sym (w .0 .left) ∙ at-has .has .ensures ∙ test .1 m)),
+    ))
+    (c .if1 .came)
+
+same-length : tie.Need-same-length Inv-loop μ-loop
+same-length c = search needs
+
+same-length-2 : tie.Need-same-length-2 Inv-loop μ-loop
+same-length-2 c = search needs
+
+returns : tie.Need-returns Inv-loop μ-loop
+returns c =
+    let at-loop = c .before in
+    let at-start = c .before .before .before .before .before in
+    let e : at-loop .loop .s ≡ at-start .args .states = omega arith in
+    rw e at (at-loop .loop .inv .3)
+
+pub rank-states-spec : {M : Type 1} → statement M
+rank-states-spec =
+    tie.close
+    (tie.spec
+    Inv-loop
+    μ-loop
+    loop-holds
+    has-requires
+    cast-ranks
+    mul-ranks
+    slice-write-ranks
+    cast-kept
+    mul-kept
+    slice-write-kept
+    add-count
+    add-s
+    loop-less
+    loop-again
+    same-length
+    same-length-2
+    returns)

@@ -1,0 +1,237 @@
+-- Ranks: the states of a machine that are kept, numbered from 0 on, so that a set of them takes few words. Kept are the start and all states
+-- from which an accepting state may be reached (Useful), so that a search may leave the others out. A state is kept where its rank is below
+-- the number of those that are; where it is left out its rank is 256.
+use Prim.Native.Nat.{ℕ, _+_, _/_, _%_, _≤_, _<_}
+use mathlib.Core.List.{List}
+use mathlib.Core.Logic.{_↔_, _⊎_, inl, inr}
+use mathlib.Core.Path.{_≡_, sym, ap, _∙_, subst}
+use native.Mathlib.Decide.{ℕ-discrete}
+use native.Mathlib.Omega.{arith}
+use lib.ListN.{length, getD, set, replicate, length-replicate, getD-replicate}
+use lib.Seq.{getD-set-same, getD-set-other}
+use Rattle.theory.specs.Places.{Member}
+use Rattle.theory.specs.PlacesLaws.{member-none}
+use Rattle.answering.specs.Pairs.{place, Has, put, zero-at, has-put-there, has-put-new, has-put-kept}
+use Rattle.answering.specs.Useful.{InSet, nextOf, Useful, in-set, set-place}
+
+-- The ranks of the states and, by their ranks, the states that are kept.
+pub record Ranks (next : List ℕ) (lists states : ℕ) (flags ranks kept : List ℕ) (count : ℕ) : Type 0 where
+  pub few : count ≤ states
+  pub some : 0 < count
+  pub first : getD ranks 0 0 ≡ 0
+  pub inside : (r : ℕ) → r < count → getD kept r 0 < states
+  pub back : (s : ℕ) → s < states → getD ranks s 0 < count → getD kept (getD ranks s 0) 0 ≡ s
+  pub accepting : (s : ℕ) → s < states → getD flags s 0 ≡ 1 → getD ranks s 0 < count
+  pub closed : (s v : ℕ) → s < states → v < lists → nextOf next s v < states → getD ranks (nextOf next s v) 0 < count
+      → getD ranks s 0 < count
+
+-- A state comes into a set of four words.
+
+module _ (l : List ℕ) {states : ℕ} (few : states ≤ 256) (words : 4 ≤ length l) {s : ℕ} (h : s < states) where
+  pub member-room : place 4 0 s < length l
+  member-room = let e = set-place s in omega arith
+
+  pub put-in : InSet (put 4 l 0 s) s
+  put-in = in-set (put 4 l 0 s) s .0 (has-put-new 4 l 0 s (omega arith) member-room)
+
+  pub put-still : (t : ℕ) → InSet l t → InSet (put 4 l 0 s) t
+  put-still t m = in-set (put 4 l 0 s) t .0 (has-put-kept 4 l 0 s (omega arith) member-room 0 t (in-set l t .1 m))
+
+  pub put-only : (t : ℕ) → t < 256 → InSet (put 4 l 0 s) t → InSet l t ⊎ (t ≡ s)
+  put-only t k m = go (has-put-there 4 l 0 s (omega arith) member-room 0 t (omega arith) (in-set (put 4 l 0 s) t .1 m))
+    where
+      go : Has 4 l 0 t ⊎ ((_≡_ {A = ℕ} 0 0) × (t ≡ s)) → InSet l t ⊎ (t ≡ s)
+      go (inl n) = inl (in-set l t .0 n)
+      go (inr (e, f)) = inr f
+
+-- The states below n with flag 1 are added to a set.
+pub record FlaggedAdded (flags : List ℕ) (n : ℕ) (before after : List ℕ) : Type 0 where
+  pub still : (s : ℕ) → InSet before s → InSet after s
+  pub flagged : (s : ℕ) → s < n → getD flags s 0 ≡ 1 → InSet after s
+
+pub flagged-none : (flags before : List ℕ) → FlaggedAdded flags 0 before before
+flagged-none flags before = record { still = λ s m. m; flagged = λ s h. absurd (omega arith) }
+
+pub flagged-put : {flags : List ℕ} {states s : ℕ} {before after : List ℕ} → states ≤ 256 → 4 ≤ length after → s < states
+    → FlaggedAdded flags s before after → FlaggedAdded flags (s + 1) before (put 4 after 0 s)
+flagged-put {flags} {states} {s} {before} {after} few words h f = record {
+  still = λ t m. put-still after few words h t (f .still t m);
+  flagged = λ t l e. go t l e (ℕ-discrete t s);
+}
+  where
+    go : (t : ℕ) → t < s + 1 → getD flags t 0 ≡ 1 → Dec (t ≡ s) → InSet (put 4 after 0 s) t
+    go t l e (yes q) = subst (InSet (put 4 after 0 s)) (sym q) (put-in after few words h)
+    go t l e (no q) = put-still after few words h t (f .flagged t (omega arith) e)
+
+pub flagged-pass : {flags : List ℕ} {s : ℕ} {before after : List ℕ} → ¬ (getD flags s 0 ≡ 1) → FlaggedAdded flags s before after
+    → FlaggedAdded flags (s + 1) before after
+flagged-pass {flags} {s} {before} {after} d f = record { still = f .still; flagged = λ t l e. go t l e (ℕ-discrete t s) }
+  where
+    go : (t : ℕ) → t < s + 1 → getD flags t 0 ≡ 1 → Dec (t ≡ s) → InSet after t
+    go t l e (yes q) = absurd (d (subst (λ t. getD flags t 0 ≡ 1) q e))
+    go t l e (no q) = f .flagged t (omega arith) e
+
+-- There is room for the ranks of all states, and none has a rank yet.
+pub record RankRoom (states : ℕ) (ranks kept : List ℕ) : Type 0 where
+  pub few : states ≤ 256
+  pub ranks-fit : states ≤ length ranks
+  pub kept-fit : states ≤ length kept
+  pub unranked : (s : ℕ) → s < states → getD ranks s 0 ≡ 256
+
+pub unranked : {states : ℕ} → states ≤ 256 → RankRoom states (replicate 256 256) (replicate 256 0)
+unranked {states} h = record {
+  few = h;
+  ranks-fit = let e = length-replicate {A = ℕ} 256 256 in omega arith;
+  kept-fit = let e = length-replicate {A = ℕ} 256 0 in omega arith;
+  unranked = λ s l. getD-replicate 256 s 256 0 (omega arith);
+}
+
+-- The states of the set below n have their ranks.
+pub record Ranked (set : List ℕ) (states n : ℕ) (ranks kept : List ℕ) (count : ℕ) : Type 0 where
+  pub few : count ≤ n
+  pub inside : (r : ℕ) → r < count → getD kept r 0 < n
+  pub ranked : (s : ℕ) → s < states
+      → ((getD ranks s 0 < count) × (getD kept (getD ranks s 0) 0 ≡ s) × InSet set s) ⊎ (getD ranks s 0 ≡ 256)
+  pub all : (s : ℕ) → s < n → InSet set s → getD ranks s 0 < count
+  pub first : 0 < n → InSet set 0 → getD ranks 0 0 ≡ 0
+
+pub ranked-none : {set : List ℕ} {states : ℕ} {ranks kept : List ℕ} → RankRoom states ranks kept → Ranked set states 0 ranks kept 0
+ranked-none b = record {
+  few = omega arith;
+  inside = λ r h. absurd (omega arith);
+  ranked = λ s h. inr (b .unranked s h);
+  all = λ s h. absurd (omega arith);
+  first = λ h. absurd (omega arith);
+}
+
+module _ {l : List ℕ} {states n : ℕ} {ranks kept : List ℕ} {count : ℕ} (g : Ranked l states n ranks kept count) where
+  -- The state n is left out ..
+  pub ranked-out : ¬ InSet l n → Ranked l states (n + 1) ranks kept count
+  ranked-out d = record {
+    few = let f = g .few in omega arith;
+    inside = λ r h. let f = g .inside r h in omega arith;
+    ranked = g .ranked;
+    all = λ s h m. all' s h m (ℕ-discrete s n);
+    first = λ h m. first' m (ℕ-discrete n 0);
+  }
+    where
+      all' : (s : ℕ) → s < n + 1 → InSet l s → Dec (s ≡ n) → getD ranks s 0 < count
+      all' s h m (yes e) = absurd (d (subst (InSet l) e m))
+      all' s h m (no e) = g .all s (omega arith) m
+
+      first' : InSet l 0 → Dec (n ≡ 0) → getD ranks 0 0 ≡ 0
+      first' m (yes e) = absurd (d (subst (InSet l) (sym e) m))
+      first' m (no e) = g .first (omega arith) m
+
+  -- .. or gets the next rank.
+  module _ (h : n < states) (few : states ≤ 256) (fits : n < length ranks) (fits' : count < length kept) (m : InSet l n) where
+    own : getD (set ranks n count) n 0 ≡ count
+    own = getD-set-same ranks n count 0 fits
+
+    other : (s : ℕ) → ¬ (s ≡ n) → getD (set ranks n count) s 0 ≡ getD ranks s 0
+    other s d = getD-set-other ranks n s count 0 d
+
+    listed : getD (set kept count n) count 0 ≡ n
+    listed = getD-set-same kept count n 0 fits'
+
+    before : (r : ℕ) → r < count → getD (set kept count n) r 0 ≡ getD kept r 0
+    before r l = getD-set-other kept count r n 0 (λ e. omega arith)
+
+    pub ranked-next : Ranked l states (n + 1) (set ranks n count) (set kept count n) (count + 1)
+    ranked-next = record {
+      few = let f = g .few in omega arith;
+      inside = λ r k. inside' r k (ℕ-discrete r count);
+      ranked = λ s k. ranked' s k (ℕ-discrete s n);
+      all = λ s k i. all' s k i (ℕ-discrete s n);
+      first = λ k i. first' i (ℕ-discrete n 0);
+    }
+      where
+        inside' : (r : ℕ) → r < count + 1 → Dec (r ≡ count) → getD (set kept count n) r 0 < n + 1
+        inside' r k (yes e) = omega (arith, ap (λ r. getD (set kept count n) r 0) e, listed)
+        inside' r k (no e) = omega (arith, before r (omega arith), g .inside r (omega arith))
+
+        ranked' : (s : ℕ) → s < states → Dec (s ≡ n)
+            → ((getD (set ranks n count) s 0 < count + 1) × (getD (set kept count n) (getD (set ranks n count) s 0) 0 ≡ s) × InSet l s)
+            ⊎ (getD (set ranks n count) s 0 ≡ 256)
+        ranked' s k (yes e) =
+            let p : getD (set ranks n count) s 0 ≡ count = ap (λ s. getD (set ranks n count) s 0) e ∙ own in
+            inl (omega arith, ap (λ r. getD (set kept count n) r 0) p ∙ listed ∙ sym e, subst (InSet l) (sym e) m)
+        ranked' s k (no e) = go (g .ranked s k)
+          where
+            go : ((getD ranks s 0 < count) × (getD kept (getD ranks s 0) 0 ≡ s) × InSet l s) ⊎ (getD ranks s 0 ≡ 256)
+                → ((getD (set ranks n count) s 0 < count + 1) × (getD (set kept count n) (getD (set ranks n count) s 0) 0 ≡ s) × InSet l s)
+                ⊎ (getD (set ranks n count) s 0 ≡ 256)
+            go (inl (a, b, i)) =
+                let q = other s e in
+                inl (omega arith, ap (λ r. getD (set kept count n) r 0) q ∙ before (getD ranks s 0) a ∙ b, i)
+            go (inr a) = inr (other s e ∙ a)
+
+        all' : (s : ℕ) → s < n + 1 → InSet l s → Dec (s ≡ n) → getD (set ranks n count) s 0 < count + 1
+        all' s k i (yes e) = omega (arith, ap (λ s. getD (set ranks n count) s 0) e, own)
+        all' s k i (no e) = omega (arith, other s e, g .all s (omega arith) i)
+
+        first' : InSet l 0 → Dec (n ≡ 0) → getD (set ranks n count) 0 0 ≡ 0
+        first' i (yes e) = let f = g .few in omega (arith, ap (λ s. getD (set ranks n count) s 0) e, own)
+        first' i (no e) = other 0 (λ q. e (sym q)) ∙ g .first (omega arith) i
+
+-- The useful states have their ranks.
+pub ranks-made : {next : List ℕ} {lists states : ℕ} {flags : List ℕ} {start seeds useful ranks kept : List ℕ} {count : ℕ} → 0 < states
+    → states ≤ 256 → InSet start 0 → FlaggedAdded flags states start seeds → Useful next lists states seeds useful
+    → Ranked useful states states ranks kept count → Ranks next lists states flags ranks kept count
+ranks-made {next} {lists} {states} {flags} {start} {seeds} {useful} {ranks} {kept} {count} some few begin f u g = record {
+  few = g .few;
+  some = let l = g .all 0 some zero-in in omega arith;
+  first = g .first some zero-in;
+  inside = g .inside;
+  back = λ s h l. back' s h l (g .ranked s h) .0;
+  accepting = λ s h e. g .all s h (u .accepting s h (f .flagged s h e));
+  closed = λ s v h k b l. g .all s h (u .closed s h v k b (back' (nextOf next s v) b l (g .ranked (nextOf next s v) b) .1));
+}
+  where
+    zero-in : InSet useful 0
+    zero-in = u .accepting 0 some (f .still 0 begin)
+
+    back' : (s : ℕ) → s < states → getD ranks s 0 < count
+        → ((getD ranks s 0 < count) × (getD kept (getD ranks s 0) 0 ≡ s) × InSet useful s) ⊎ (getD ranks s 0 ≡ 256)
+        → (getD kept (getD ranks s 0) 0 ≡ s) × InSet useful s
+    back' s h l (inl (a, b, m)) = (b, m)
+    back' s h l (inr e) = absurd (let q = g .few in omega arith)
+
+-- The ranks below n of states with flag 1; nothing else is in the words.
+pub record AcceptedRanks (flags kept : List ℕ) (n : ℕ) (accepts : List ℕ) : Type 0 where
+  pub exactly : (r : ℕ) → r < 256 → InSet accepts r ↔ ((r < n) × (getD flags (getD kept r 0) 0 ≡ 1))
+
+pub accepted-none : (flags kept : List ℕ) (n : ℕ) → AcceptedRanks flags kept 0 (replicate n 0)
+accepted-none flags kept n = record {
+  exactly = λ r h. (
+    λ m. absurd (member-none (r % 64) (subst (Member (r % 64)) (zero-at n (r / 64)) m)),
+    λ m. absurd (omega arith),
+  );
+}
+
+module _ {flags kept : List ℕ} {n : ℕ} {l : List ℕ} (a : AcceptedRanks flags kept n l) where
+  pub accepted-pass : ¬ (getD flags (getD kept n 0) 0 ≡ 1) → AcceptedRanks flags kept (n + 1) l
+  accepted-pass d = record {
+    exactly = λ r h. (
+      λ m. let (b, e) = a .exactly r h .0 m in (omega arith, e),
+      λ (b, e). a .exactly r h .1 (below r b e (ℕ-discrete r n), e),
+    );
+  }
+    where
+      below : (r : ℕ) → r < n + 1 → getD flags (getD kept r 0) 0 ≡ 1 → Dec (r ≡ n) → r < n
+      below r b e (yes q) = absurd (d (subst (λ r. getD flags (getD kept r 0) 0 ≡ 1) q e))
+      below r b e (no q) = omega arith
+
+  pub accepted-put : {count : ℕ} → count ≤ 256 → 4 ≤ length l → n < count → getD flags (getD kept n 0) 0 ≡ 1
+      → AcceptedRanks flags kept (n + 1) (put 4 l 0 n)
+  accepted-put few words h e = record {
+    exactly = λ r k. (λ m. there r k (put-only l few words h r k m), λ (b, f). back r k b f (ℕ-discrete r n));
+  }
+    where
+      there : (r : ℕ) → r < 256 → InSet l r ⊎ (r ≡ n) → (r < n + 1) × (getD flags (getD kept r 0) 0 ≡ 1)
+      there r k (inl m) = let (b, f) = a .exactly r k .0 m in (omega arith, f)
+      there r k (inr q) = (omega arith, subst (λ r. getD flags (getD kept r 0) 0 ≡ 1) (sym q) e)
+
+      back : (r : ℕ) → r < 256 → r < n + 1 → getD flags (getD kept r 0) 0 ≡ 1 → Dec (r ≡ n) → InSet (put 4 l 0 n) r
+      back r k b f (yes q) = subst (InSet (put 4 l 0 n)) (sym q) (put-in l few words h)
+      back r k b f (no q) = put-still l few words h r (a .exactly r k .1 (omega arith, f))
