@@ -5,7 +5,7 @@ use mathlib.Core.List.{List}
 use lib.ListN.{getD}
 use Rattle.places.specs.Words.{Words}
 use Rattle.places.proofs.Held.{array-count, array-words}
-use Rattle.syntax.proofs.Values.{values, value-at}
+use Rattle.syntax.specs.Values.{values, value-at}
 use Rattle.verdict.specs.PairIndex.{lowWeight, highWeight, Summed}
 use Rattle.verdict.specs.PairIndexLaws.{halves-small, summed-start, summed-turn, summed-end}
 use native.Mathlib.Omega.{arith}
