@@ -30,12 +30,12 @@ pub mod Grown
 pub mod SetSearch
 pub mod SetRows
 pub mod SetSteps
-pub mod WordSteps
 pub mod SetSearchRun
+pub mod PlaceSteps
+pub mod WordSteps
 pub mod Marks
 pub mod MarksSteps
 pub mod SetMarks
-pub mod PlaceSets
 pub mod PlaceSearch
 pub mod Useful
 pub mod Ranks

@@ -1,10 +1,9 @@
 -- The steps of marking by the places of an automaton (LinksCore): what the search and the marks promise together, and the standings told.
-use Prim.Native.Nat.{ℕ, _*_, _^_, _≤_, _<_}
+use Prim.Native.Nat.{ℕ, _*_, _^_, _<_}
 use mathlib.Core.List.{List, [], _∷_, _++_}
 use mathlib.Core.Path.{_≡_, refl, sym, ap, ap₂, _∙_, subst}
-use native.Mathlib.Nat.{mul-le-mul}
 use native.Mathlib.Omega.{arith}
-use lib.ListN.{length, getD, drop, replicate, take-append-drop}
+use lib.ListN.{getD, drop, replicate, take-append-drop}
 use Rattle.theory.specs.Graph.{Table}
 use Rattle.theory.specs.Automaton.{Automaton, step}
 use Rattle.theory.specs.Exploration.{Entry, Exploration, all, over}
@@ -18,10 +17,10 @@ use Rattle.answering.specs.Table.{IsTable}
 use Rattle.answering.specs.TableLaws.{is-table-exactly}
 use Rattle.answering.specs.Answer.{linkMachine}
 use Rattle.answering.specs.Cleared.{Cleared}
-use Rattle.answering.specs.SetSearch.{SetSearchable, SetSearched}
+use Rattle.answering.specs.Links.{table-sorted}
 use Rattle.answering.specs.Marks.{Markable, MarksSet}
 use Rattle.answering.specs.SetMarks.{marks-accepted}
-use Rattle.answering.specs.PlaceSets.{PlaceCount, PlaceSets}
+use Rattle.answering.specs.PlaceSteps.{PlacesSearchable, PlacesSearched}
 use Rattle.answering.specs.PlaceSearch.{accepted-marked}
 use Rattle.answering.specs.LinksCore.{Lent, StandingsMarked, LinksGiven, LinksTold}
 
@@ -38,31 +37,17 @@ module _ (follow enter : List ℕ) (accepting labels : ℕ) where
     is : IsTable N labels table
     is = is-table-exactly N labels table .0 (g .is-table)
 
-    searchable : {sets : List ℕ} {places start : ℕ} {before workspace : List ℕ} → PlaceCount follow places → 2048 ≤ length sets
-        → Lent N start before workspace → SetSearchable sets labels 1 places N start workspace
-    searchable {sets} {places} c h l =
-        let k = g .few-labels in
-        let m : labels * places ≤ 32 * 64 = mul-le-mul k (c .most) in
-        record {
-          some = c .some;
-          width = let b = c .most in omega arith;
-          few-words = omega arith;
-          few-symbols = k;
-          few = l .few;
-          begins = l .begins;
-          room = let r = l .room in omega arith;
-          rows = omega arith;
-        }
+    searchable : {start : ℕ} {before workspace : List ℕ} → Lent N start before workspace → PlacesSearchable enter labels N start workspace
+    searchable l = record { few-labels = g .few-labels; enters = g .enters; few = l .few; begins = l .begins; room = l .room }
 
     -- What the search and the marks promise together.
-    pub places-marked : {sets : List ℕ} {places start : ℕ} {before workspace reached after workspace′ : List ℕ} {r : ℕ}
+    pub places-marked : {start : ℕ} {before workspace reached after workspace′ : List ℕ} {r : ℕ}
         → ((i : ℕ) → getD enter i 0 < 2 ^ 64) → ((i : ℕ) → getD reached i 0 < 2 ^ 64)
-        → Lent N start before workspace → PlaceSets follow enter labels sets places → 2048 ≤ length sets
-        → SetSearched sets labels 1 places table N start workspace reached
+        → Lent N start before workspace → PlacesSearched follow enter labels table N start workspace reached
         → MarksSet 1 reached (accepting ∷ (0 ∷ (0 ∷ (0 ∷ [])))) N before after r → Cleared N reached workspace′
         → StandingsMarked A labels N table start before workspace after workspace′ r
-    places-marked {sets} {places} {start} {before} {workspace} {reached} {after} {workspace′} {r} enters bits l p h s m d found e =
-        let fit : SetSearchable sets labels 1 places N start workspace = searchable (p .count) h l in
+    places-marked {start} {before} {workspace} {reached} {after} {workspace′} {r} enters bits l s m d found e =
+        let fit = searchable l in
         let size = s .same-length in
         let room = l .room in
         let markable : Markable 1 N reached before = record {
@@ -71,9 +56,10 @@ module _ (follow enter : List ℕ) (accepting labels : ℕ) where
           room = omega arith;
           marks-fit = l .marks-fit;
         } in
+        let accepted = accepted-marked follow enter accepting labels enters (s .count) is reached fit (s .sound fit)
+        (s .complete fit (table-sorted is)) 64 found e in
         let (t, b, n) =
-        marks-accepted (linkMachine A (values found)) N table start 1 reached (accepting ∷ (0 ∷ (0 ∷ (0 ∷ [])))) bits
-        (accepted-marked follow enter accepting labels enters p is fit s 64 found e) markable m in
+        marks-accepted (linkMachine A (values found)) N table start 1 reached (accepting ∷ (0 ∷ (0 ∷ (0 ∷ [])))) bits accepted markable m in
         let z : drop N reached ≡ drop N workspace = subst (λ k. drop k reached ≡ drop k workspace) one-row (s .beyond fit) in
         record {
           told = n;

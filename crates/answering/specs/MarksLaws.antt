@@ -1,6 +1,6 @@
 -- What the marks tell (Product): a recording is marked exactly when a path leads to it that ends in an accepting state; there is one mark
 -- for each recording, 0 or 1; and the number of ones is the number of marked recordings.
-use Prim.Native.Nat.{ℕ, zero, suc, _+_, _*_, _-_, _/_, _%_, _^_, _<_}
+use Prim.Native.Nat.{ℕ, zero, suc, _+_, _*_, _/_, _%_, _^_, _<_}
 use mathlib.Core.Bool.{Bool, true, false, not, false≢true}
 use mathlib.Core.List.{List, [], _∷_}
 use mathlib.Core.Logic.{_↔_, _⊎_, inl, inr, Iff·trans}

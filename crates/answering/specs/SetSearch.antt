@@ -14,12 +14,12 @@ use Rattle.answering.specs.Pairs.{Has}
 abbrev pub Steps : List ℕ → ℕ → ℕ → ℕ → ℕ → ℕ → Type 0
 Steps sets k w s a t = Has w sets (k * s + a) t
 
--- The pairs of a recording and a state that links lead to from the start in state 0, with ends below N, symbols below k, and steps from
--- states below `states`.
-pub data SetFound (sets : List ℕ) (k w states : ℕ) (table : Table) (N start : ℕ) : ℕ → ℕ → Type 0 where
-  begins : SetFound sets k w states table N start start 0
-  onward : {x s a y t : ℕ} → SetFound sets k w states table N start x s → s < states → Linked table x a y → a < k → y < N → t < 64 * w
-      → Steps sets k w s a t → SetFound sets k w states table N start y t
+-- The pairs of a recording and a state that links lead to from the start in state 0, with ends below N, symbols below k, and steps of an
+-- automaton from states below `states`.
+pub data SetFound (Step : ℕ → ℕ → ℕ → Type 0) (k w states : ℕ) (table : Table) (N start : ℕ) : ℕ → ℕ → Type 0 where
+  begins : SetFound Step k w states table N start start 0
+  onward : {x s a y t : ℕ} → SetFound Step k w states table N start x s → s < states → Linked table x a y → a < k → y < N → t < 64 * w
+      → Step s a t → SetFound Step k w states table N start y t
 
 -- The sizes fit: states in their words, words in the lent ones, the start among the recordings, and a row of words for each state and
 -- symbol.
@@ -41,8 +41,9 @@ pub record SetFitting (sets : List ℕ) (k w states N start : ℕ) (reached : Li
 -- What the search promises: the words hold exactly the pairs found, where the table is sorted.
 pub record SetSearched (sets : List ℕ) (k w states : ℕ) (table : Table) (N start : ℕ) (before after : List ℕ) : Type 0 where
   pub sound : SetSearchable sets k w states N start before → (y t : ℕ) → y < N → t < 64 * w → Has w after y t
-      → SetFound sets k w states table N start y t
-  pub complete : SetSearchable sets k w states N start before → SortedByFrom table → (y t : ℕ) → SetFound sets k w states table N start y t
+      → SetFound (Steps sets k w) k w states table N start y t
+  pub complete : SetSearchable sets k w states N start before → SortedByFrom table → (y t : ℕ)
+      → SetFound (Steps sets k w) k w states table N start y t
       → Has w after y t
   pub beyond : SetSearchable sets k w states N start before → drop (w * N) after ≡ drop (w * N) before
   pub same-length : length after ≡ length before

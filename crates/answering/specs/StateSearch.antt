@@ -3,7 +3,7 @@
 use Prim.Native.Nat.{ℕ, _*_, _≤_, _<_}
 use mathlib.Core.List.{List, [], _∷_, _++_}
 use mathlib.Core.Logic.{_↔_}
-use mathlib.Core.Path.{_≡_, refl, sym, ap, _∙_, subst}
+use mathlib.Core.Path.{_≡_, sym, ap, _∙_, subst}
 use native.Mathlib.Omega.{arith}
 use lib.ListN.{getD}
 use Rattle.theory.specs.Graph as G
@@ -17,7 +17,7 @@ use Rattle.answering.specs.ProductLaws.{endsAt, ends-within, ends-more}
 use Rattle.answering.specs.MarksLaws.{mark-exactly}
 use Rattle.answering.specs.Links.{table-sorted}
 use Rattle.answering.specs.LentMachine.{Runs, stays}
-use Rattle.answering.specs.SetSearch.{SetFound, begins, onward, SetSearchable, SetSearched}
+use Rattle.answering.specs.SetSearch.{Steps, SetFound, begins, onward, SetSearchable, SetSearched}
 use Rattle.answering.specs.SetMarks.{AcceptedAt}
 use Rattle.answering.specs.Useful.{nextOf}
 use Rattle.answering.specs.Ranks.{Ranks, AcceptedRanks}
@@ -50,7 +50,7 @@ module _ {M : Machine} {next : List ℕ} {lists states w : ℕ} {table : Table} 
       ap (λ i. getD kept i 0) (sym e) ∙ k .back 0 (omega arith) (omega arith)
 
   -- What was found has a path ..
-  found-path : (start : ℕ) {y q : ℕ} → SetFound sets lists w count table N start y q
+  found-path : (start : ℕ) {y q : ℕ} → SetFound (Steps sets lists w) lists w count table N start y q
       → (p : List ℕ) × (q < count) × Leads table p start y × (endsAt M 0 p ≡ getD kept q 0)
   unfolding endsAt
   found-path start begins = ([], k .some, stay, sym start-kept)
@@ -78,8 +78,8 @@ module _ {M : Machine} {next : List ℕ} {lists states w : ℕ} {table : Table} 
 
   -- .. so that all of it was found.
   path-found : (start : ℕ) {p : List ℕ} {x y s : ℕ} → Leads table p x y → s < states → Kept (endsAt M s p)
-      → SetFound sets lists w count table N start x (getD ranks s 0)
-      → SetFound sets lists w count table N start y (getD ranks (endsAt M s p) 0)
+      → SetFound (Steps sets lists w) lists w count table N start x (getD ranks s 0)
+      → SetFound (Steps sets lists w) lists w count table N start y (getD ranks (endsAt M s p) 0)
   unfolding endsAt Kept
   path-found start stay h m f = f
   path-found start {s = s} (G.along {a = a} {x = x} {y = y} l more) h m f =
@@ -132,5 +132,5 @@ module _ {M : Machine} {next : List ℕ} {lists states w : ℕ} {table : Table} 
           let c = k .accepting (endsAt M 0 p) b f in
           let n = most in
           let i = a .exactly (getD ranks (endsAt M 0 p) 0) (omega arith) .1 (c, ap (λ s. getD flags s 0) (k .back (endsAt M 0 p) b c) ∙ f) in
-          let g = path-found start l some c (subst (SetFound sets lists w count table N start start) (sym (k .first)) begins) in
+          let g = path-found start l some c (subst (SetFound (Steps sets lists w) lists w count table N start start) (sym (k .first)) begins) in
           (getD ranks (endsAt M 0 p) 0, omega arith, q .complete fit (table-sorted is) y (getD ranks (endsAt M 0 p) 0) g, i)

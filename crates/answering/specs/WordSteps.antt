@@ -1,17 +1,20 @@
 -- The steps of the search where each set of states is one word (SetSteps): the next states of all that is pending at a recording, and the
 -- states that one link brings.
-use Prim.Native.Nat.{ℕ, _+_, _-_, _*_, _/_, _%_, _^_, _≤_, _<_}
-use mathlib.Core.List.{List}
+use Prim.Native.Nat.{ℕ, suc, _+_, _-_, _*_, _/_, _%_, _^_, _≤_, _<_}
+use mathlib.Core.Bool.{Bool, true, false, false≢true}
+use mathlib.Core.List.{List, [], _∷_}
 use mathlib.Core.Logic.{_↔_, _⊎_, inl, inr}
 use mathlib.Core.Path.{_≡_, refl, sym, ap, _∙_, subst, subst₂}
-use native.Mathlib.Decide.{ℕ-discrete}
-use native.Mathlib.Nat.{one-mul}
+use native.Mathlib.Decide.{ℕ-discrete, decLt}
+use native.Mathlib.Nat.{one-mul, mul-le-mul-left, mod-eq-of-lt}
 use native.Mathlib.Omega.{arith}
 use lib.Bits.{bitAnd, bitXor, and-mask, or-zero-r}
 use lib.ListN.{length, getD, set, length-set}
+use lib.Pow.{pow-lt}
 use lib.Seq.{set-getD}
 use Rattle.theory.specs.Places.{Member, union, unionOver}
-use Rattle.theory.specs.PlacesLaws.{member-union, member-intersection, member-unionOver, equal-members}
+use Rattle.theory.specs.PlacesLaws.{member-none, member-one, member-below, member-union, member-intersection, member-unionOver}
+use Rattle.theory.specs.PlacesLaws.{equal-members}
 use Rattle.theory.specs.PlacesShift.{member-cut}
 use Rattle.theory.specs.PlacesWithin.{member-without}
 use Rattle.answering.specs.ProductLaws.{node-below}
@@ -20,7 +23,9 @@ use Rattle.answering.specs.WordsFrom.{Zeroed, zeroed-none, zeroed-more}
 use Rattle.answering.specs.Waiting.{waiting-behind, waiting-most}
 use Rattle.answering.specs.Grown.{Ready}
 use Rattle.answering.specs.SetRows.{wordOf, newOf, United, SomeNew, united-none, united-more, none-new, some-new}
-use Rattle.answering.specs.SetSteps.{Spread, StatesAdded, states-known, states-stay, states-push}
+use Rattle.answering.specs.SetSearch.{Steps}
+use Rattle.answering.specs.SetSteps.{Spread, StatesAdded, added-same, states-known, states-stay, states-push}
+use Rattle.answering.specs.PlaceSteps.{PlaceStep}
 
 -- The place of a recording's only word.
 word-place : (y : ℕ) → 1 * y + 0 ≡ y
@@ -35,9 +40,79 @@ has-word l y t h =
 
 -- The next states of what is pending.
 
--- The next states over the symbol a, of k symbols, of a set of states.
+-- The words number a of the rows of a set's states, k words each, united.
 abbrev pub imageOf : List ℕ → ℕ → ℕ → ℕ → ℕ
-imageOf sets k states a = unionOver (λ s. getD sets (k * s + a) 0) 64 states
+imageOf rows k states a = unionOver (λ s. getD rows (k * s + a) 0) 64 states
+
+-- The steps that rows give, which may be cut by a word of each symbol, and how many words n states have.
+abbrev pub WordStep : Bool → List ℕ → ℕ → List ℕ → ℕ → ℕ → ℕ → Type 0
+WordStep true rows k enter s a t = PlaceStep rows enter s a t
+WordStep false rows k enter s a t = Steps rows k 1 s a t
+
+abbrev pub rowsOf : Bool → ℕ → ℕ → ℕ
+rowsOf true k n = n
+rowsOf false k n = 1 * (k * n)
+
+-- The states of an image that are in one word.
+abbrev pub WordImage : List ℕ → ℕ → ℕ → ℕ → Type 0
+WordImage images next a t = Member t (getD images a 0) × Member t next
+
+-- The states have their words, and the symbols their images.
+pub record NextRoom (cut : Bool) (k : ℕ) (rows : List ℕ) (states : ℕ) (images : List ℕ) : Type 0 where
+  pub inside : (s : ℕ) → Member s states → rowsOf cut k (s + 1) ≤ length rows
+  pub fits : k ≤ length images
+
+-- The images have the next states of a set.
+pub record NextImages (cut : Bool) (k : ℕ) (rows : List ℕ) (states : ℕ) (images images' : List ℕ) (next : ℕ) : Type 0 where
+  pub exactly : (a t : ℕ) → a < k → t < 64 → WordImage images' next a t ↔ ((s : ℕ) × Member s states × WordStep cut rows k images s a t)
+  pub same : cut ≡ true → images' ≡ images
+
+-- The images stay as they are where the rows are cut ..
+pub cut-images : {cut : Bool} (k : ℕ) (rows : List ℕ) {states : ℕ} (images : List ℕ) {next : ℕ} → cut ≡ true → states < 2 ^ 64
+    → next ≡ imageOf rows 1 states 0 → NextImages cut k rows states images images next
+cut-images {cut} k rows {states} images {next} c small e =
+    subst (λ cut. NextImages cut k rows states images images next) (sym c) (record {
+      exactly = λ a t h l. (
+        λ (i, m).
+            let (s, b, p, q) = member-unionOver row 64 states t .0 (subst (Member t) e m) in
+            (s, p, (rw (word-place s) at q, i)),
+        λ (s, p, (q, i)). (
+          i,
+          subst (Member t) (sym e) (member-unionOver row 64 states t .1 (s, member-below 64 states s small p, p, rw (word-place s) q)),
+        ),
+      );
+      same = λ c. refl;
+    })
+  where
+    row : ℕ → ℕ
+    row s = getD rows (1 * s + 0) 0
+
+-- .. and are made anew where they are not.
+
+ones : (t : ℕ) → t < 64 → Member t 18446744073709551615
+ones t h =
+    let e : bitAnd (2 ^ t) 18446744073709551615 ≡ 2 ^ t = and-mask (2 ^ t) 64 ∙ mod-eq-of-lt (pow-lt h) in
+    member-intersection t (2 ^ t) 18446744073709551615 .0 (subst (Member t) (sym e) (member-one t t .1 refl)) .1
+
+pub spread-images : {cut : Bool} {k : ℕ} {rows : List ℕ} {states : ℕ} {images images' : List ℕ} → cut ≡ false → states < 2 ^ 64
+    → ((a : ℕ) → a < k → getD images' a 0 ≡ imageOf rows k states a)
+    → NextImages cut k rows states images images' 18446744073709551615
+spread-images {cut} {k} {rows} {states} {images} {images'} c small made =
+    subst (λ cut. NextImages cut k rows states images images' 18446744073709551615) (sym c) (record {
+      exactly = λ a t h l. (
+        λ (i, m).
+            let (s, b, p, q) = member-unionOver (row a) 64 states t .0 (subst (Member t) (made a h) i) in
+            (s, p, has-word rows (k * s + a) t l .1 q),
+        λ (s, p, q).
+            let b = member-below 64 states s small p in
+            let i = member-unionOver (row a) 64 states t .1 (s, b, p, has-word rows (k * s + a) t l .0 q) in
+            (subst (Member t) (sym (made a h)) i, ones t l),
+      );
+      same = λ d. absurd (false≢true d);
+    })
+  where
+    row : ℕ → ℕ → ℕ
+    row a s = getD rows (k * s + a) 0
 
 -- The states below n of a set.
 states-cut : (n p s : ℕ) → Member s (bitAnd p (2 ^ n - 1)) ↔ ((s < n) × Member s p)
@@ -46,33 +121,48 @@ states-cut n p s = (
   λ m. rw (and-mask p n) (member-cut n s p .1 m),
 )
 
-pub image-inside : (k n p : ℕ) (sets : List ℕ) {a : ℕ} → 1 * (k * n) ≤ length sets → a < k → (s : ℕ) → Member s (bitAnd p (2 ^ n - 1))
-    → k * s + a < length sets
-image-inside k n p sets h l s m = let q = one-mul (k * n) in omega (arith, node-below k n (states-cut n p s .0 m .0) l)
+rows-more : (cut : Bool) (k n s : ℕ) → s < n → rowsOf cut k (s + 1) ≤ rowsOf cut k n
+rows-more true k n s h = omega arith
+rows-more false k n s h =
+    let m : k * (s + 1) ≤ k * n = mul-le-mul-left k (omega arith) in
+    let e = one-mul (k * (s + 1)) in
+    let f = one-mul (k * n) in
+    omega arith
 
-pub word-spread : {k n : ℕ} {sets : List ℕ} {x : ℕ} {pending : List ℕ} {images : List ℕ} → n ≤ 64
-    → ((a : ℕ) → a < k → getD images a 0 ≡ imageOf sets k (bitAnd (getD pending x 0) (2 ^ n - 1)) a)
-    → Spread 1 k sets x n pending images
-word-spread {k} {n} {sets} {x} {pending} {images} h made = record {
+pub next-room : (cut : Bool) (k n p : ℕ) (rows images : List ℕ) → rowsOf cut k n ≤ length rows → k ≤ length images
+    → NextRoom cut k rows (bitAnd p (2 ^ n - 1)) images
+next-room cut k n p rows images h l = record {
+  inside = λ s m. let g = rows-more cut k n s (states-cut n p s .0 m .0) in omega arith;
+  fits = l;
+}
+
+-- The place of a word of a row.
+pub row-inside : (k s : ℕ) {a m : ℕ} → a < k → 1 * (k * (s + 1)) ≤ m → k * s + a < m
+row-inside k s {a} h l =
+    let e = one-mul (k * (s + 1)) in
+    let n : k * s + a < k * (s + 1) = node-below k (s + 1) (omega arith) h in
+    omega arith
+
+step-kept : (cut : Bool) (rows : List ℕ) (k : ℕ) {images enter : List ℕ} (s a t : ℕ) → (cut ≡ true → images ≡ enter)
+    → WordStep cut rows k images s a t ↔ WordStep cut rows k enter s a t
+step-kept true rows k s a t same =
+    (subst (λ l. PlaceStep rows l s a t) (same refl), subst (λ l. PlaceStep rows l s a t) (sym (same refl)))
+step-kept false rows k s a t same = (λ m. m, λ m. m)
+
+pub words-spread : {cut : Bool} {k n : ℕ} {rows : List ℕ} {x : ℕ} {pending images images' enter : List ℕ} {next : ℕ} → n ≤ 64
+    → (cut ≡ true → images ≡ enter) → NextImages cut k rows (bitAnd (getD pending x 0) (2 ^ n - 1)) images images' next
+    → Spread 1 k (WordStep cut rows k enter) x n pending (WordImage images' next)
+words-spread {cut} {k} {n} {rows} {x} {pending} {images} {images'} {enter} {next} h same made = record {
   exactly = λ a t l b. (
     λ m.
-        let o = subst (Member t) (made a l) (has-word images a t (omega arith) .0 m) in
-        let (s, c, p, q) = member-unionOver (row a) 64 states t .0 o in
+        let (s, p, q) = made .exactly a t l (omega arith) .0 m in
         let (d, i) = states-cut n (getD pending x 0) s .0 p in
-        (s, d, has-word pending x s c .1 i, has-word sets (k * s + a) t (omega arith) .1 q),
+        (s, d, has-word pending x s (omega arith) .1 i, step-kept cut rows k s a t same .0 q),
     λ (s, d, p, q).
-        let c : s < 64 = omega arith in
-        let i = states-cut n (getD pending x 0) s .1 (d, has-word pending x s c .0 p) in
-        let o = member-unionOver (row a) 64 states t .1 (s, c, i, has-word sets (k * s + a) t (omega arith) .0 q) in
-        has-word images a t (omega arith) .1 (subst (Member t) (sym (made a l)) o),
+        let i = states-cut n (getD pending x 0) s .1 (d, has-word pending x s (omega arith) .0 p) in
+        made .exactly a t l (omega arith) .1 (s, i, step-kept cut rows k s a t same .1 q),
   );
 }
-  where
-    states : ℕ
-    states = bitAnd (getD pending x 0) (2 ^ n - 1)
-
-    row : ℕ → ℕ → ℕ
-    row a s = getD sets (k * s + a) 0
 
 -- The only word of a recording has become zero.
 pub zeroed-one : (x : ℕ) (l : List ℕ) → Zeroed (1 * x) 1 l (set l x 0)
@@ -80,25 +170,23 @@ zeroed-one x l = rw (word-place x) at (zeroed-more (zeroed-none (1 * x) l))
 
 -- The states that one link brings.
 
--- The words of the symbol a and of the recording y are there, and a place behind the stack.
-pub record WordRoom (images : List ℕ) (a y : ℕ) (reached pending stack : List ℕ) (h : ℕ) : Type 0 where
-  pub next : a < length images
+-- The words of the recording y are there, and a place behind the stack.
+pub record WordRoom (y : ℕ) (reached pending stack : List ℕ) (h : ℕ) : Type 0 where
   pub known : y < length reached
   pub waits : y < length pending
   pub behind : h < length stack
   pub small : y < 65536
   pub low : h < 65536
 
-pub word-room : {N : ℕ} {images : List ℕ} {a y : ℕ} {R P S : List ℕ} {h : ℕ} → Ready 1 N R P S h → y < N → a < length images
-    → WordRoom images a y R P S h
-word-room {N} {h = h} r k l =
+pub word-room : {N y : ℕ} {R P S : List ℕ} {h : ℕ} → Ready 1 N R P S h → y < N → WordRoom y R P S h
+word-room {N} {h = h} r k =
     let e = one-mul N in
     let w = r .words in
     let v = r .waiting .words in
     let u = r .waiting .slots in
     let f = r .few in
     let m = waiting-most (r .waiting) in
-    record { next = l; known = omega arith; waits = omega arith; behind = omega arith; small = omega arith; low = omega arith }
+    record { known = omega arith; waits = omega arith; behind = omega arith; small = omega arith; low = omega arith }
 
 -- A height is one more where nothing waited and something is new.
 pub record Raised (h waited new r : ℕ) : Type 0 where
@@ -137,24 +225,38 @@ united-one y new l h =
 ready-behind : {w N : ℕ} {R P S : List ℕ} {h : ℕ} (y : ℕ) → Ready w N R P S h → Ready w N R P (set S h y) h
 ready-behind y r = record { words = r .words; few = r .few; waiting = waiting-behind y (r .waiting) }
 
--- What the symbol a brings that is new at y.
-abbrev pub newWord : List ℕ → ℕ → List ℕ → ℕ → ℕ
-newWord images a reached y = bitXor (union (getD reached y 0) (getD images a 0)) (getD reached y 0)
+-- The states of a word that stands alone.
+alone : (image t : ℕ) → Has 1 (image ∷ []) 0 t → Member t image
+unfolding Has
+alone image t m = go (decLt t 64)
+  where
+    go : Dec (t < 64) → Member t image
+    go (yes h) = has-word (image ∷ []) 0 t h .0 m
+    go (no h) =
+        let e : 1 * 0 + t / 64 ≡ suc (t / 64 - 1) = omega arith in
+        absurd (member-none (t % 64) (subst (λ i. Member (t % 64) (getD (image ∷ []) i 0)) e m))
 
-pub word-added : {N : ℕ} {images : List ℕ} {a y : ℕ} {R P S : List ℕ} {h h' : ℕ} → WordRoom images a y R P S h
-    → getD images a 0 < 2 ^ 64 → Raised h (getD P y 0) (newWord images a R y) h' → Ready 1 N R P S h → y < N
-    → StatesAdded 1 N images a y R P h (set R y (union (getD R y 0) (getD images a 0)))
-    (set P y (union (getD P y 0) (newWord images a R y))) (set S h y) h'
-word-added {N} {images} {a} {y} {R} {P} {S} {h} {h'} room small u r k = go (ℕ-discrete new 0) (ℕ-discrete waited 0)
+-- What an image brings that is new at y.
+abbrev pub newWord : ℕ → List ℕ → ℕ → ℕ
+newWord image reached y = bitXor (union (getD reached y 0) image) (getD reached y 0)
+
+pub word-added : {N image y : ℕ} {R P S : List ℕ} {h h' : ℕ} → WordRoom y R P S h → image < 2 ^ 64
+    → Raised h (getD P y 0) (newWord image R y) h' → Ready 1 N R P S h → y < N
+    → StatesAdded 1 N (λ t. Member t image) y R P h (set R y (union (getD R y 0) image))
+    (set P y (union (getD P y 0) (newWord image R y))) (set S h y) h'
+word-added {N} {image} {y} {R} {P} {S} {h} {h'} room small u r k = go (ℕ-discrete new 0) (ℕ-discrete waited 0)
   where
     old : ℕ
     old = getD R y 0
 
-    image : ℕ
-    image = getD images a 0
+    images : List ℕ
+    images = image ∷ []
+
+    a : ℕ
+    a = 0
 
     new : ℕ
-    new = newWord images a R y
+    new = newWord image R y
 
     waited : ℕ
     waited = getD P y 0
@@ -166,47 +268,62 @@ word-added {N} {images} {a} {y} {R} {P} {S} {h} {h'} room small u r k = go (ℕ-
     P' = set P y (union waited new)
 
     same : new ≡ newOf images (1 * a) R (1 * y) 0
-    same = lacking old image ∙ rw (word-place a, word-place y) refl
+    same = lacking old image ∙ rw (word-place y) refl
 
     nothing : new ≡ 0 → (i : ℕ) → Member i image → Member i old
     nothing z = none-new image old (sym (lacking old image) ∙ z)
 
     known : new ≡ 0 → (j : ℕ) → j < 1 → (i : ℕ) → Member i (wordOf images (1 * a) j) → Member i (wordOf R (1 * y) j)
     known z j l i m =
-        let e : 1 * a + j ≡ a = let p = one-mul a in omega arith in
+        let e : j ≡ 0 = omega arith in
         let f : 1 * y + j ≡ y = let p = one-mul y in omega arith in
-        rw f (nothing z i (rw e at m))
+        rw f (nothing z i (subst (λ j. Member i (wordOf images (1 * a) j)) e m))
 
     R-same : new ≡ 0 → R' ≡ R
-    R-same z = ap (set R y) (equal-members (union old image) old λ i. (λ m. back i (member-union i old image .0 m), λ m. member-union i old image .1 (inl m))) ∙ set-getD R y 0
+    R-same z = ap (set R y) same-word ∙ set-getD R y 0
       where
         back : (i : ℕ) → Member i old ⊎ Member i image → Member i old
         back i (inl m) = m
         back i (inr m) = nothing z i m
 
+        same-word : union old image ≡ old
+        same-word = equal-members (union old image) old λ i. (
+          λ m. back i (member-union i old image .0 m),
+          λ m. member-union i old image .1 (inl m),
+        )
+
     P-same : new ≡ 0 → P' ≡ P
     P-same z = ap (λ n. set P y (union waited n)) z ∙ ap (set P y) (or-zero-r waited) ∙ set-getD P y 0
 
     united : United (1 * y) 1 (wordOf images (1 * a)) R R'
-    united = rw (word-place a) at (united-one y (wordOf images (1 * a)) R (room .known))
+    united = united-one y (wordOf images (1 * a)) R (room .known)
 
     united' : United (1 * y) 1 (newOf images (1 * a) R (1 * y)) P P'
     united' = subst (λ n. United (1 * y) 1 (newOf images (1 * a) R (1 * y)) P (set P y (union waited n))) (sym same)
         (united-one y (newOf images (1 * a) R (1 * y)) P (room .waits))
 
     some : ¬ (new ≡ 0) → SomeNew (1 * y) 1 images (1 * a) R
-    some d = some-new 0 (omega arith) (rw (word-place a) small) (λ z. d (same ∙ z))
+    some d = some-new 0 (omega arith) small (λ z. d (same ∙ z))
 
-    goes : {n : ℕ} → h' ≡ n → StatesAdded 1 N images a y R P h R' P' (set S h y) n → StatesAdded 1 N images a y R P h R' P' (set S h y) h'
-    goes e = subst (StatesAdded 1 N images a y R P h R' P' (set S h y)) (sym e)
+    goes : {R″ P″ : List ℕ} {n : ℕ} → h' ≡ n → R' ≡ R″ → P' ≡ P″ → StatesAdded 1 N (Has 1 images a) y R P h R″ P″ (set S h y) n
+        → StatesAdded 1 N (λ t. Member t image) y R P h R' P' (set S h y) h'
+    goes e f g m =
+        subst₂ (λ R' P'. StatesAdded 1 N (λ t. Member t image) y R P h R' P' (set S h y) h') (sym f) (sym g)
+        (subst (StatesAdded 1 N (λ t. Member t image) y R P h _ _ (set S h y)) (sym e)
+        (added-same (alone image) (λ t l i. has-word images a t (omega arith) .1 i) m))
 
-    go : Dec (new ≡ 0) → Dec (waited ≡ 0) → StatesAdded 1 N images a y R P h R' P' (set S h y) h'
-    go (yes z) w =
-        goes (u .same z) (subst₂ (λ R' P'. StatesAdded 1 N images a y R P h R' P' (set S h y) h) (sym (R-same z)) (sym (P-same z))
-        (states-known (ready-behind y r) (known z)))
+    go : Dec (new ≡ 0) → Dec (waited ≡ 0) → StatesAdded 1 N (λ t. Member t image) y R P h R' P' (set S h y) h'
+    go (yes z) w = goes (u .same z) (R-same z) (P-same z) (states-known images a (ready-behind y r) (known z))
     go (no d) (no w) =
-        goes (u .on w) (states-stay a y (ready-behind y r) k (some d) (length-set R y (union old image)) (length-set P y (union waited new))
-        united united' (0, omega arith, λ z. w (rw (word-place y) at z)))
+        goes (u .on w) refl refl (states-stay a y (ready-behind y r) k (some d) (length-set R y (union old image))
+        (length-set P y (union waited new)) united united' (0, omega arith, λ z. w (rw (word-place y) at z)))
     go (no d) (yes w) =
-        goes (u .up w d) (states-push a y r k (some d) (length-set R y (union old image)) (length-set P y (union waited new))
+        goes (u .up w d) refl refl (states-push a y r k (some d) (length-set R y (union old image)) (length-set P y (union waited new))
         united united' (λ (j, l, n). n (let e : 1 * y + j ≡ y = let p = one-mul y in omega arith in rw e w)))
+
+-- The states of an image that are in one word are those of their intersection.
+pub image-added : {N : ℕ} (images : List ℕ) (next a : ℕ) {y : ℕ} {R P : List ℕ} {h : ℕ} {R' P' S' : List ℕ} {h' : ℕ}
+    → StatesAdded 1 N (λ t. Member t (bitAnd (getD images a 0) next)) y R P h R' P' S' h'
+    → StatesAdded 1 N (WordImage images next a) y R P h R' P' S' h'
+image-added images next a =
+    added-same (λ t m. member-intersection t (getD images a 0) next .0 m) (λ t l m. member-intersection t (getD images a 0) next .1 m)

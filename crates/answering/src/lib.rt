@@ -8,7 +8,7 @@ mod lists_core;
 mod lists_operation;
 mod marks;
 mod pairs;
-mod place_sets;
+mod place_search;
 mod ranks;
 mod rows;
 mod set_search;

@@ -2,8 +2,7 @@
 use super::clear::clear_bytes;
 use super::clear::clear_words;
 use super::marks::mark;
-use super::place_sets::place_sets;
-use super::set_search::search_sets;
+use super::place_search::search_places;
 use finding::standings::Explored;
 use finding::standings::standings;
 ghost use Rattle.finding.specs.Plain.{plain};
@@ -34,18 +33,7 @@ fn mark_places(
         → StandingsMarked (plain (now (follow .entry)) (now (enter .entry)) accepting) labels recordings (now (table .entry)) start
         (now (marks .entry)) (now (workspace .entry)) (now (marks .exit)) (now (workspace .exit)) r) ⌝ }
 {
-    let mut sets: [u64; 2048] = [0; 2048];
-    let places = place_sets(follow, enter, labels, &mut sets);
-    search_sets(
-        &sets,
-        labels,
-        1,
-        places,
-        table,
-        recordings,
-        start,
-        workspace,
-    );
+    search_places(follow, enter, labels, table, recordings, start, workspace);
     let accepts: [u64; 4] = [accepting, 0, 0, 0];
     let ones = mark(workspace, 1, &accepts, recordings, marks);
     clear_words(workspace, recordings as usize);

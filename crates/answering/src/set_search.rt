@@ -18,16 +18,17 @@ ghost use Prim.Native.Nat.{_+_, _*_, _≤_, _<_};
 ghost use lib.ListN.{length};
 ghost use Rattle.answering.specs.Links.{FirstLink};
 ghost use Rattle.answering.specs.LinkBegins.{LinkBegins};
+ghost use Rattle.answering.specs.Pairs.{Has};
 ghost use Rattle.answering.specs.Grown.{Ready};
-ghost use Rattle.answering.specs.SetSearch.{SetFitting, SetSearched};
+ghost use Rattle.answering.specs.SetSearch.{Steps, SetFitting, SetSearched};
 ghost use Rattle.answering.specs.SetSteps.{Spreading, Spread, StatesAdded, RowFollowed, RowsFollowed};
-ghost use Rattle.answering.specs.SetSearchRun.{SetBeginning, SetStarting, SetAllFound};
+ghost use Rattle.answering.specs.SetSearchRun.{SetBeginning, ImagesBlank, SetStarting, SetAllFound};
 
 // The next states, over each symbol, of all states that are pending at the recording x.
 fn spread(sets: &[u64], sizes: Sizes, x: usize, pending: &[u64], images: &mut [u64])
     requires { ⌜ Spreading (sizes .words) (sizes .symbols) (sizes .states) (now sets) x (now pending) (now images) ⌝ }
-    ensures { λ _. ⌜ Spread (sizes .words) (sizes .symbols) (now (sets .entry)) x (sizes .states) (now (pending .entry))
-        (now (images .exit)) ⌝ }
+    ensures { λ _. ⌜ Spread (sizes .words) (sizes .symbols) (Steps (now (sets .entry)) (sizes .symbols) (sizes .words)) x (sizes .states)
+        (now (pending .entry)) (Has (sizes .words) (now (images .exit))) ⌝ }
 {
     let row = sizes.words * sizes.symbols;
     zero_from(images, 0, row);
@@ -52,7 +53,7 @@ fn add_states(
 ) -> usize
     requires { ⌜ Ready (sizes .words) (sizes .recordings) (now reached) (now pending) (now stack) height
         × (y < sizes .recordings) × (sizes .words * a + sizes .words ≤ length (now images)) ⌝ }
-    ensures { λ r. ⌜ StatesAdded (sizes .words) (sizes .recordings) (now (images .entry)) a y
+    ensures { λ r. ⌜ StatesAdded (sizes .words) (sizes .recordings) (Has (sizes .words) (now (images .entry)) a) y
         (now (reached .entry)) (now (pending .entry)) height (now (reached .exit)) (now (pending .exit)) (now (stack .exit)) r ⌝ }
 {
     let words = sizes.words;
@@ -84,7 +85,7 @@ fn follow_link(
 ) -> usize
     requires { ⌜ Ready (sizes .words) (sizes .recordings) (now reached) (now pending) (now stack) height
         × (sizes .words * sizes .symbols ≤ length (now images)) ⌝ }
-    ensures { λ r. ⌜ RowFollowed (sizes .words) (sizes .recordings) (sizes .symbols) (now (images .entry)) a y
+    ensures { λ r. ⌜ RowFollowed (sizes .words) (sizes .recordings) (sizes .symbols) (Has (sizes .words) (now (images .entry))) a y
         (now (reached .entry)) (now (pending .entry)) height (now (reached .exit)) (now (pending .exit)) (now (stack .exit)) r ⌝ }
 {
     if sizes.symbols <= a {
@@ -111,8 +112,9 @@ fn follow_links(
 ) -> usize
     requires { ⌜ Ready (sizes .words) (sizes .recordings) (now reached) (now pending) (now stack) height
         × (sizes .words * sizes .symbols ≤ length (now images)) × FirstLink (now table) x first ⌝ }
-    ensures { λ r. ⌜ RowsFollowed (sizes .words) (sizes .recordings) (sizes .symbols) (now (table .entry)) x (now (images .entry))
-        (now (reached .entry)) (now (pending .entry)) height (now (reached .exit)) (now (pending .exit)) (now (stack .exit)) r ⌝ }
+    ensures { λ r. ⌜ RowsFollowed (sizes .words) (sizes .recordings) (sizes .symbols) (now (table .entry)) x
+        (Has (sizes .words) (now (images .entry))) (now (reached .entry)) (now (pending .entry)) height
+        (now (reached .exit)) (now (pending .exit)) (now (stack .exit)) r ⌝ }
 {
     let from = x as u64;
     let mut top = height;
@@ -146,10 +148,11 @@ fn follow_all(
     pending: &mut [u64],
     stack: &mut [u16],
 )
-    requires { ⌜ SetBeginning (sizes .words) (now sets) (sizes .symbols) (sizes .states) (sizes .recordings) start
-        (now reached) (now images) (now pending) (now stack)
+    requires { ⌜ SetBeginning (sizes .words) (sizes .symbols) (sizes .states) (sizes .recordings) start
+        (now reached) (now pending) (now stack)
+        × (sizes .words * (sizes .symbols * sizes .states) ≤ length (now sets)) × ImagesBlank (sizes .words) (now images)
         × LinkBegins (now table) (sizes .recordings) (now begins) ⌝ }
-    ensures { λ _. ⌜ SetAllFound (sizes .words) (now (sets .entry)) (sizes .symbols) (sizes .states)
+    ensures { λ _. ⌜ SetAllFound (sizes .words) (Steps (now (sets .entry)) (sizes .symbols) (sizes .words)) (sizes .symbols) (sizes .states)
         (now (table .entry)) (sizes .recordings) start (now (reached .entry)) (now (reached .exit)) ⌝ }
 {
     let words = sizes.words;
@@ -177,15 +180,17 @@ fn search_from(
     pending: &mut [u64],
     stack: &mut [u16],
 )
-    requires { ⌜ SetBeginning (sizes .words) (now sets) (sizes .symbols) (sizes .states) (sizes .recordings) start
-        (now reached) (now images) (now pending) (now stack)
+    requires { ⌜ SetBeginning (sizes .words) (sizes .symbols) (sizes .states) (sizes .recordings) start
+        (now reached) (now pending) (now stack)
+        × (sizes .words * (sizes .symbols * sizes .states) ≤ length (now sets)) × ImagesBlank (sizes .words) (now images)
         × LinkBegins (now table) (sizes .recordings) (now begins) ⌝ }
-    ensures { λ _. ⌜ SetAllFound (sizes .words) (now (sets .entry)) (sizes .symbols) (sizes .states)
+    ensures { λ _. ⌜ SetAllFound (sizes .words) (Steps (now (sets .entry)) (sizes .symbols) (sizes .words)) (sizes .symbols) (sizes .states)
         (now (table .entry)) (sizes .recordings) start (now (reached .entry)) (now (reached .exit)) ⌝ }
 {
     if sizes.words == 1 {
         follow_all_words(
             sets,
+            false,
             sizes,
             table,
             begins,
@@ -212,9 +217,10 @@ fn search_from(
 
 // The search with room for a few recordings.
 fn search_few(sets: &[u64], sizes: Sizes, table: &[u16], start: usize, reached: &mut [u64])
-    requires { ⌜ SetStarting (sizes .words) (now sets) (sizes .symbols) (sizes .states) (sizes .recordings) start (now reached)
+    requires { ⌜ SetStarting (sizes .words) (sizes .symbols) (sizes .states) (sizes .recordings) start (now reached)
+        × (sizes .words * (sizes .symbols * sizes .states) ≤ length (now sets))
         × (sizes .words * sizes .recordings ≤ 256) ⌝ }
-    ensures { λ _. ⌜ SetAllFound (sizes .words) (now (sets .entry)) (sizes .symbols) (sizes .states)
+    ensures { λ _. ⌜ SetAllFound (sizes .words) (Steps (now (sets .entry)) (sizes .symbols) (sizes .words)) (sizes .symbols) (sizes .states)
         (now (table .entry)) (sizes .recordings) start (now (reached .entry)) (now (reached .exit)) ⌝ }
 {
     let mut images: [u64; 128] = [0; 128];
@@ -237,9 +243,10 @@ fn search_few(sets: &[u64], sizes: Sizes, table: &[u16], start: usize, reached: 
 
 // The search with room for as many recordings as there may be, of one word each.
 fn search_middle(sets: &[u64], sizes: Sizes, table: &[u16], start: usize, reached: &mut [u64])
-    requires { ⌜ SetStarting (sizes .words) (now sets) (sizes .symbols) (sizes .states) (sizes .recordings) start (now reached)
+    requires { ⌜ SetStarting (sizes .words) (sizes .symbols) (sizes .states) (sizes .recordings) start (now reached)
+        × (sizes .words * (sizes .symbols * sizes .states) ≤ length (now sets))
         × (sizes .words * sizes .recordings ≤ 4096) ⌝ }
-    ensures { λ _. ⌜ SetAllFound (sizes .words) (now (sets .entry)) (sizes .symbols) (sizes .states)
+    ensures { λ _. ⌜ SetAllFound (sizes .words) (Steps (now (sets .entry)) (sizes .symbols) (sizes .words)) (sizes .symbols) (sizes .states)
         (now (table .entry)) (sizes .recordings) start (now (reached .entry)) (now (reached .exit)) ⌝ }
 {
     let mut images: [u64; 128] = [0; 128];
@@ -262,8 +269,9 @@ fn search_middle(sets: &[u64], sizes: Sizes, table: &[u16], start: usize, reache
 
 // The search with room for as many recordings as there may be. The local arrays take about 169 KiB of the thread's stack.
 fn search_many(sets: &[u64], sizes: Sizes, table: &[u16], start: usize, reached: &mut [u64])
-    requires { ⌜ SetStarting (sizes .words) (now sets) (sizes .symbols) (sizes .states) (sizes .recordings) start (now reached) ⌝ }
-    ensures { λ _. ⌜ SetAllFound (sizes .words) (now (sets .entry)) (sizes .symbols) (sizes .states)
+    requires { ⌜ SetStarting (sizes .words) (sizes .symbols) (sizes .states) (sizes .recordings) start (now reached)
+        × (sizes .words * (sizes .symbols * sizes .states) ≤ length (now sets)) ⌝ }
+    ensures { λ _. ⌜ SetAllFound (sizes .words) (Steps (now (sets .entry)) (sizes .symbols) (sizes .words)) (sizes .symbols) (sizes .states)
         (now (table .entry)) (sizes .recordings) start (now (reached .entry)) (now (reached .exit)) ⌝ }
 {
     let mut images: [u64; 128] = [0; 128];

@@ -1,20 +1,21 @@
-// The search of an automaton of at most 64 states (set_search): each set of states is one word. Of a link nothing but the range of its symbol
-// and of its end is tested: whether it brings something new decides numbers, not branches.
+// The search of an automaton of at most 64 states (set_search): each set of states is one word. The next states are given by rows: each state
+// has a row of words, one for each symbol; or, where the rows are `cut`, each state has one word for all symbols, and of that each symbol
+// takes those states that its own word has. Of a link nothing but the range of its symbol and of its end is tested: whether it brings
+// something new decides numbers, not branches.
 use super::link_view::leaving_at;
 use super::link_view::next_leaving;
-use super::pairs::put;
 use super::sizes::Sizes;
 use super::table::index;
 ghost use mathlib.Core.Path.{_≡_};
 ghost use Prim.Native.Nat.{ℕ, _+_, _-_, _*_, _^_, _≤_, _<_};
-ghost use lib.ListN.{length};
+ghost use lib.ListN.{length, getD};
 ghost use Rattle.theory.specs.Places.{Member};
 ghost use Rattle.answering.specs.Links.{FirstLink};
 ghost use Rattle.answering.specs.LinkBegins.{LinkBegins};
 ghost use Rattle.answering.specs.Grown.{Ready};
-ghost use Rattle.answering.specs.SetSteps.{Spreading, Spread, StatesAdded, RowFollowed, RowsFollowed};
+ghost use Rattle.answering.specs.SetSteps.{StatesAdded, RowFollowed, RowsFollowed};
 ghost use Rattle.answering.specs.SetSearchRun.{SetBeginning, SetAllFound};
-ghost use Rattle.answering.specs.WordSteps.{WordRoom, Raised, imageOf};
+ghost use Rattle.answering.specs.WordSteps.{imageOf, rowsOf, WordStep, WordImage, NextRoom, NextImages, WordRoom, Raised};
 
 // The states below n.
 fn states_below(n: usize) -> u64
@@ -27,40 +28,43 @@ fn states_below(n: usize) -> u64
     (1 << n) - 1
 }
 
-// The next states of a set of states over the symbol a.
-fn image(sets: &[u64], symbols: usize, a: usize, states: u64) -> u64
-    requires { ⌜ ((s : ℕ) → Member s states → symbols * s + a < length (now sets)) ⌝ }
-    ensures { λ r. ⌜ r ≡ imageOf (now (sets .entry)) symbols states a ⌝ }
+// The words number a of the states' rows, united.
+fn image(rows: &[u64], symbols: usize, a: usize, states: u64) -> u64
+    requires { ⌜ ((s : ℕ) → Member s states → symbols * s + a < length (now rows)) ⌝ }
+    ensures { λ r. ⌜ r ≡ imageOf (now (rows .entry)) symbols states a ⌝ }
 {
     let mut all: u64 = 0;
     let mut rest = states;
     while rest != 0 {
         let s = u64::trailing_zeros(rest) as usize;
-        all = all | sets[symbols * s + a];
+        all = all | rows[symbols * s + a];
         rest = rest & (rest - 1);
     }
     all
 }
 
-// The next states, over each symbol, of all states that are pending at the recording x; `known` are the states that have rows.
-fn spread_word(
-    sets: &[u64],
-    sizes: Sizes,
-    known: u64,
-    x: usize,
-    pending: &[u64],
-    images: &mut [u64],
-)
-    requires { ⌜ Spreading 1 (sizes .symbols) (sizes .states) (now sets) x (now pending) (now images)
-        × (known ≡ 2 ^ sizes .states - 1) ⌝ }
-    ensures { λ _. ⌜ Spread 1 (sizes .symbols) (now (sets .entry)) x (sizes .states) (now (pending .entry)) (now (images .exit)) ⌝ }
+// The next states of the states over each symbol.
+fn spread_word(rows: &[u64], symbols: usize, states: u64, images: &mut [u64])
+    requires { ⌜ ((s a : ℕ) → Member s states → a < symbols → symbols * s + a < length (now rows)) × (symbols ≤ length (now images)) ⌝ }
+    ensures { λ _. ⌜ ((a : ℕ) → a < symbols → getD (now (images .exit)) a 0 ≡ imageOf (now (rows .entry)) symbols states a) ⌝ }
 {
-    let states = pending[x] & known;
     let mut a = 0;
-    while a < sizes.symbols {
-        images[a] = image(sets, sizes.symbols, a, states);
+    while a < symbols {
+        images[a] = image(rows, symbols, a, states);
         a += 1;
     }
+}
+
+// The next states of the states over a symbol are those of its image that are in the word returned.
+fn next_images(rows: &[u64], cut: bool, symbols: usize, states: u64, images: &mut [u64]) -> u64
+    requires { ⌜ NextRoom cut symbols (now rows) states (now images) ⌝ }
+    ensures { λ r. ⌜ NextImages cut symbols (now (rows .entry)) states (now (images .entry)) (now (images .exit)) r ⌝ }
+{
+    if cut {
+        return image(rows, 1, 0, states);
+    }
+    spread_word(rows, symbols, states, images);
+    18446744073709551615
 }
 
 // One more where nothing waited and something is new.
@@ -75,24 +79,23 @@ fn raised(height: usize, waited: u64, new: u64) -> usize
     }
 }
 
-// The recording y gets the states that the symbol a leads to; those that are new are pending, and y is on the stack. It is stored behind the
-// stack in any case. The height of the stack is returned.
+// The recording y gets the states of the image; those that are new are pending, and y is on the stack. It is stored behind the stack in any
+// case. The height of the stack is returned.
 fn add_word(
-    images: &[u64],
-    a: usize,
+    image: u64,
     y: usize,
     reached: &mut [u64],
     pending: &mut [u64],
     stack: &mut [u16],
     height: usize,
 ) -> usize
-    requires { ⌜ WordRoom (now images) a y (now reached) (now pending) (now stack) height ⌝ }
+    requires { ⌜ WordRoom y (now reached) (now pending) (now stack) height ⌝ }
     ensures { λ r. ⌜ ((N : ℕ) → Ready 1 N (now (reached .entry)) (now (pending .entry)) (now (stack .entry)) height → y < N
-        → StatesAdded 1 N (now (images .entry)) a y (now (reached .entry)) (now (pending .entry)) height
+        → StatesAdded 1 N (λ t. Member t image) y (now (reached .entry)) (now (pending .entry)) height
         (now (reached .exit)) (now (pending .exit)) (now (stack .exit)) r) ⌝ }
 {
     let old = reached[y];
-    let all = old | images[a];
+    let all = old | image;
     let new = all ^ old;
     let waited = pending[y];
     reached[y] = all;
@@ -104,6 +107,7 @@ fn add_word(
 // The link to y over the symbol a is followed. The height of the stack is returned.
 fn follow_word(
     images: &[u64],
+    next: u64,
     sizes: Sizes,
     a: usize,
     y: usize,
@@ -113,7 +117,7 @@ fn follow_word(
     height: usize,
 ) -> usize
     requires { ⌜ Ready 1 (sizes .recordings) (now reached) (now pending) (now stack) height × (sizes .symbols ≤ length (now images)) ⌝ }
-    ensures { λ r. ⌜ RowFollowed 1 (sizes .recordings) (sizes .symbols) (now (images .entry)) a y
+    ensures { λ r. ⌜ RowFollowed 1 (sizes .recordings) (sizes .symbols) (WordImage (now (images .entry)) next) a y
         (now (reached .entry)) (now (pending .entry)) height (now (reached .exit)) (now (pending .exit)) (now (stack .exit)) r ⌝ }
 {
     if sizes.symbols <= a {
@@ -122,13 +126,14 @@ fn follow_word(
     if sizes.recordings <= y {
         return height;
     }
-    add_word(images, a, y, reached, pending, stack, height)
+    add_word(images[a] & next, y, reached, pending, stack, height)
 }
 
-// All links that leave x are followed, `images` having the next states over each symbol, and `first` being the first triple that leaves x.
-// The height of the stack is returned.
+// All links that leave x are followed, `images` and `next` having the next states over each symbol, and `first` being the first triple that
+// leaves x. The height of the stack is returned.
 fn follow_word_links(
     images: &[u64],
+    next: u64,
     sizes: Sizes,
     table: &[u16],
     first: usize,
@@ -140,7 +145,7 @@ fn follow_word_links(
 ) -> usize
     requires { ⌜ Ready 1 (sizes .recordings) (now reached) (now pending) (now stack) height
         × (sizes .symbols ≤ length (now images)) × FirstLink (now table) x first ⌝ }
-    ensures { λ r. ⌜ RowsFollowed 1 (sizes .recordings) (sizes .symbols) (now (table .entry)) x (now (images .entry))
+    ensures { λ r. ⌜ RowsFollowed 1 (sizes .recordings) (sizes .symbols) (now (table .entry)) x (WordImage (now (images .entry)) next)
         (now (reached .entry)) (now (pending .entry)) height (now (reached .exit)) (now (pending .exit)) (now (stack .exit)) r ⌝ }
 {
     let from = x as u64;
@@ -149,6 +154,7 @@ fn follow_word_links(
     while link.leaves {
         top = follow_word(
             images,
+            next,
             sizes,
             link.label,
             link.end,
@@ -163,9 +169,10 @@ fn follow_word_links(
 }
 
 // All that is reached from the start in state 0: while something is pending, a recording is taken off the stack with its pending states,
-// and its links are followed from these.
+// and its links are followed from these. Where the rows are cut, `images` has the words of the symbols.
 pub(super) fn follow_all_words(
-    sets: &[u64],
+    rows: &[u64],
+    cut: bool,
     sizes: Sizes,
     table: &[u16],
     begins: &[usize],
@@ -175,21 +182,31 @@ pub(super) fn follow_all_words(
     pending: &mut [u64],
     stack: &mut [u16],
 )
-    requires { ⌜ SetBeginning 1 (now sets) (sizes .symbols) (sizes .states) (sizes .recordings) start
-        (now reached) (now images) (now pending) (now stack)
+    requires { ⌜ SetBeginning 1 (sizes .symbols) (sizes .states) (sizes .recordings) start (now reached) (now pending) (now stack)
+        × (rowsOf cut (sizes .symbols) (sizes .states) ≤ length (now rows)) × (sizes .symbols ≤ length (now images))
         × LinkBegins (now table) (sizes .recordings) (now begins) ⌝ }
-    ensures { λ _. ⌜ SetAllFound 1 (now (sets .entry)) (sizes .symbols) (sizes .states)
+    ensures { λ _. ⌜ SetAllFound 1 (WordStep cut (now (rows .entry)) (sizes .symbols) (now (images .entry))) (sizes .symbols) (sizes .states)
         (now (table .entry)) (sizes .recordings) start (now (reached .entry)) (now (reached .exit)) ⌝ }
 {
     let known = states_below(sizes.states);
-    put(images, 1, 0, 0);
-    let mut top = add_word(images, 0, start, reached, pending, stack, 0);
+    let mut top = add_word(1, start, reached, pending, stack, 0);
     while 0 < top {
         top -= 1;
         let x = index(stack[top]);
-        spread_word(sets, sizes, known, x, pending, images);
+        let next = next_images(rows, cut, sizes.symbols, pending[x] & known, images);
         pending[x] = 0;
         let first = begins[x];
-        top = follow_word_links(images, sizes, table, first, x, reached, pending, stack, top);
+        top = follow_word_links(
+            images,
+            next,
+            sizes,
+            table,
+            first,
+            x,
+            reached,
+            pending,
+            stack,
+            top,
+        );
     }
 }

@@ -1,21 +1,11 @@
--- `mark_places` meets its contract by what the sets of places, the search and the marks promise together.
+-- `mark_places` meets its contract by what the search and the marks promise together.
 use Rattle.answering.specs.LinksCoreLaws.{places-marked}
-use native.Mathlib.Omega.{arith}
 use borrow.Author.Needs.{needs}
 use Rattle.answering.proofs.links_core.mark_places.Statement.{statement}
 use Rattle.answering.proofs.links_core.mark_places.Tie as tie
 
-slice-aggregate-place-sets : tie.Need-slice-aggregate-place-sets
-slice-aggregate-place-sets c = search needs
-
-place-sets-requires : tie.Need-place-sets-requires
-place-sets-requires c κs = search needs
-
-slice-aggregate-search-sets : tie.Need-slice-aggregate-search-sets
-slice-aggregate-search-sets c = search needs
-
-search-sets-requires : tie.Need-search-sets-requires
-search-sets-requires c κs = search needs
+search-places-requires : tie.Need-search-places-requires
+search-places-requires c κs = search needs
 
 mark-requires : tie.Need-mark-requires
 mark-requires c κs = search needs
@@ -34,24 +24,19 @@ returns c =
     let at-clear-words = c .before .before in
     let at-mark = at-clear-words .before .before .before .before in
     let at-reached = at-mark .before .before .before .before in
-    let at-search-sets = at-reached .before .before in
-    let at-place-sets = at-search-sets .before .before .before .before in
-    let at-enter = at-place-sets .before .before .before .before .before in
+    let at-search-places = at-reached .before .before in
+    let at-enter = at-search-places .before .before .before .before .before in
     let a = at-enter .before .before .args in
     λ g l.
     places-marked (a .follow .now) (a .enter .now) (a .accepting) (a .labels) g (λ i. at-enter .shared-slice-known2 .given i .fits)
-    (λ i. at-reached .slice-known3 .given i .fits) l
-    (at-place-sets .place-sets .ensures (g .few-labels) (g .enters)) (omega (arith, at-place-sets .place-sets .kept .1 .1 .1 .0))
-    (at-search-sets .search-sets .ensures) (at-mark .mark .ensures) (at-clear-words .clear-words .ensures)
+    (λ i. at-reached .slice-known3 .given i .fits) l (at-search-places .search-places .ensures) (at-mark .mark .ensures)
+    (at-clear-words .clear-words .ensures)
 
 pub mark-places-spec : {M : Type 1} → statement M
 mark-places-spec =
     tie.close
     (tie.spec
-    slice-aggregate-place-sets
-    place-sets-requires
-    slice-aggregate-search-sets
-    search-sets-requires
+    search-places-requires
     mark-requires
     clear-words-requires
     same-length

@@ -50,7 +50,8 @@ same-length c = search needs
 returns : tie.Need-returns
 returns c =
     let at-start = c .before .before .before .before .before .before .before in
-    states-known (at-start .pre .0) (c .before .brings .ensures .nothing (not-true _ (c .if1 .taken)))
+    let a = at-start .args in
+    states-known (a .images .now) (a .a) (at-start .pre .0) (c .before .brings .ensures .nothing (not-true _ (c .if1 .taken)))
 
 any-from-requires : tie.Need-any-from-requires
 any-from-requires c κs =

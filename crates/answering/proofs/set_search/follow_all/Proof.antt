@@ -4,10 +4,11 @@ use Prim.Native.Nat.{_+_, _*_, _≤_, _<_}
 use mathlib.Core.Path.{_≡_, refl, sym, _∙_, subst}
 use lib.ListN.{length}
 use Rattle.answering.specs.Pairs.{room, row-below}
+use Rattle.answering.specs.SetSearch.{Steps}
 use Rattle.answering.specs.Waiting.{waiting-most}
 use Rattle.answering.specs.Grown.{row-pending, ready-pop, top-below, top-inside}
-use Rattle.answering.specs.SetSearchRun.{SetGoing, few-rows, few-pairs, first-place, first-words, set-going-first}
-use Rattle.answering.specs.SetSearchRun.{set-spreading, set-going-next, set-going-done}
+use Rattle.answering.specs.SetSearchRun.{SetGoing, few-rows, few-pairs, first-place, first-words, first-there, first-only}
+use Rattle.answering.specs.SetSearchRun.{set-going-first, set-spreading, set-going-next, set-going-done}
 use native.Mathlib.Omega.{arith}
 use borrow.Author.Needs.{needs}
 use Rattle.answering.proofs.set_search.follow_all.Statement.{statement}
@@ -17,7 +18,8 @@ abbrev Inv-loop : tie.InvT-loop
 Inv-loop sets sizes table begins start reached₀ images₀ pending₀ stack₀ words top₀ reached images pending stack top =
     (length reached ≡ length reached₀) × (length images ≡ length images₀) × (length pending ≡ length pending₀) ×
     (length stack ≡ length stack₀)
-    × SetGoing (sizes .words) sets (sizes .symbols) (sizes .states) table (sizes .recordings) start reached₀ reached pending stack top
+    × SetGoing (sizes .words) (Steps sets (sizes .symbols) (sizes .words)) (sizes .symbols) (sizes .states) table (sizes .recordings) start
+    reached₀ reached pending stack top
 
 abbrev μ-loop : tie.MeasureT-loop
 μ-loop sets sizes table begins start reached₀ images₀ pending₀ stack₀ words top₀ reached images pending stack top =
@@ -26,7 +28,7 @@ abbrev μ-loop : tie.MeasureT-loop
 put-requires : tie.Need-put-requires Inv-loop μ-loop
 put-requires c κs =
     let at-start = c .before .before .before .before .before .before .before .before in
-    first-place (at-start .pre .0)
+    first-place (at-start .pre .0 .starting .fits) (at-start .pre .2)
 
 add-states-requires : tie.Need-add-states-requires Inv-loop μ-loop
 add-states-requires c κs =
@@ -34,14 +36,17 @@ add-states-requires c κs =
     let at-start = at-put .before .before .before .before .before .before .before .before .before in
     let p = at-start .pre .0 in
     let e = at-put .put .kept .0 in
-    (p .ready, p .starting .fits .begins, omega (arith, first-words p))
+    (p .ready, p .starting .fits .begins, omega (arith, first-words (p .starting .fits) (at-start .pre .2)))
 
 loop-holds : tie.Need-loop-holds Inv-loop μ-loop
 loop-holds c =
     let at-add-states = c .before .before .before .before .before .before in
     let at-put = at-add-states .before .before .before .before .before .before .before in
     let at-start = at-put .before .before .before .before .before .before .before .before .before in
-    (refl, refl, refl, refl, set-going-first (at-start .pre .0) (rw (at-put .put .ensures) at (at-add-states .add-states .ensures)))
+    let f = at-start .pre .0 .starting .fits in
+    let b = at-start .pre .2 in
+    let s = rw (at-put .put .ensures) at (at-add-states .add-states .ensures) in
+    (refl, refl, refl, refl, set-going-first (at-start .pre .0) (first-there f b) (first-only f b) s)
 
 sub-top : tie.Need-sub-top Inv-loop μ-loop
 sub-top c = omega arith
@@ -93,7 +98,8 @@ spread-requires c κs =
     let earlier = at-loop .before .before .before .before .before .before .before .before .before .before in
     let at-put = earlier .before .before .before .before in
     let at-start = at-put .before .before .before .before .before .before .before .before .before in
-    set-spreading (at-start .pre .0) (row at-index) (at-loop .loop .inv .1 ∙ at-put .put .kept .0)
+    let p = at-start .pre in
+    set-spreading (p .0 .starting .fits) (p .1) (p .2) (row at-index) (at-loop .loop .inv .1 ∙ at-put .put .kept .0)
 
 mul-zero-from : tie.Need-mul-zero-from Inv-loop μ-loop
 mul-zero-from c =
@@ -123,7 +129,7 @@ shared-slice-read-first c =
     let earlier = at-index .before .before .before .before .before .before .before .before .before .before in
     let before-that = earlier .before .before .before .before .before .before .before .before .before .before in
     let at-start = before-that .before .before .before .before .before .before in
-    let l = below at-index in omega (arith, at-start .pre .1 .fits)
+    let l = below at-index in omega (arith, at-start .pre .3 .fits)
 
 follow-links-requires : tie.Need-follow-links-requires Inv-loop μ-loop
 follow-links-requires c κs =
@@ -142,8 +148,8 @@ follow-links-requires c κs =
     let f = at-put .put .kept .0 in (
       ready-pop (v .4 .ready) (at-loop-test .loop-test .taken) (at-index .index .ensures) (at-zero-from .zero-from .kept .0)
           (at-zero-from .zero-from .ensures),
-      omega (arith, few-rows (p .starting .fits), p .rows),
-      at-start .pre .1 .first (at-index .index .result) (below at-index),
+      omega (arith, few-rows (p .starting .fits), at-start .pre .2 .rows),
+      at-start .pre .3 .first (at-index .index .result) (below at-index),
     )
 
 loop-less : tie.Need-loop-less Inv-loop μ-loop

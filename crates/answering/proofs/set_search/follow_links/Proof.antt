@@ -2,6 +2,7 @@
 use Prim.Native.Nat.{_-_, _/_}
 use mathlib.Core.Path.{_≡_, refl, _∙_}
 use lib.ListN.{length}
+use Rattle.answering.specs.Pairs.{Has}
 use Rattle.answering.specs.LinkAt.{FirstLeaving}
 use Rattle.answering.specs.LinkReading.{Reading, reading-first, reading-leaves, reading-next, next-place}
 use Rattle.answering.specs.SetSteps.{RowsGoing, rows-none, rows-next, rows-ended}
@@ -13,7 +14,7 @@ use Rattle.answering.proofs.set_search.follow_links.Tie as tie
 abbrev Inv-loop : tie.InvT-loop
 Inv-loop images sizes table first x reached₀ pending₀ stack₀ height from top₀ link₀ reached pending stack top link =
     Reading table x link × (length reached ≡ length reached₀) × (length pending ≡ length pending₀) × (length stack ≡ length stack₀)
-    × RowsGoing (sizes .words) (sizes .recordings) (sizes .symbols) table x images (link .at)
+    × RowsGoing (sizes .words) (sizes .recordings) (sizes .symbols) table x (Has (sizes .words) images) (link .at)
     reached₀ pending₀ height reached pending stack top
 
 abbrev μ-loop : tie.MeasureT-loop

@@ -1,6 +1,6 @@
 -- `search_few` meets its contract: the local words are zero, and there are enough for so few recordings.
 use Rattle.answering.specs.LinkBegins.{unlisted-zeros}
-use Rattle.answering.specs.SetSearchRun.{recordings-below, set-beginning}
+use Rattle.answering.specs.SetSearchRun.{recordings-below, set-beginning, images-blank}
 use native.Mathlib.Omega.{arith}
 use borrow.Author.Needs.{needs}
 use Rattle.answering.proofs.set_search.search_few.Statement.{statement}
@@ -13,7 +13,7 @@ link-begins-requires : tie.Need-link-begins-requires
 link-begins-requires c κs =
     let at-start = c .before .before .before .before in
     let p = at-start .pre in
-    unlisted-zeros _ 256 (recordings-below (p .0 .fits) 256 (p .1))
+    unlisted-zeros _ 256 (recordings-below (p .0 .fits) 256 (p .2))
 
 slice-aggregate-search-from : tie.Need-slice-aggregate-search-from
 slice-aggregate-search-from c = search needs
@@ -32,8 +32,8 @@ search-from-requires c κs =
     let at-link-begins = c .before .before .before .before .before .before in
     let at-start = at-link-begins .before .before .before .before .before in
     let p = at-start .pre in
-    let l = recordings-below (p .0 .fits) 256 (p .1) in
-    (set-beginning 128 256 257 (p .0) (omega arith) (p .1) (omega arith), at-link-begins .link-begins .ensures)
+    let l = recordings-below (p .0 .fits) 256 (p .2) in
+    (set-beginning 256 257 (p .0) (p .2) (omega arith), p .1, images-blank _, at-link-begins .link-begins .ensures)
 
 same-length : tie.Need-same-length
 same-length c = search needs

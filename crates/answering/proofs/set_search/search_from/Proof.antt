@@ -1,4 +1,5 @@
 -- `search_from` meets its contract: each set of states is one word, or has several.
+use native.Mathlib.Omega.{arith}
 use borrow.Author.Needs.{needs}
 use Rattle.answering.proofs.set_search.search_from.Statement.{statement}
 use Rattle.answering.proofs.set_search.search_from.Tie as tie
@@ -7,7 +8,9 @@ follow-all-words-requires : tie.Need-follow-all-words-requires
 follow-all-words-requires c κs =
     let at-if1 = c .before .before .before .before in
     let at-start = at-if1 .before .before .before .before .before .before .before .before .before in
-    (rw (at-if1 .if1 .taken) at (at-start .pre .0), at-start .pre .1)
+    let p = at-start .pre in
+    let e = at-if1 .if1 .taken in
+    (rw e at (p .0), rw e at (p .1), omega (arith, p .0 .starting .fits .few-symbols, p .2 .rows), p .3)
 
 follow-all-requires : tie.Need-follow-all-requires
 follow-all-requires c κs =

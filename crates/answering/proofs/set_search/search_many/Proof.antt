@@ -1,6 +1,6 @@
 -- `search_many` meets its contract: the local words are zero, and there are enough for as many recordings as fit.
 use Rattle.answering.specs.LinkBegins.{unlisted-zeros}
-use Rattle.answering.specs.SetSearchRun.{few-pairs, set-beginning}
+use Rattle.answering.specs.SetSearchRun.{few-pairs, set-beginning, images-blank}
 use native.Mathlib.Omega.{arith}
 use borrow.Author.Needs.{needs}
 use Rattle.answering.proofs.set_search.search_many.Statement.{statement}
@@ -13,7 +13,7 @@ link-begins-requires : tie.Need-link-begins-requires
 link-begins-requires c κs =
     let at-start = c .before .before .before .before in
     let p = at-start .pre in
-    unlisted-zeros _ 4096 (p .fits .few)
+    unlisted-zeros _ 4096 (p .0 .fits .few)
 
 slice-aggregate-search-from : tie.Need-slice-aggregate-search-from
 slice-aggregate-search-from c = search needs
@@ -32,7 +32,8 @@ search-from-requires c κs =
     let at-link-begins = c .before .before .before .before .before .before in
     let at-start = at-link-begins .before .before .before .before .before in
     let p = at-start .pre in
-    (set-beginning 128 16384 4097 p (omega arith) (few-pairs (p .fits)) (omega (arith, p .fits .few)), at-link-begins .link-begins .ensures)
+    let f = p .0 .fits in
+    (set-beginning 16384 4097 (p .0) (few-pairs f) (omega (arith, f .few)), p .1, images-blank _, at-link-begins .link-begins .ensures)
 
 same-length : tie.Need-same-length
 same-length c = search needs

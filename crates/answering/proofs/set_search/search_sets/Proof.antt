@@ -2,7 +2,7 @@
 use mathlib.Core.Path.{_∙_}
 use borrow.Author.Tests.{not-true, not-false}
 use Rattle.answering.specs.Cleared.{cleared-beyond}
-use Rattle.answering.specs.SetSearchRun.{few-pairs, set-starting, set-searched, set-unsearched}
+use Rattle.answering.specs.SetSearchRun.{sizes-of, few-pairs, set-starting, set-searched, set-unsearched}
 use native.Mathlib.Omega.{arith}
 use borrow.Author.Needs.{needs}
 use Rattle.answering.proofs.set_search.search_sets.Statement.{statement}
@@ -20,7 +20,7 @@ returns c = set-unsearched (c .before .fitting .ensures .unfit (not-true _ (c .i
 mul-all : tie.Need-mul-all
 mul-all c =
     let f = c .before .fitting .ensures .fits (not-false _ (c .if1 .left)) in
-    omega (arith, few-pairs f)
+    omega (arith, few-pairs (sizes-of f))
 
 clear-words-requires : tie.Need-clear-words-requires
 clear-words-requires c κs = search needs
@@ -33,7 +33,7 @@ search-few-requires c κs =
     let at-fitting = at-if1 .before in
     let f = at-fitting .fitting .ensures .fits (not-false _ (at-if1 .if1 .left)) in
     let d = at-clear-words .clear-words in
-    (set-starting f (d .ensures) (d .kept .0), at-if2 .if2 .taken)
+    (set-starting (sizes-of f) (d .ensures) (d .kept .0), f .rows, at-if2 .if2 .taken)
 
 search-middle-requires : tie.Need-search-middle-requires
 search-middle-requires c κs =
@@ -43,7 +43,7 @@ search-middle-requires c κs =
     let at-fitting = at-if1 .before in
     let f = at-fitting .fitting .ensures .fits (not-false _ (at-if1 .if1 .left)) in
     let d = at-clear-words .clear-words in
-    (set-starting f (d .ensures) (d .kept .0), at-if3 .if3 .taken)
+    (set-starting (sizes-of f) (d .ensures) (d .kept .0), f .rows, at-if3 .if3 .taken)
 
 search-many-requires : tie.Need-search-many-requires
 search-many-requires c κs =
@@ -52,7 +52,7 @@ search-many-requires c κs =
     let at-fitting = at-if1 .before in
     let f = at-fitting .fitting .ensures .fits (not-false _ (at-if1 .if1 .left)) in
     let d = at-clear-words .clear-words in
-    set-starting f (d .ensures) (d .kept .0)
+    (set-starting (sizes-of f) (d .ensures) (d .kept .0), f .rows)
 
 same-length-2 : tie.Need-same-length-2
 same-length-2 c = search needs

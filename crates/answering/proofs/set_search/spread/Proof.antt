@@ -4,6 +4,7 @@ use Prim.Native.Nat.{_-_, _≤_, _<_}
 use mathlib.Core.Path.{_≡_, refl, _∙_}
 use lib.ListN.{length}
 use Rattle.answering.specs.Pairs.{Has}
+use Rattle.answering.specs.SetSearch.{Steps}
 use Rattle.answering.specs.SetSteps.{Spread, spread-none, spread-more, spread-skip, rows-below}
 use native.Mathlib.Omega.{arith}
 use borrow.Author.Needs.{needs}
@@ -12,7 +13,8 @@ use Rattle.answering.proofs.set_search.spread.Tie as tie
 
 abbrev Inv-loop : tie.InvT-loop
 Inv-loop sets sizes x pending images₀ row s₀ images s =
-    (s ≤ sizes .states) × (length images ≡ length images₀) × Spread (sizes .words) (sizes .symbols) sets x s pending images
+    (s ≤ sizes .states) × (length images ≡ length images₀)
+    × Spread (sizes .words) (sizes .symbols) (Steps sets (sizes .symbols) (sizes .words)) x s pending (Has (sizes .words) images)
     × (s < sizes .states → Has (sizes .words) pending x s)
 
 abbrev μ-loop : tie.MeasureT-loop
@@ -36,8 +38,11 @@ next-state-requires c κs =
 loop-holds : tie.Need-loop-holds Inv-loop μ-loop
 loop-holds c =
     let at-zero-from = c .before .before .before in
+    let at-start = at-zero-from .before .before .before .before .before .before in
+    let a = at-start .args in
     let e = c .next-state .ensures in
-    (e .inside, refl, spread-skip (omega arith) (spread-none _ _ _ (at-zero-from .zero-from .ensures)) (e .passed), e .had)
+    let n = spread-none (a .sets .now) (a .x) (a .pending .now) (at-zero-from .zero-from .ensures) in
+    (e .inside, refl, spread-skip (omega arith) n (e .passed), e .had)
 
 mul-unite : tie.Need-mul-unite Inv-loop μ-loop
 mul-unite c =
@@ -85,12 +90,13 @@ loop-again c =
     let at-unite = c .before .before .before in
     let at-if1 = at-unite .before .before in
     let at-loop = at-if1 .before .before in
+    let at-start = at-loop .before .before .before .before .before .before .before .before .before .before in
     let v = at-loop .loop .inv in
     let e = c .next-state2 .ensures in
     let u = at-unite .unite in (
       e .inside,
       u .kept .0 ∙ v .1,
-      spread-skip (e .onward) (spread-more (v .2) (v .3 (at-if1 .if1 .taken)) (u .ensures)) (e .passed),
+      spread-skip (e .onward) (spread-more (at-start .args .sets .now) (v .2) (v .3 (at-if1 .if1 .taken)) (u .ensures)) (e .passed),
       e .had,
     )
 

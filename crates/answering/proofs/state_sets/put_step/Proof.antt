@@ -1,5 +1,5 @@
 -- `put_step` meets its contract: the next state is put into its row, or it is left out.
-use Prim.Native.Nat.{ℕ, _<_}
+use Prim.Native.Nat.{_<_}
 use mathlib.Core.Path.{_≡_, sym, ap, _∙_, subst}
 use lib.ListN.{getD}
 use Rattle.answering.specs.Useful.{nextOf}

@@ -11,12 +11,6 @@ mul-old c = search needs
 slice-read-old : tie.Need-slice-read-old
 slice-read-old c = search needs
 
-mul-all : tie.Need-mul-all
-mul-all c = search needs
-
-shared-slice-read-all : tie.Need-shared-slice-read-all
-shared-slice-read-all c = search needs
-
 mul-waited : tie.Need-mul-waited
 mul-waited c = search needs
 
@@ -58,8 +52,8 @@ same-length-3 c = search needs
 
 returns : tie.Need-returns
 returns c N r k =
-    let at-start = c .before .before .before .before .before .before .before .before in
-    word-added (at-start .pre) (omega (arith, c .before .before .before .before .before .before .before .shared-slice-known .given (at-start .args .a))) (c .raised .ensures) r k
+    let at-start = c .before .before .before .before .before .before in
+    word-added (at-start .pre) (omega arith) (c .raised .ensures) r k
 
 pub add-word-spec : {M : Type 1} → statement M
 add-word-spec =
@@ -67,8 +61,6 @@ add-word-spec =
     (tie.spec
     mul-old
     slice-read-old
-    mul-all
-    shared-slice-read-all
     mul-waited
     slice-read-waited
     mul-reached

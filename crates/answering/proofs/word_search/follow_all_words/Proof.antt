@@ -1,28 +1,31 @@
 -- `follow_all_words` meets its contract. The loop's invariant: what is reached was found, and all links of what is reached and not pending
--- were followed. A turn takes a recording off the stack, and each recording that comes onto it has a pair that was not reached before.
+-- were followed; where the rows are cut, the words of the symbols stay as they are. A turn takes a recording off the stack, and each
+-- recording that comes onto it has a pair that was not reached before.
 use Prim.Native.Nat.{_+_, _*_, _≤_, _<_}
+use mathlib.Core.Bool.{true}
 use mathlib.Core.Path.{_≡_, refl, sym, _∙_, subst}
 use native.Mathlib.Nat.{one-mul}
-use lib.ListN.{length, length-set}
+use lib.ListN.{length, getD, length-set}
+use Rattle.theory.specs.PlacesLaws.{member-one}
 use Rattle.answering.specs.Pairs.{room}
 use Rattle.answering.specs.Waiting.{waiting-most}
 use Rattle.answering.specs.Grown.{row-pending, ready-pop, top-below, top-inside}
-use Rattle.answering.specs.SetSearchRun.{SetGoing, few-rows, first-place, first-words, set-going-first}
-use Rattle.answering.specs.SetSearchRun.{set-spreading, set-going-next, set-going-done}
-use Rattle.answering.specs.WordSteps.{word-room, zeroed-one}
+use Rattle.answering.specs.SetSearchRun.{SetGoing, set-going-first, set-going-next, set-going-done}
+use Rattle.answering.specs.WordSteps.{WordStep, word-room, zeroed-one, next-room, words-spread}
 use native.Mathlib.Omega.{arith}
 use borrow.Author.Needs.{needs}
 use Rattle.answering.proofs.word_search.follow_all_words.Statement.{statement}
 use Rattle.answering.proofs.word_search.follow_all_words.Tie as tie
 
 abbrev Inv-loop : tie.InvT-loop
-Inv-loop sets sizes table begins start reached₀ images₀ pending₀ stack₀ known top₀ reached images pending stack top =
+Inv-loop rows cut sizes table begins start reached₀ images₀ pending₀ stack₀ known top₀ reached images pending stack top =
     (length reached ≡ length reached₀) × (length images ≡ length images₀) × (length pending ≡ length pending₀) ×
-    (length stack ≡ length stack₀)
-    × SetGoing 1 sets (sizes .symbols) (sizes .states) table (sizes .recordings) start reached₀ reached pending stack top
+    (length stack ≡ length stack₀) × (cut ≡ true → images ≡ images₀)
+    × SetGoing 1 (WordStep cut rows (sizes .symbols) images₀) (sizes .symbols) (sizes .states) table (sizes .recordings) start
+    reached₀ reached pending stack top
 
 abbrev μ-loop : tie.MeasureT-loop
-μ-loop sets sizes table begins start reached₀ images₀ pending₀ stack₀ known top₀ reached images pending stack top =
+μ-loop rows cut sizes table begins start reached₀ images₀ pending₀ stack₀ known top₀ reached images pending stack top =
     room reached + top
 
 states-below-requires : tie.Need-states-below-requires Inv-loop μ-loop
@@ -30,27 +33,21 @@ states-below-requires c κs =
     let at-start = c .before .before .before .before .before .before .before in
     omega (arith, at-start .pre .0 .starting .fits .width)
 
-put-requires : tie.Need-put-requires Inv-loop μ-loop
-put-requires c κs =
-    let at-start = c .before .before .before .before .before .before .before .before .before in
-    first-place (at-start .pre .0)
-
 add-word-requires : tie.Need-add-word-requires Inv-loop μ-loop
 add-word-requires c κs =
-    let at-put = c .before .before .before .before .before .before in
-    let at-start = at-put .before .before .before .before .before .before .before .before .before .before in
+    let earlier = c .before .before .before .before .before .before .before .before .before .before in
+    let at-start = earlier .before in
     let p = at-start .pre .0 in
-    let e = at-put .put .kept .0 in
-    word-room (p .ready) (p .starting .fits .begins) (omega (arith, first-words p))
+    word-room (p .ready) (p .starting .fits .begins)
 
 loop-holds : tie.Need-loop-holds Inv-loop μ-loop
 loop-holds c =
     let at-add-word = c .before .before .before .before .before .before in
-    let at-put = at-add-word .before .before .before .before .before .before .before in
-    let at-start = at-put .before .before .before .before .before .before .before .before .before .before in
+    let earlier = at-add-word .before .before .before .before .before .before .before .before .before .before in
+    let at-start = earlier .before .before in
     let p = at-start .pre .0 in
     let f = at-add-word .add-word .ensures (at-start .args .sizes .recordings) (p .ready) (p .starting .fits .begins) in
-    (refl, refl, refl, refl, set-going-first p (rw (at-put .put .ensures) at f))
+    (refl, refl, refl, refl, λ e. refl, set-going-first p (member-one 0 0 .1 refl) (λ s l m. member-one s 0 .0 m) f)
 
 sub-top : tie.Need-sub-top Inv-loop μ-loop
 sub-top c = omega arith
@@ -58,13 +55,13 @@ sub-top c = omega arith
 mul-index : tie.Need-mul-index Inv-loop μ-loop
 mul-index c =
     let at-loop = c .before in
-    let r = at-loop .loop .inv .4 .ready in omega (arith, waiting-most (r .waiting), r .few)
+    let r = at-loop .loop .inv .5 .ready in omega (arith, waiting-most (r .waiting), r .few)
 
 slice-read-index : tie.Need-slice-read-index Inv-loop μ-loop
 slice-read-index c =
     let at-loop-test = c .before in
-    let at-loop = c .before .before in
-    top-inside (at-loop .loop .inv .4 .ready) (at-loop-test .loop-test .taken)
+    let at-loop = at-loop-test .before in
+    top-inside (at-loop .loop .inv .5 .ready) (at-loop-test .loop-test .taken)
 
 index-requires : tie.Need-index-requires Inv-loop μ-loop
 index-requires c κs = search needs
@@ -72,15 +69,16 @@ index-requires c κs = search needs
 -- The recording taken is one of them, and its word is there.
 
 below : (c : tie.After-index Inv-loop μ-loop)
-    → let at-start = c .before .before .before .before .before .before .before .before .before .before .before .before .before .before .before .before .before .before .before .before .before .before .before .before .before .before .before in
+    → let earlier = c .before .before .before .before .before .before .before .before .before .before in
+    let before-that = earlier .before .before .before .before .before .before .before .before .before .before in
+    let at-start = before-that .before .before in
     c .index .result < at-start .args .sizes .recordings
 below c =
     let at-loop-test = c .before .before in
-    let at-loop = c .before .before .before in
-    let earlier = c .before .before .before .before .before .before .before .before .before .before in
-    let before-that = earlier .before .before .before .before .before .before .before .before .before .before in
-    let at-start = before-that .before .before .before .before .before .before .before in
-    let l = top-below (at-loop .loop .inv .4 .ready) (at-loop-test .loop-test .taken) in
+    let at-loop = at-loop-test .before in
+    let earlier = at-loop .before .before .before .before .before .before .before .before .before .before in
+    let at-start = earlier .before .before .before .before .before .before .before .before .before in
+    let l = top-below (at-loop .loop .inv .5 .ready) (at-loop-test .loop-test .taken) in
     subst (λ x. x < at-start .args .sizes .recordings) (sym (c .index .ensures)) l
 
 row : (c : tie.After-index Inv-loop μ-loop)
@@ -88,24 +86,40 @@ row : (c : tie.After-index Inv-loop μ-loop)
     1 * c .index .result + 1 ≤ length (at-loop .loop .pending)
 row c =
     let at-loop = c .before .before .before in
-    row-pending (at-loop .loop .inv .4 .ready) (c .index .result) (below c)
+    row-pending (at-loop .loop .inv .5 .ready) (c .index .result) (below c)
 
-spread-word-requires : tie.Need-spread-word-requires Inv-loop μ-loop
-spread-word-requires c κs =
+mul-next-images : tie.Need-mul-next-images Inv-loop μ-loop
+mul-next-images c =
+    let earlier = c .before .before .before .before .before .before .before .before .before .before in
+    let before-that = earlier .before .before .before .before .before .before .before .before .before .before in
+    let at-start = before-that .before .before in
+    let l = below c in omega (arith, at-start .pre .0 .ready .few)
+
+slice-read-next-images : tie.Need-slice-read-next-images Inv-loop μ-loop
+slice-read-next-images c =
+    let at-index = c .before in
+    let e = one-mul (at-index .index .result) in omega (arith, row at-index)
+
+next-images-requires : tie.Need-next-images-requires Inv-loop μ-loop
+next-images-requires c κs =
     let at-index = c .before .before in
     let at-loop = at-index .before .before .before in
     let earlier = at-loop .before .before .before .before .before .before .before .before .before .before in
-    let at-put = earlier .before .before .before .before in
-    let at-states-below = at-put .before .before in
-    let at-start = at-put .before .before .before .before .before .before .before .before .before .before in
-    (set-spreading (at-start .pre .0) (row at-index) (at-loop .loop .inv .1 ∙ at-put .put .kept .0), at-states-below .states-below .ensures)
+    let at-states-below = earlier .before in
+    let at-start = at-states-below .before .before .before .before .before .before .before .before in
+    let p = at-start .pre in
+    let a = at-start .args in
+    let l = at-loop .loop in
+    rw (at-states-below .states-below .ensures)
+    (next-room (a .cut) (a .sizes .symbols) (a .sizes .states) (getD (l .pending) (at-index .index .result) 0) (a .rows .now) (l .images)
+    (p .1) (omega (arith, l .inv .1, p .2)))
 
 mul-pending : tie.Need-mul-pending Inv-loop μ-loop
 mul-pending c =
     let at-index = c .before .before .before .before .before in
     let earlier = at-index .before .before .before .before .before .before .before .before .before .before in
     let before-that = earlier .before .before .before .before .before .before .before .before .before .before in
-    let at-start = before-that .before .before .before .before .before .before .before in
+    let at-start = before-that .before .before in
     let l = below at-index in omega (arith, at-start .pre .0 .ready .few)
 
 slice-write-pending : tie.Need-slice-write-pending Inv-loop μ-loop
@@ -118,7 +132,7 @@ mul-first c =
     let at-index = c .before .before .before .before .before in
     let earlier = at-index .before .before .before .before .before .before .before .before .before .before in
     let before-that = earlier .before .before .before .before .before .before .before .before .before .before in
-    let at-start = before-that .before .before .before .before .before .before .before in
+    let at-start = before-that .before .before in
     let l = below at-index in omega (arith, at-start .pre .0 .ready .few)
 
 shared-slice-read-first : tie.Need-shared-slice-read-first Inv-loop μ-loop
@@ -126,30 +140,24 @@ shared-slice-read-first c =
     let at-index = c .before .before .before .before .before .before in
     let earlier = at-index .before .before .before .before .before .before .before .before .before .before in
     let before-that = earlier .before .before .before .before .before .before .before .before .before .before in
-    let at-start = before-that .before .before .before .before .before .before .before in
-    let l = below at-index in omega (arith, at-start .pre .1 .fits)
+    let at-start = before-that .before .before in
+    let l = below at-index in omega (arith, at-start .pre .3 .fits)
 
 follow-word-links-requires : tie.Need-follow-word-links-requires Inv-loop μ-loop
 follow-word-links-requires c κs =
-    let at-spread-word = c .before .before .before .before .before .before .before in
-    let at-index = at-spread-word .before .before .before in
+    let at-next-images = c .before .before .before .before .before .before .before in
+    let at-index = at-next-images .before .before .before in
     let at-loop-test = at-index .before .before in
-    let at-loop = at-index .before .before .before in
+    let at-loop = at-loop-test .before in
     let earlier = at-loop .before .before .before .before .before .before .before .before .before .before in
-    let at-put = earlier .before .before .before .before in
-    let at-start = at-put .before .before .before .before .before .before .before .before .before .before in
+    let at-start = earlier .before .before .before .before .before .before .before .before .before in
     let l = at-loop .loop in
     let v = l .inv in
-    let p = at-start .pre .0 in
-    let x = at-index .index .result in
-    let d = at-spread-word .spread-word .kept .1 .1 .1 .1 .1 .0 in
-    let e = v .1 in
-    let f = at-put .put .kept .0 in
-    let g = one-mul (at-start .args .sizes .symbols) in (
-      ready-pop (v .4 .ready) (at-loop-test .loop-test .taken) (at-index .index .ensures) (length-set (l .pending) x 0)
+    let x = at-index .index .result in (
+      ready-pop (v .5 .ready) (at-loop-test .loop-test .taken) (at-index .index .ensures) (length-set (l .pending) x 0)
           (zeroed-one x (l .pending)),
-      omega (arith, few-rows (p .starting .fits), p .rows),
-      at-start .pre .1 .first x (below at-index),
+      omega (arith, at-next-images .next-images .kept .1 .1 .1 .1 .0, v .1, at-start .pre .2),
+      at-start .pre .3 .first x (below at-index),
     )
 
 loop-less : tie.Need-loop-less Inv-loop μ-loop
@@ -162,23 +170,26 @@ loop-less c =
 loop-again : tie.Need-loop-again Inv-loop μ-loop
 loop-again c =
     let at-follow = c .before .before .before .before .before .before in
-    let at-spread-word = at-follow .before .before .before .before .before .before .before .before in
-    let at-index = at-spread-word .before .before .before in
+    let at-next-images = at-follow .before .before .before .before .before .before .before .before in
+    let at-index = at-next-images .before .before .before in
     let at-loop = at-index .before .before .before in
     let earlier = at-loop .before .before .before .before .before .before .before .before .before .before in
-    let before-that = earlier .before .before .before .before .before .before .before .before .before .before in
-    let at-start = before-that .before .before .before .before in
+    let at-states-below = earlier .before in
+    let at-start = at-states-below .before .before .before .before .before .before .before .before in
     let f = at-follow .follow-word-links in
-    let s = at-spread-word .spread-word in
+    let s = at-next-images .next-images in
     let l = at-loop .loop in
     let v = l .inv in
     let x = at-index .index .result in
+    let made = rw (at-states-below .states-below .ensures) at (s .ensures) in
     let p = at-start .pre .0 .starting .fits in (
-      f .kept .1 .1 .1 .1 .1 .0 ∙ v .0,
-      s .kept .1 .1 .1 .1 .1 .0 ∙ v .1,
-      f .kept .1 .1 .1 .1 .1 .1 .0 ∙ length-set (l .pending) x 0 ∙ v .2,
-      f .kept .1 .1 .1 .1 .1 .1 .1 .0 ∙ v .3,
-      set-going-next (v .4) x (p .width) (below at-index) (s .ensures) (zeroed-one x (l .pending)) (f .ensures),
+      f .kept .1 .1 .1 .1 .1 .1 .0 ∙ v .0,
+      s .kept .1 .1 .1 .1 .0 ∙ v .1,
+      f .kept .1 .1 .1 .1 .1 .1 .1 .0 ∙ length-set (l .pending) x 0 ∙ v .2,
+      f .kept .1 .1 .1 .1 .1 .1 .1 .1 .0 ∙ v .3,
+      λ e. s .ensures .same e ∙ v .4 e,
+      set-going-next (v .5) x (p .width) (below at-index) (words-spread (omega (arith, p .width)) (v .4) made)
+          (zeroed-one x (l .pending)) (f .ensures),
     )
 
 same-length : tie.Need-same-length Inv-loop μ-loop
@@ -198,11 +209,11 @@ returns c =
     let at-loop = c .before in
     let at-add-word = at-loop .before .before .before .before .before .before .before in
     let earlier = at-add-word .before .before .before .before .before .before .before .before .before .before in
-    let at-start = earlier .before .before .before .before .before .before .before in
+    let at-start = earlier .before .before in
     let p = at-start .pre .0 in
     let f = p .starting .fits in
     let a = at-add-word .add-word .ensures (at-start .args .sizes .recordings) (p .ready) (f .begins) in
-    set-going-done (at-loop .loop .inv .4) (omega arith) (f .begins) (f .width) (a .grown .beyond)
+    set-going-done (at-loop .loop .inv .5) (omega arith) (f .begins) (f .width) (a .grown .beyond)
 
 pub follow-all-words-spec : {M : Type 1} → statement M
 follow-all-words-spec =
@@ -211,14 +222,15 @@ follow-all-words-spec =
     Inv-loop
     μ-loop
     states-below-requires
-    put-requires
     add-word-requires
     loop-holds
     sub-top
     mul-index
     slice-read-index
     index-requires
-    spread-word-requires
+    mul-next-images
+    slice-read-next-images
+    next-images-requires
     mul-pending
     slice-write-pending
     mul-first

@@ -5,19 +5,20 @@ use lib.ListN.{length}
 use Rattle.answering.specs.LinkAt.{FirstLeaving}
 use Rattle.answering.specs.LinkReading.{Reading, reading-first, reading-leaves, reading-next, next-place}
 use Rattle.answering.specs.SetSteps.{RowsGoing, rows-none, rows-next, rows-ended}
+use Rattle.answering.specs.WordSteps.{WordImage}
 use native.Mathlib.Omega.{arith}
 use borrow.Author.Needs.{needs}
 use Rattle.answering.proofs.word_search.follow_word_links.Statement.{statement}
 use Rattle.answering.proofs.word_search.follow_word_links.Tie as tie
 
 abbrev Inv-loop : tie.InvT-loop
-Inv-loop images sizes table first x reached₀ pending₀ stack₀ height from top₀ link₀ reached pending stack top link =
+Inv-loop images next sizes table first x reached₀ pending₀ stack₀ height from top₀ link₀ reached pending stack top link =
     Reading table x link × (length reached ≡ length reached₀) × (length pending ≡ length pending₀) × (length stack ≡ length stack₀)
-    × RowsGoing 1 (sizes .recordings) (sizes .symbols) table x images (link .at)
+    × RowsGoing 1 (sizes .recordings) (sizes .symbols) table x (WordImage images next) (link .at)
     reached₀ pending₀ height reached pending stack top
 
 abbrev μ-loop : tie.MeasureT-loop
-μ-loop images sizes table first x reached₀ pending₀ stack₀ height from top₀ link₀ reached pending stack top link =
+μ-loop images next sizes table first x reached₀ pending₀ stack₀ height from top₀ link₀ reached pending stack top link =
     length table / 3 - link .at
 
 leaving-at-requires : tie.Need-leaving-at-requires Inv-loop μ-loop
@@ -62,9 +63,9 @@ loop-again c =
     let f = at-follow-word .follow-word in
     let read = c .next-leaving .ensures in (
       reading-next (v .0) e read,
-      f .kept .1 .1 .1 .1 .0 ∙ v .1,
-      f .kept .1 .1 .1 .1 .1 .0 ∙ v .2,
-      f .kept .1 .1 .1 .1 .1 .1 .0 ∙ v .3,
+      f .kept .1 .1 .1 .1 .1 .0 ∙ v .1,
+      f .kept .1 .1 .1 .1 .1 .1 .0 ∙ v .2,
+      f .kept .1 .1 .1 .1 .1 .1 .1 .0 ∙ v .3,
       rows-next (v .0) e read (v .4) (f .ensures),
     )
 

@@ -13,16 +13,16 @@ use Rattle.answering.proofs.word_search.image.Statement.{statement}
 use Rattle.answering.proofs.word_search.image.Tie as tie
 
 abbrev Inv-loop : tie.InvT-loop
-Inv-loop sets symbols a states all₀ rest₀ all rest =
-    (rest < 2 ^ 64) × ((i : ℕ) → Member i rest → Member i states) × FollowedLeft (λ s. getD sets (symbols * s + a) 0) states all rest
+Inv-loop rows symbols a states all₀ rest₀ all rest =
+    (rest < 2 ^ 64) × ((i : ℕ) → Member i rest → Member i states) × FollowedLeft (λ s. getD rows (symbols * s + a) 0) states all rest
 
 abbrev μ-loop : tie.MeasureT-loop
-μ-loop sets symbols a states all₀ rest₀ all rest = rest
+μ-loop rows symbols a states all₀ rest₀ all rest = rest
 
 loop-holds : tie.Need-loop-holds Inv-loop μ-loop
 loop-holds c =
     let a = c .args in
-    (omega arith, λ i m. m, followed-start (λ s. getD (a .sets .now) (a .symbols * s + a .a) 0) (a .states))
+    (omega arith, λ i m. m, followed-start (λ s. getD (a .rows .now) (a .symbols * s + a .a) 0) (a .states))
 
 cast-s : tie.Need-cast-s Inv-loop μ-loop
 cast-s c = omega (arith, trailing-le 64 (c .before .loop .rest))
@@ -30,7 +30,7 @@ cast-s c = omega (arith, trailing-le 64 (c .before .loop .rest))
 -- The row of the state taken is there.
 inside : (c : tie.In-loop Inv-loop μ-loop)
     → let a = c .before .before .args in
-    a .symbols * trailingZeros 64 (c .before .loop .rest) + a .a < length (a .sets .now)
+    a .symbols * trailingZeros 64 (c .before .loop .rest) + a .a < length (a .rows .now)
 inside c =
     let l = c .before .loop in
     c .before .before .pre (trailingZeros 64 (l .rest)) (l .inv .1 _ (trailing-here 64 (l .rest) (c .loop-test .taken) (l .inv .0)))
@@ -59,7 +59,7 @@ loop-again : tie.Need-loop-again Inv-loop μ-loop
 loop-again c =
     let l = c .before .before .loop in
     let a = c .before .before .before .args in
-    let f : ℕ → ℕ = λ s. getD (a .sets .now) (a .symbols * s + a .a) 0 in
+    let f : ℕ → ℕ = λ s. getD (a .rows .now) (a .symbols * s + a .a) 0 in
     let d = c .before .loop-test .taken in (
       omega (arith, l .inv .0, and-le-r (l .rest) (l .rest - 1)),
       rest-within (a .states) (l .rest) (l .inv .1) d (l .inv .0),
@@ -70,7 +70,7 @@ returns : tie.Need-returns Inv-loop μ-loop
 returns c =
     let l = c .before .loop in
     let a = c .before .before .args in
-    followed-end (λ s. getD (a .sets .now) (a .symbols * s + a .a) 0) (a .states) (l .all) (l .rest) (c .loop-test .left) (l .inv .2)
+    followed-end (λ s. getD (a .rows .now) (a .symbols * s + a .a) 0) (a .states) (l .all) (l .rest) (c .loop-test .left) (l .inv .2)
 
 pub image-spec : {M : Type 1} → statement M
 image-spec =

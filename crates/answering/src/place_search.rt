@@ -1,0 +1,152 @@
+// The places of an automaton that are reached over a table from one recording: the search of one word for each set (word_search), by the next
+// places of each place, which each label cuts to those that it enters.
+use super::clear::clear_words;
+use super::links::link_begins;
+use super::sizes::Sizes;
+use super::word_search::follow_all_words;
+ghost use mathlib.Core.Bool.{true};
+ghost use mathlib.Core.Logic.{_↔_};
+ghost use mathlib.Core.Path.{_≡_};
+ghost use Prim.Native.Nat.{ℕ, _≤_, _<_};
+ghost use lib.ListN.{length, getD};
+ghost use Rattle.answering.specs.SetSearchRun.{SetStarting, SetAllFound};
+ghost use Rattle.answering.specs.PlaceSteps.{PlaceStep, PlaceCount, PlacesSearchable, PlacesSearched};
+
+// How many places are searched: all of them, of at most 64.
+fn place_count(follow: &[u64]) -> usize
+    ensures { λ r. ⌜ PlaceCount (now (follow .entry)) r ⌝ }
+{
+    let count = follow.len();
+    if count > 64 {
+        return 64;
+    }
+    count
+}
+
+// The words that the labels enter are copied.
+fn load_enter(enter: &[u64], labels: usize, images: &mut [u64])
+    requires { ⌜ (labels ≤ length (now enter)) × (labels ≤ length (now images)) ⌝ }
+    ensures { λ _. ⌜ ((a : ℕ) → a < labels → getD (now (images .exit)) a 0 ≡ getD (now (enter .entry)) a 0) ⌝ }
+{
+    let mut a = 0;
+    while a < labels {
+        images[a] = enter[a];
+        a += 1;
+    }
+}
+
+// The search with room for a few recordings.
+fn search_few(
+    follow: &[u64],
+    sizes: Sizes,
+    table: &[u16],
+    start: usize,
+    reached: &mut [u64],
+    images: &mut [u64],
+)
+    requires { ⌜ SetStarting 1 (sizes .symbols) (sizes .states) (sizes .recordings) start (now reached)
+        × (sizes .states ≤ length (now follow)) × (sizes .symbols ≤ length (now images)) × (sizes .recordings ≤ 256) ⌝ }
+    ensures { λ _. ⌜ SetAllFound 1 (PlaceStep (now (follow .entry)) (now (images .entry))) (sizes .symbols) (sizes .states)
+        (now (table .entry)) (sizes .recordings) start (now (reached .entry)) (now (reached .exit)) ⌝ }
+{
+    let mut pending: [u64; 256] = [0; 256];
+    let mut stack: [u16; 257] = [0; 257];
+    let mut begins: [usize; 256] = [0; 256];
+    link_begins(table, sizes.recordings, &mut begins);
+    follow_all_words(
+        follow,
+        true,
+        sizes,
+        table,
+        &begins,
+        start,
+        reached,
+        images,
+        &mut pending,
+        &mut stack,
+    );
+}
+
+// The search with room for as many recordings as there may be.
+fn search_many(
+    follow: &[u64],
+    sizes: Sizes,
+    table: &[u16],
+    start: usize,
+    reached: &mut [u64],
+    images: &mut [u64],
+)
+    requires { ⌜ SetStarting 1 (sizes .symbols) (sizes .states) (sizes .recordings) start (now reached)
+        × (sizes .states ≤ length (now follow)) × (sizes .symbols ≤ length (now images)) ⌝ }
+    ensures { λ _. ⌜ SetAllFound 1 (PlaceStep (now (follow .entry)) (now (images .entry))) (sizes .symbols) (sizes .states)
+        (now (table .entry)) (sizes .recordings) start (now (reached .entry)) (now (reached .exit)) ⌝ }
+{
+    let mut pending: [u64; 4096] = [0; 4096];
+    let mut stack: [u16; 4097] = [0; 4097];
+    let mut begins: [usize; 4096] = [0; 4096];
+    link_begins(table, sizes.recordings, &mut begins);
+    follow_all_words(
+        follow,
+        true,
+        sizes,
+        table,
+        &begins,
+        start,
+        reached,
+        images,
+        &mut pending,
+        &mut stack,
+    );
+}
+
+// Whether the sizes fit the search and what is lent.
+fn fitting(enter: &[u64], labels: u64, recordings: u64, start: u64, reached: &[u64]) -> bool
+    ensures { λ r. ⌜ (r ≡ true) ↔ PlacesSearchable (now (enter .entry)) labels recordings start (now (reached .entry)) ⌝ }
+{
+    if 32 < labels {
+        return false;
+    }
+    if (enter.len() as u64) < labels {
+        return false;
+    }
+    if 4096 < recordings {
+        return false;
+    }
+    if recordings <= start {
+        return false;
+    }
+    recordings <= (reached.len() as u64)
+}
+
+// All pairs of a recording and a place that are reached from the start in place 0, as bits of a word for each recording; where the sizes do
+// not fit, nothing is changed.
+pub(super) fn search_places(
+    follow: &[u64],
+    enter: &[u64],
+    labels: u64,
+    table: &[u16],
+    recordings: u64,
+    start: u64,
+    reached: &mut [u64],
+)
+    ensures { λ _. ⌜ PlacesSearched (now (follow .entry)) (now (enter .entry)) labels (now (table .entry)) recordings start
+        (now (reached .entry)) (now (reached .exit)) ⌝ }
+{
+    if !fitting(enter, labels, recordings, start, reached) {
+        return;
+    }
+    clear_words(reached, recordings as usize);
+    let sizes = Sizes {
+        symbols: labels as usize,
+        states: place_count(follow),
+        words: 1,
+        recordings: recordings as usize,
+    };
+    let mut images: [u64; 32] = [0; 32];
+    load_enter(enter, sizes.symbols, &mut images);
+    if recordings <= 256 {
+        search_few(follow, sizes, table, start as usize, reached, &mut images);
+    } else {
+        search_many(follow, sizes, table, start as usize, reached, &mut images);
+    }
+}
