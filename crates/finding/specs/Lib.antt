@@ -30,6 +30,7 @@ pub mod StandingsTold
 pub mod ImageSearch
 pub mod Sources
 pub mod SourcesLaws
+pub mod SourcesGathered
 pub mod SourcesSearch
 pub mod ImageNodes
 pub mod ListWidth

@@ -3,11 +3,13 @@
 -- at a place are the standings whose pair has sources that have not been passed on over the labels yet; a place waits where something is
 -- pending at it.
 use Prim.Native.Nat.{ℕ, _+_, _-_, _*_, _^_, _≤_, _<_}
+use mathlib.Core.Bool.{true, false}
 use mathlib.Core.List.{List, [], _∷_}
 use mathlib.Core.Logic.{_↔_, _⊎_}
 use mathlib.Core.Path.{_≡_}
-use lib.ListN.{length, getD}
-use Rattle.theory.specs.Places.{Member, intersection}
+use lib.Dec.{eqb}
+use lib.ListN.{length, getD, set}
+use Rattle.theory.specs.Places.{Member, union, intersection}
 use Rattle.theory.specs.Closure.{Reaches}
 use Rattle.finding.specs.ImageSearch.{Tables, Onward}
 
@@ -22,6 +24,15 @@ pub record Sources : Type 0 where
 
 abbrev pub sources : List ℕ → List ℕ → ℕ → Sources
 sources from pending waiting = record { from = from; pending = pending; waiting = waiting }
+
+-- 1 where a word has become another.
+unfoldable pub gainOf : ℕ → ℕ → ℕ
+gainOf old all = elim (eqb all old) [ true ↦ 0 | false ↦ 1 ]
+
+-- The search with the standings `added` put into it: they are pending at the place next, and where there are some, it waits.
+abbrev pub gathered : List ℕ → List ℕ → ℕ → ℕ → ℕ → Sources
+gathered from pending waiting next added =
+    sources from (set pending next (union (getD pending next 0) added)) (union waiting (gainOf 0 added * 2 ^ next))
 
 -- How much can still be added to words, and with it to a search: a source that is added weighs more than any set of waiting places.
 

@@ -1,16 +1,24 @@
 // The search over (standing, list place) from all standings at once (document 001, section 2): for each pair its sources, the standings
 // from which, with the list's start, the labels lead to it. The word count × place + standing holds them.
-ghost use Prim.Native.Nat.{ℕ, _+_, _*_, _≤_, _<_};
+ghost use Prim.Native.Nat.{ℕ, _+_, _*_, _^_, _≤_, _<_};
+ghost use mathlib.Core.List.{List};
 ghost use mathlib.Core.Path.{_≡_};
 ghost use lib.ListN.{length};
 ghost use Rattle.theory.specs.Places.{Member};
 ghost use Rattle.finding.specs.ImageSearch.{tables, Fitting};
-ghost use Rattle.finding.specs.Sources.{sources, Followed, Only, Moved, Labelled, Begun, Searched};
+ghost use Rattle.finding.specs.Sources.{sources, gainOf, gathered, Followed, Only, Moved, Labelled, Begun, Searched};
 use crate::clear::clear_words;
 use crate::number::wide;
 
-// The sources of (s, p) are passed on to (to, next). Where some are new there, that pair is pending, and its place waits; the waiting
-// places are returned.
+// One where something was added.
+fn gain(old: u64, all: u64) -> u64
+    ensures { λ r. ⌜ r ≡ gainOf old all ⌝ }
+{
+    if all == old { 0 } else { 1 }
+}
+
+// The sources of (s, p) are passed on to (to, next). The standings whose pair with the place next has gained, `added` before, are returned.
+// Whether some are new decides numbers, not branches.
 fn pass_on(
     count: usize,
     p: usize,
@@ -18,25 +26,23 @@ fn pass_on(
     next: usize,
     to: usize,
     from: &mut [u64],
-    pending: &mut [u64],
-    waiting: u64,
+    added: u64,
 ) -> u64
     requires { ⌜ (count ≤ 64) × (next < 64) × (s < count) × (to < count) × (count * p + count ≤ length (now from))
-        × (count * next + count ≤ length (now from)) × (length (now pending) ≡ 64) ⌝ }
-    ensures { λ r. ⌜ Followed count (Only p s next to) (sources (now (from .entry)) (now (pending .entry)) waiting)
-        (sources (now (from .exit)) (now (pending .exit)) r) ⌝ }
+        × (count * next + count ≤ length (now from)) ⌝ }
+    ensures { λ r. ⌜ ((pending : List ℕ) (waiting : ℕ) → length pending ≡ 64 → waiting < 2 ^ 64
+        → Followed count (Only p s next to) (gathered (now (from .entry)) pending waiting next added)
+        (gathered (now (from .exit)) pending waiting next r)) ⌝ }
 {
     let new = from[count * p + s];
     let old = from[count * next + to];
-    if old | new == old {
-        return waiting;
-    }
-    from[count * next + to] = old | new;
-    pending[next] = pending[next] | (1 << to);
-    waiting | (1 << next)
+    let all = old | new;
+    from[count * next + to] = all;
+    added | (gain(old, all) << to)
 }
 
-// The label a is followed from the place p with the standings taken, to the place next.
+// The label a is followed from the place p with the standings taken, to the place next. Where some pairs gain, they are pending, and their
+// place waits; the waiting places are returned.
 fn follow_standings(
     moves: &[u8; 2048],
     count: usize,
@@ -53,17 +59,19 @@ fn follow_standings(
     ensures { λ r. ⌜ Followed count (Moved (now (moves .entry)) count a p (λ s. Member s taken) (λ y. y ≡ next))
         (sources (now (from .entry)) (now (pending .entry)) waiting) (sources (now (from .exit)) (now (pending .exit)) r) ⌝ }
 {
-    let mut all = waiting;
+    let mut added: u64 = 0;
     let mut rest = taken;
     while rest != 0 {
         let s = u64::trailing_zeros(rest) as usize;
         let to = wide(moves[32 * s + a]);
         if to < count {
-            all = pass_on(count, p, s, next, to, from, pending, all);
+            added = pass_on(count, p, s, next, to, from, added);
         }
         rest = rest & (rest - 1);
     }
-    all
+    let held = &pending[..];
+    pending[next] = held[next] | added;
+    waiting | (gain(0, added) << next)
 }
 
 // The label a is followed from the place p with the standings taken, to the places that it enters, those below `places`.
