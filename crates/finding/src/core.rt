@@ -13,6 +13,8 @@ use crate::standings::standings;
 use crate::states::states;
 use places::Places;
 use syntax::Refusal;
+ghost use Prim.Native.Nat.{_*_, _≤_};
+ghost use lib.ListN.{length};
 ghost use Rattle.finding.specs.ListRows.{jobTables};
 ghost use Rattle.finding.specs.QueryTold.{QueryTold};
 ghost use Rattle.finding.specs.FoundTold.{FoundTold};
@@ -66,8 +68,8 @@ fn found_answer(
     }
 }
 
-// The states over the lists, from the standings and their moves.
-fn find_states(
+// The states over the lists, from the standings and their moves; `images` has room for the images of all lists.
+fn states_in(
     labels: u64,
     lists: u64,
     limit: u64,
@@ -78,15 +80,16 @@ fn find_states(
     count: u64,
     found: &[u64; 64],
     moves: &[u8; 2048],
+    images: &mut [u64],
     table: &mut [u16],
     marks: &mut [u8],
 ) -> FindAnswer
+    requires { ⌜ (lists ≤ 16 → 64 * lists ≤ length (now images)) ⌝ }
     ensures { λ r. ⌜ StatesPart (jobTables (now (moves .entry)) count labels (now (follow .entry)) (now (enter .entry)) (now (sizes .entry))
         (now (accepting .entry))) lists limit (now (found .entry)) (now (table .entry)) (now (marks .entry)) r
         (now (table .exit)) (now (marks .exit)) ⌝ }
 {
     let stood = &found[..];
-    let mut images = [0; 1024];
     list_images(
         moves,
         count,
@@ -96,7 +99,7 @@ fn find_states(
         enter,
         sizes,
         accepting,
-        &mut images,
+        images,
     );
     clear_numbers(table, 4096);
     clear_bytes(marks, 256);
@@ -104,7 +107,7 @@ fn find_states(
     let mut parents = [0; 256];
     let mut symbols = [0; 256];
     let told = states(
-        &images,
+        images,
         count,
         lists,
         limit,
@@ -128,6 +131,62 @@ fn find_states(
             clear_numbers(table, 4096);
             refused(Refusal::TooManyStates, 0)
         }
+    }
+}
+
+// The states over the lists. To zero room for sixteen lists takes longer than to find the states of a small job.
+fn find_states(
+    labels: u64,
+    lists: u64,
+    limit: u64,
+    follow: &[u64; 1088],
+    enter: &[u64; 544],
+    sizes: &[u64; 17],
+    accepting: &[u64; 17],
+    count: u64,
+    found: &[u64; 64],
+    moves: &[u8; 2048],
+    table: &mut [u16],
+    marks: &mut [u8],
+) -> FindAnswer
+    ensures { λ r. ⌜ StatesPart (jobTables (now (moves .entry)) count labels (now (follow .entry)) (now (enter .entry)) (now (sizes .entry))
+        (now (accepting .entry))) lists limit (now (found .entry)) (now (table .entry)) (now (marks .entry)) r
+        (now (table .exit)) (now (marks .exit)) ⌝ }
+{
+    if lists <= 4 {
+        let mut images = [0; 256];
+        states_in(
+            labels,
+            lists,
+            limit,
+            follow,
+            enter,
+            sizes,
+            accepting,
+            count,
+            found,
+            moves,
+            &mut images,
+            table,
+            marks,
+        )
+    } else {
+        let mut images = [0; 1024];
+        states_in(
+            labels,
+            lists,
+            limit,
+            follow,
+            enter,
+            sizes,
+            accepting,
+            count,
+            found,
+            moves,
+            &mut images,
+            table,
+            marks,
+        )
     }
 }
 

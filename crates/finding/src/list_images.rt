@@ -47,9 +47,10 @@ fn list_row(
     accepting: &[u64; 17],
     v: usize,
     sources: &mut [u64],
-    rows: &mut [u64; 1024],
+    rows: &mut [u64],
 )
-    requires { ⌜ (v < 16) × (count ≤ 64) × (labels ≤ 32) × Paired count (now sizes) v (length (now sources)) ⌝ }
+    requires { ⌜ (v < 16) × (count ≤ 64) × (labels ≤ 32) × Paired count (now sizes) v (length (now sources))
+        × (64 * v + 64 ≤ length (now rows)) ⌝ }
     ensures { λ _. ⌜ ListTold (jobTables (now (moves .entry)) count labels (now (follow .entry)) (now (enter .entry)) (now (sizes .entry))
         (now (accepting .entry))) v (now (rows .entry)) (now (rows .exit)) ⌝ }
 {
@@ -105,10 +106,10 @@ fn rows_of(
     sizes: &[u64; 17],
     accepting: &[u64; 17],
     sources: &mut [u64],
-    rows: &mut [u64; 1024],
+    rows: &mut [u64],
 )
     requires { ⌜ (count ≤ 64) × (labels ≤ 32) × (lists ≤ 16)
-        × ((v : ℕ) → v < lists → Paired count (now sizes) v (length (now sources))) ⌝ }
+        × ((v : ℕ) → v < lists → Paired count (now sizes) v (length (now sources))) × (64 * lists ≤ length (now rows)) ⌝ }
     ensures { λ _. ⌜ ImagesOf (jobTables (now (moves .entry)) count labels (now (follow .entry)) (now (enter .entry)) (now (sizes .entry))
         (now (accepting .entry))) lists (now (rows .exit)) ⌝ }
 {
@@ -140,9 +141,10 @@ fn rows_of_few(
     enter: &[u64; 544],
     sizes: &[u64; 17],
     accepting: &[u64; 17],
-    rows: &mut [u64; 1024],
+    rows: &mut [u64],
 )
-    requires { ⌜ (count ≤ 64) × (labels ≤ 32) × (lists ≤ 16) × ((v : ℕ) → v < lists → Paired count (now sizes) v 512) ⌝ }
+    requires { ⌜ (count ≤ 64) × (labels ≤ 32) × (lists ≤ 16) × ((v : ℕ) → v < lists → Paired count (now sizes) v 512)
+        × (64 * lists ≤ length (now rows)) ⌝ }
     ensures { λ _. ⌜ ImagesOf (jobTables (now (moves .entry)) count labels (now (follow .entry)) (now (enter .entry)) (now (sizes .entry))
         (now (accepting .entry))) lists (now (rows .exit)) ⌝ }
 {
@@ -171,9 +173,9 @@ fn rows_of_many(
     enter: &[u64; 544],
     sizes: &[u64; 17],
     accepting: &[u64; 17],
-    rows: &mut [u64; 1024],
+    rows: &mut [u64],
 )
-    requires { ⌜ (count ≤ 64) × (labels ≤ 32) × (lists ≤ 16) ⌝ }
+    requires { ⌜ (count ≤ 64) × (labels ≤ 32) × (lists ≤ 16) × (64 * lists ≤ length (now rows)) ⌝ }
     ensures { λ _. ⌜ ImagesOf (jobTables (now (moves .entry)) count labels (now (follow .entry)) (now (enter .entry)) (now (sizes .entry))
         (now (accepting .entry))) lists (now (rows .exit)) ⌝ }
 {
@@ -192,7 +194,7 @@ fn rows_of_many(
     );
 }
 
-// The rows of all lists. There is room for 64 standings, 32 labels and 16 lists.
+// The rows of all lists, where `rows` is long enough. There is room for 64 standings, 32 labels and 16 lists.
 pub fn list_images(
     moves: &[u8; 2048],
     count: u64,
@@ -202,13 +204,16 @@ pub fn list_images(
     enter: &[u64; 544],
     sizes: &[u64; 17],
     accepting: &[u64; 17],
-    rows: &mut [u64; 1024],
+    rows: &mut [u64],
 )
-    ensures { λ _. ⌜ (lists ≤ 16
+    ensures { λ _. ⌜ (lists ≤ 16 → 64 * lists ≤ length (now (rows .entry))
         → ImagesOf (jobTables (now (moves .entry)) count labels (now (follow .entry)) (now (enter .entry)) (now (sizes .entry))
         (now (accepting .entry))) lists (now (rows .exit))) ⌝ }
 {
     if lists > 16 {
+        return;
+    }
+    if rows.len() < 64 * (lists as usize) {
         return;
     }
     if count > 64 {

@@ -8,7 +8,7 @@ use crate::standings::Explored;
 use crate::step::follows;
 use places::Places;
 ghost use mathlib.Core.Path.{_≡_};
-ghost use Prim.Native.Nat.{_*_, _≤_, _<_};
+ghost use Prim.Native.Nat.{_+_, _*_, _≤_, _<_};
 ghost use lib.ListN.{length, take, drop};
 ghost use Rattle.theory.specs.Automaton.{nexts};
 ghost use Rattle.finding.specs.NumberIndex.{Indexed, IndexedAll};
@@ -16,19 +16,18 @@ ghost use Rattle.finding.specs.StatesTold.{StatesTold};
 ghost use Rattle.finding.specs.StatesExploring.{memory, Room, Extended, Swept, AllSwept};
 
 // The state that a list leads to (document 01, "State"): the union of the images of the standings in the state.
-fn next_state(images: &[u64; 1024], count: u64, list: usize, state: u64) -> u64
-    requires { ⌜ (list < 16) × (count ≤ 64) ⌝ }
+fn next_state(images: &[u64], count: u64, list: usize, state: u64) -> u64
+    requires { ⌜ (list < 16) × (count ≤ 64) × (64 * list + 64 ≤ length (now images)) ⌝ }
     ensures { λ r. ⌜ r ≡ nexts state (take count (drop (64 * list) (now (images .entry)))) ⌝ }
 {
-    let all = &images[..];
     let from = 64 * list;
     let to = from + (count as usize);
-    follows(&all[from..to], Places(state)).0
+    follows(&images[from..to], Places(state)).0
 }
 
 // State s over one list, with n states found.
 fn extend(
-    images: &[u64; 1024],
+    images: &[u64],
     count: u64,
     limit: usize,
     s: usize,
@@ -42,7 +41,7 @@ fn extend(
     nexts: &mut [u8; 255],
 ) -> Explored
     requires { ⌜ (list < 16) × (s < n) × (n ≤ limit) × Room limit (memory (now found) (now parents) (now symbols) (now table))
-        × Indexed (now found) n (now heads) (now nexts) × (count ≤ 64) ⌝ }
+        × Indexed (now found) n (now heads) (now nexts) × (count ≤ 64) × (64 * list + 64 ≤ length (now images)) ⌝ }
     ensures { λ r. ⌜ Extended (now (images .entry)) count limit s list n
         (memory (now (found .entry)) (now (parents .entry)) (now (symbols .entry)) (now (table .entry))) r
         (memory (now (found .exit)) (now (parents .exit)) (now (symbols .exit)) (now (table .exit))) ⌝ }
@@ -68,7 +67,7 @@ fn extend(
 
 // State s over all lists.
 fn row(
-    images: &[u64; 1024],
+    images: &[u64],
     count: u64,
     lists: usize,
     limit: usize,
@@ -82,7 +81,7 @@ fn row(
     nexts: &mut [u8; 255],
 ) -> Explored
     requires { ⌜ (lists ≤ 16) × (s < n) × (n ≤ limit) × Room limit (memory (now found) (now parents) (now symbols) (now table))
-        × Indexed (now found) n (now heads) (now nexts) × (count ≤ 64) ⌝ }
+        × Indexed (now found) n (now heads) (now nexts) × (count ≤ 64) × (64 * lists ≤ length (now images)) ⌝ }
     ensures { λ r. ⌜ Swept (now (images .entry)) count lists limit s n
         (memory (now (found .entry)) (now (parents .entry)) (now (symbols .entry)) (now (table .entry))) r
         (memory (now (found .exit)) (now (parents .exit)) (now (symbols .exit)) (now (table .exit))) ⌝ }
@@ -120,7 +119,7 @@ fn row(
 
 // The rows of all states, in their order, from the start alone.
 fn sweep(
-    images: &[u64; 1024],
+    images: &[u64],
     count: u64,
     lists: usize,
     limit: usize,
@@ -130,7 +129,7 @@ fn sweep(
     table: &mut [u16],
 ) -> Explored
     requires { ⌜ (lists ≤ 16) × (0 < limit) × Room limit (memory (now found) (now parents) (now symbols) (now table))
-        × (count ≤ 64) ⌝ }
+        × (count ≤ 64) × (64 * lists ≤ length (now images)) ⌝ }
     ensures { λ r. ⌜ AllSwept (now (images .entry)) count lists limit (now (table .entry)) r
         (memory (now (found .exit)) (now (parents .exit)) (now (symbols .exit)) (now (table .exit))) ⌝ }
 {
@@ -167,9 +166,9 @@ fn sweep(
     Explored::All(n as u64)
 }
 
-// All states over the lists, at most `limit` of them. There is room for 256 states, 64 standings and 16 lists.
+// All states over the lists, whose images are all there, at most `limit` of them. There is room for 256 states, 64 standings and 16 lists.
 pub fn states(
-    images: &[u64; 1024],
+    images: &[u64],
     count: u64,
     lists: u64,
     limit: u64,
@@ -178,7 +177,7 @@ pub fn states(
     symbols: &mut [u8; 256],
     table: &mut [u16],
 ) -> Explored
-    ensures { λ r. ⌜ (count ≤ 64 → lists ≤ 16 → limit ≤ 256 → 4096 ≤ length (now (table .entry))
+    ensures { λ r. ⌜ (count ≤ 64 → lists ≤ 16 → 64 * lists ≤ length (now (images .entry)) → limit ≤ 256 → 4096 ≤ length (now (table .entry))
         → StatesTold (now (images .entry)) count lists limit (now (table .entry)) r
         (now (found .exit)) (now (parents .exit)) (now (symbols .exit)) (now (table .exit))) ⌝ }
 {
@@ -189,6 +188,9 @@ pub fn states(
         return Explored::Over;
     }
     if lists > 16 {
+        return Explored::Over;
+    }
+    if images.len() < 64 * (lists as usize) {
         return Explored::Over;
     }
     if count > 64 {

@@ -20,7 +20,7 @@ element-copy-out-size c = search needs
 
 returns : tie.Need-returns
 returns c =
-    let a = c .before .before .before .args in
+    let a = c .before .before .before .before .args in
     let T =
     jobTables (a .moves .now) (a .count) (a .labels) (a .follow .now) (a .enter .now) (a .sizes .now) (a .accepting .now) in
     list-refused T (a .v) (a .rows .now) (a .rows .now) (rw (← add-one (a .v)) (c .if1 .taken))
@@ -72,7 +72,7 @@ element-copy-out-fill-row c = search needs
 
 fill-row-requires : tie.Need-fill-row-requires
 fill-row-requires c κs =
-    let start = c .before .before .before .before .before .before .before .before .before .before in
+    let start = c .before .before .before .before .before .before .before .before .before .before .before in
     let a = start .args in
     let p = start .pre in
     let size = getD (a .sizes .now) (a .v + 1) 0 in
@@ -81,7 +81,7 @@ fill-row-requires c κs =
     let wide : length (take (32 * (a .v + 1) + 32 - 32 * (a .v + 1)) (drop (32 * (a .v + 1)) (a .enter .now))) ≡ 32 =
     simp (length-take, length-drop) (omega (arith, start .good, p .0)) in (
       p .0,
-      omega (arith, start .good, p .0),
+      p .4,
       record { standings = p .1; row = p .2; enters = omega (arith, wide, p .2); places = omega (arith, long, small) },
       omega (arith, long),
       subst (λ n. a .count * n ≤ length (a .sources .now)) (sym long) (p .3 small),
@@ -90,16 +90,19 @@ fill-row-requires c κs =
 same-length : tie.Need-same-length
 same-length c = search needs
 
+same-length-2 : tie.Need-same-length-2
+same-length-2 c = search needs
+
 returns-2 : tie.Need-returns-2
 returns-2 c =
-    let start = c .before .before .before .before .before .before .before .before .before .before .before .before .before in
+    let start = c .before .before .before .before .before .before .before .before .before .before .before .before .before .before .before .before in
     let a = start .args in
-    let row = c .before .before .fill-row in
+    let row = c .before .before .before .before .fill-row in
     let T =
     jobTables (a .moves .now) (a .count) (a .labels) (a .follow .now) (a .enter .now) (a .sizes .now) (a .accepting .now) in
     list-told T (a .v) (a .rows .now) (row .last .1 .1 .1 .1 .1 .1 .1 .1 .0) (a .v + 1)
     (64 * (a .v + 1) + getD (a .sizes .now) (a .v + 1) 0 + 1 - 64 * (a .v + 1)) (32 * (a .v + 1) + 32 - 32 * (a .v + 1)) (add-one (a .v))
-    (omega arith) (omega arith) (omega (arith, start .good, start .pre)) (row .ensures)
+    (omega arith) (omega arith) (omega (arith, c .before .before .before .before .before .before .before .before .before .before .enters .given .0, start .pre .0)) (row .ensures)
 
 pub list-row-spec : {M : Type 1} → statement M
 list-row-spec =
@@ -126,4 +129,5 @@ list-row-spec =
     element-copy-out-fill-row
     fill-row-requires
     same-length
+    same-length-2
     returns-2)

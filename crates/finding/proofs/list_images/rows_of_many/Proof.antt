@@ -9,9 +9,12 @@ slice-aggregate-rows-of c = search needs
 
 rows-of-requires : tie.Need-rows-of-requires
 rows-of-requires c κs =
-    let a = c .before .before .args in
-    let p = c .before .before .pre in
-    (p .0, p .1, p .2, λ v h. paired-any (a .count) (a .sizes .now) v (p .0))
+    let a = c .before .before .before .args in
+    let p = c .before .before .before .pre in
+    (p .0, p .1, p .2, λ v h. paired-any (a .count) (a .sizes .now) v (p .0), p .3)
+
+same-length : tie.Need-same-length
+same-length c = search needs
 
 returns : tie.Need-returns
 returns c = search needs
@@ -22,4 +25,5 @@ rows-of-many-spec =
     (tie.spec
     slice-aggregate-rows-of
     rows-of-requires
+    same-length
     returns)

@@ -20,7 +20,7 @@ bucket-requires c κs = search needs
 
 find-place-requires : tie.Need-find-place-requires
 find-place-requires c κs =
-    let start = c .before .before .before .before .before .before .before .before .before .before in
+    let start = c .before .before .before .before .before .before .before .before .before .before .before in
     let room = start .pre .3 in
     (omega (arith, room .states), omega (arith, room .most), c .before .before .before .bucket .ensures, start .pre .4)
 
@@ -49,7 +49,7 @@ returns : tie.Need-returns
 returns c =
     let search = c .before in
     let next = search .before .before .before .before .before in
-    let start = next .before .before .before .before .before .before in
+    let start = next .before .before .before .before .before .before .before in
     let a = start .args in (
       extended-known (a .images .now) (a .count) (a .limit) (a .s) (a .list) (a .n) (next .next-state .result) (search .find-place .result)
           (memory (a .found .now) (a .parents .now) (a .symbols .now) (a .table .now)) (start .pre .3) (start .pre .0) (start .pre .1)
@@ -64,7 +64,7 @@ returns-2 : tie.Need-returns-2
 returns-2 c =
     let search = c .before .before in
     let next = search .before .before .before .before .before in
-    let start = next .before .before .before .before .before .before in
+    let start = next .before .before .before .before .before .before .before in
     let a = start .args in (
       extended-over (a .images .now) (a .count) (a .limit) (a .s) (a .list) (a .n) (next .next-state .result) (search .find-place .result)
           (memory (a .found .now) (a .parents .now) (a .symbols .now) (a .table .now)) (start .pre .3) (start .pre .0) (start .pre .1)
@@ -130,7 +130,7 @@ returns-3 : tie.Need-returns-3
 returns-3 c =
     let search = c .before .before .before .before .before in
     let next = search .before .before .before .before .before in
-    let start = next .before .before .before .before .before .before in
+    let start = next .before .before .before .before .before .before .before in
     let a = start .args in
     let below = c .before .before .before .if2 .left in
     let new = c .before .before .before .before .if1 .left in (

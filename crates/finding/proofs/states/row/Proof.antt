@@ -1,6 +1,7 @@
 -- The loop's invariant: what is left of the row and of the sweep tells what the exploration tells, and the states found are indexed.
 use Prim.Native.Nat.{_-_}
 use mathlib.Core.Path.{_∙_}
+use native.Mathlib.Omega.{arith}
 use Rattle.finding.specs.StatesExploring.{memory, InRow, in-row-start, in-row-more, in-row-over, in-row-end}
 use Rattle.finding.specs.NumberIndex.{Indexed}
 use Rattle.finding.specs.NumberIndexLaws.{indexed-all, indexed-over}
@@ -19,14 +20,19 @@ abbrev μ-loop : tie.MeasureT-loop
 
 loop-holds : tie.Need-loop-holds Inv-loop μ-loop
 loop-holds c =
-    let start = c .before .before .before .before in
+    let start = c .before .before .before .before .before in
     let a = start .args in
     let old = memory (a .found .now) (a .parents .now) (a .symbols .now) (a .table .now) in
     let held = start .pre in
     (in-row-start (a .images .now) (a .count) (a .lists) (a .limit) (a .s) (a .n) old (held .1) (held .2) (held .3), held .4)
 
 extend-requires : tie.Need-extend-requires Inv-loop μ-loop
-extend-requires c κs = search needs
+extend-requires c κs =
+    let start = c .before .before .before .before .before .before .before .before .before .before .before .before .before in
+    let l = c .before .before .before .before .before .before .before .loop in
+    let h = c .before .before .before .before .before .before .loop-test .taken in
+    let inv = l .inv .0 in
+    (omega (arith, h, start .pre .0), omega (arith, start .pre .1, inv .kept), inv .within, inv .room, l .inv .1, start .pre .5, omega (arith, h, start .pre .6))
 
 enum-known-told : tie.Need-enum-known-told Inv-loop μ-loop
 enum-known-told c = search needs
@@ -62,7 +68,7 @@ returns : tie.Need-returns Inv-loop μ-loop
 returns c =
     let call = c .before .before .before .before .before .before .before .before .before .before in
     let head = call .before .before .before .before .before .before .before .before in
-    let start = head .before .before .before .before .before in
+    let start = head .before .before .before .before .before .before in
     let a = start .args in
     let l = head .loop in
     let e = call .extend in
@@ -85,7 +91,7 @@ loop-again : tie.Need-loop-again Inv-loop μ-loop
 loop-again c =
     let call = c .before .before .before .before .before .before .before .before .before .before .before in
     let head = call .before .before .before .before .before .before .before .before in
-    let start = head .before .before .before .before .before in
+    let start = head .before .before .before .before .before .before in
     let a = start .args in
     let l = head .loop in
     let e = call .extend in
@@ -115,7 +121,7 @@ same-length-8 c = c .before .loop .inv .0 .sizes .rows
 
 returns-2 : tie.Need-returns-2 Inv-loop μ-loop
 returns-2 c =
-    let start = c .before .before .before .before .before .before in
+    let start = c .before .before .before .before .before .before .before in
     let a = start .args in
     let l = c .before .loop in (
       in-row-end (a .images .now) (a .count) (a .lists) (a .limit) (a .s) (a .n)

@@ -24,7 +24,7 @@ slice-write-found c = search needs
 
 loop-holds : tie.Need-loop-holds Inv-loop μ-loop
 loop-holds c =
-    let start = c .before .before .before .before in
+    let start = c .before .before .before .before .before in
     let a = start .args in (
       in-sweep-start (a .images .now) (a .count) (a .lists) (a .limit) (a .found .now) (a .parents .now) (a .symbols .now)
           (a .table .now) (start .pre .1) (start .pre .2),
@@ -34,9 +34,9 @@ loop-holds c =
 row-requires : tie.Need-row-requires Inv-loop μ-loop
 row-requires c κs =
     let head = c .before .before .before .before .before .before .before in
-    let start = head .before .before .before .before .before in
+    let start = head .before .before .before .before .before .before in
     let inv = head .loop .inv in
-    (start .pre .0, c .before .before .before .before .before .before .loop-test .taken, inv .0 .within, inv .0 .room, inv .1, start .pre .3)
+    (start .pre .0, c .before .before .before .before .before .before .loop-test .taken, inv .0 .within, inv .0 .room, inv .1, start .pre .3, start .pre .4)
 
 enum-known-told : tie.Need-enum-known-told Inv-loop μ-loop
 enum-known-told c = search needs
@@ -72,7 +72,7 @@ returns : tie.Need-returns Inv-loop μ-loop
 returns c =
     let call = c .before .before .before .before .before .before .before .before .before .before in
     let head = call .before .before .before .before .before .before .before .before in
-    let start = head .before .before .before .before .before in
+    let start = head .before .before .before .before .before .before in
     let a = start .args in
     let l = head .loop in
     let e = call .row in
@@ -96,7 +96,7 @@ loop-again : tie.Need-loop-again Inv-loop μ-loop
 loop-again c =
     let call = c .before .before .before .before .before .before .before .before .before .before .before in
     let head = call .before .before .before .before .before .before .before .before in
-    let start = head .before .before .before .before .before in
+    let start = head .before .before .before .before .before .before in
     let a = start .args in
     let l = head .loop in
     let e = call .row in
@@ -126,7 +126,7 @@ same-length-8 c = c .before .loop .inv .0 .sizes .rows
 
 returns-2 : tie.Need-returns-2 Inv-loop μ-loop
 returns-2 c =
-    let start = c .before .before .before .before .before .before in
+    let start = c .before .before .before .before .before .before .before in
     let a = start .args in
     let l = c .before .loop in
     in-sweep-end (a .images .now) (a .count) (a .lists) (a .limit)
