@@ -8,15 +8,17 @@ use native.Mathlib.Decide.{ℕ-discrete}
 use native.Mathlib.Omega.{arith}
 use lib.Bits.{bitAnd, and-mask, or-zero-l}
 use lib.Count.{trailingZeros}
-use lib.ListN.{length, getD, set, length-set}
-use lib.Seq.{getD-set-same, getD-set-other}
+use lib.ListN.{getD}
 use borrow.Author.Tests.{ne-eqb}
 use Rattle.theory.specs.Places.{Member, member, union, when, unionOver}
 use Rattle.theory.specs.PlacesLaws.{member-none, member-zero, member-suc, member-test, member-union, member-when, member-unionOver}
+use Rattle.theory.specs.PlacesLaws.{members-below}
 use Rattle.theory.specs.PlacesShift.{member-cut}
 use Rattle.places.specs.NextPlace.{trailing-here}
 use Rattle.places.specs.Followed.{FollowedLeft, followed-start, followed-turn, followed-end, least-left}
+use Rattle.verdict.specs.Columns.{StatesWithin}
 use Rattle.verdict.specs.RowEndsLaws.{mask}
+use Rattle.verdict.specs.TurnedColumns.{Puts}
 
 -- The offsets of a set's places after `base` are in the columns.
 abbrev pub Below : ℕ → ℕ → Type 0
@@ -43,29 +45,27 @@ columnOf before columns base v p = joinedOf columns base (getD before (64 * v + 
 abbrev pub endingOf : ℕ → List ℕ → List ℕ → ℕ → ℕ → ℕ → ℕ
 endingOf accepting before columns base v i = when (member (1 + i) accepting) (columnOf before columns base v (1 + i))
 
--- `next` becomes `next′`: the occurrences that the label enters have their columns, and nothing else is changed. The states r are those at
--- whose occurrences a path of the list may end.
-pub record ListColumns (v size base entered accepting : ℕ) (before columns next next′ : List ℕ) (r : ℕ) : Type 0 where
-  pub sized : length next′ ≡ length next
-  pub filled : (i : ℕ) → Member i (innerOf entered size) → getD next′ (base + (1 + i)) 0 ≡ columnOf before columns base v (1 + i)
-  pub others : (x : ℕ) → ((i : ℕ) → Member i (innerOf entered size) → x ≢ base + (1 + i)) → getD next′ x 0 ≡ getD next x 0
+-- The columns `next` become `next′`, each given by its offset: the occurrences that the label enters gain their columns, and nothing else is
+-- changed. The states r are those at whose occurrences a path of the list may end.
+pub record ListColumns (v size base entered accepting : ℕ) (before columns : List ℕ) (next next′ : ℕ → ℕ) (r : ℕ) : Type 0 where
+  pub filled : (i : ℕ) → Member i (innerOf entered size)
+      → next′ (base + (1 + i)) ≡ union (next (base + (1 + i))) (columnOf before columns base v (1 + i))
+  pub others : (x : ℕ) → ((i : ℕ) → Member i (innerOf entered size) → x ≢ base + (1 + i)) → next′ x ≡ next x
   pub ends : r ≡ unionOver (endingOf accepting before columns base v) 64 (innerOf entered size)
 
 -- The occurrences of `rest` are left.
-pub record ColumnsLeft (v size base entered accepting : ℕ) (before columns next₀ next : List ℕ) (ends rest : ℕ) : Type 0 where
-  pub sized : length next ≡ length next₀
+pub record ColumnsLeft (v size base entered accepting : ℕ) (before columns : List ℕ) (next₀ next : ℕ → ℕ) (ends rest : ℕ) : Type 0 where
   pub within : (i : ℕ) → Member i rest → Member i (innerOf entered size)
   pub filled : (i : ℕ) → Member i (innerOf entered size) → ¬ Member i rest
-      → getD next (base + (1 + i)) 0 ≡ columnOf before columns base v (1 + i)
-  pub others : (x : ℕ) → ((i : ℕ) → Member i (innerOf entered size) → x ≢ base + (1 + i)) → getD next x 0 ≡ getD next₀ x 0
+      → next (base + (1 + i)) ≡ union (next₀ (base + (1 + i))) (columnOf before columns base v (1 + i))
+  pub others : (x : ℕ) → ((i : ℕ) → Member i (innerOf entered size) → ¬ Member i rest → x ≢ base + (1 + i)) → next x ≡ next₀ x
   pub followed : FollowedLeft (endingOf accepting before columns base v) (innerOf entered size) ends rest
 
 module _ (v size base entered accepting : ℕ) (before columns : List ℕ) where
-  pub columns-start : (next : List ℕ) (rest : ℕ) → rest ≡ innerOf entered size
+  pub columns-start : (next : ℕ → ℕ) (rest : ℕ) → rest ≡ innerOf entered size
       → ColumnsLeft v size base entered accepting before columns next next 0 rest
   columns-start next rest e =
       record {
-        sized = refl;
         within = λ i m. subst (Member i) e m;
         filled = λ i m d. absurd (d (subst (Member i) (sym e) m));
         others = λ x d. refl;
@@ -76,23 +76,23 @@ module _ (v size base entered accepting : ℕ) (before columns : List ℕ) where
       f = endingOf accepting before columns base v
 
   -- The least occurrence left is one of the list's.
-  pub least-inside : (next₀ next : List ℕ) (ends rest : ℕ) → rest ≢ 0 → rest < 2 ^ 64
+  pub least-inside : (next₀ next : ℕ → ℕ) (ends rest : ℕ) → rest ≢ 0 → rest < 2 ^ 64
       → ColumnsLeft v size base entered accepting before columns next₀ next ends rest → trailingZeros 64 rest < size
   least-inside next₀ next ends rest d h s =
       member-cut size (trailingZeros 64 rest) (entered / 2) .0 (s .within (trailingZeros 64 rest) (trailing-here 64 rest d h)) .0
 
-  pub columns-turn : (next₀ next : List ℕ) (ends rest y z : ℕ) → rest ≢ 0 → rest < 2 ^ 64
-      → base + (1 + trailingZeros 64 rest) < length next → y ≡ columnOf before columns base v (1 + trailingZeros 64 rest)
-      → z ≡ when (member (1 + trailingZeros 64 rest) accepting) y
+  pub columns-turn : (next₀ next next′ : ℕ → ℕ) (ends rest y z : ℕ) → rest ≢ 0 → rest < 2 ^ 64
+      → y ≡ columnOf before columns base v (1 + trailingZeros 64 rest) → z ≡ when (member (1 + trailingZeros 64 rest) accepting) y
+      → Puts (base + (1 + trailingZeros 64 rest)) y next next′
       → ColumnsLeft v size base entered accepting before columns next₀ next ends rest
-      → ColumnsLeft v size base entered accepting before columns next₀ (set next (base + (1 + trailingZeros 64 rest)) y) (union ends z)
-      (bitAnd rest (rest - 1))
-  columns-turn next₀ next ends rest y z d h room e g s =
+      → ColumnsLeft v size base entered accepting before columns next₀ next′ (union ends z) (bitAnd rest (rest - 1))
+  columns-turn next₀ next next′ ends rest y z d h e g put s =
       record {
-        sized = length-set next (base + (1 + t)) y ∙ s .sized;
         within = λ i m. s .within i (least-left 64 rest d h i .0 m .0);
         filled = λ i m k. at i m k (ℕ-discrete i t);
-        others = λ x k. getD-set-other next (base + (1 + t)) x y 0 (k t (s .within t (trailing-here 64 rest d h))) ∙ s .others x k;
+        others = λ x k.
+            put .others x (k t (s .within t (trailing-here 64 rest d h)) (λ m. least-left 64 rest d h t .0 m .1 refl))
+            ∙ s .others x (λ i m c. k i m (λ r. c (least-left 64 rest d h i .0 r .0)));
         followed = subst (λ k. FollowedLeft f (innerOf entered size) (union ends k) (bitAnd rest (rest - 1)))
             (sym (g ∙ ap (when (member (1 + t) accepting)) e)) (followed-turn f (innerOf entered size) ends rest d h (s .followed));
       }
@@ -104,20 +104,21 @@ module _ (v size base entered accepting : ℕ) (before columns : List ℕ) where
       f = endingOf accepting before columns base v
 
       at : (i : ℕ) → Member i (innerOf entered size) → ¬ Member i (bitAnd rest (rest - 1)) → Dec (i ≡ t)
-          → getD (set next (base + (1 + t)) y) (base + (1 + i)) 0 ≡ columnOf before columns base v (1 + i)
-      at i m k (yes q) = rw q (getD-set-same next (base + (1 + t)) y 0 room ∙ e)
+          → next′ (base + (1 + i)) ≡ union (next₀ (base + (1 + i))) (columnOf before columns base v (1 + i))
+      at i m k (yes q) =
+          let waiting : next (base + (1 + t)) ≡ next₀ (base + (1 + t)) =
+          s .others (base + (1 + t)) (λ j _ c p. let l : t ≡ j = omega arith in c (subst (λ u. Member u rest) l (trailing-here 64 rest d h))) in
+          rw q (put .here ∙ ap (λ u. union u y) waiting ∙ ap (union (next₀ (base + (1 + t)))) e)
       at i m k (no q) =
-          getD-set-other next (base + (1 + t)) (base + (1 + i)) y 0 (λ p. q (omega arith))
-          ∙ s .filled i m (λ r. k (least-left 64 rest d h i .1 (r, q)))
+          put .others (base + (1 + i)) (λ p. q (omega arith)) ∙ s .filled i m (λ r. k (least-left 64 rest d h i .1 (r, q)))
 
-  pub columns-end : (next₀ next : List ℕ) (ends rest : ℕ) → rest ≡ 0
+  pub columns-end : (next₀ next : ℕ → ℕ) (ends rest : ℕ) → rest ≡ 0
       → ColumnsLeft v size base entered accepting before columns next₀ next ends rest
       → ListColumns v size base entered accepting before columns next₀ next ends
   columns-end next₀ next ends rest e s =
       record {
-        sized = s .sized;
         filled = λ i m. s .filled i m (λ k. member-none i (subst (Member i) e k));
-        others = s .others;
+        others = λ x k. s .others x (λ i m c. k i m);
         ends = followed-end (endingOf accepting before columns base v) (innerOf entered size) ends rest e (s .followed);
       }
 
@@ -190,3 +191,21 @@ member-joined columns base from q few = (λ m. there (member-union q first later
         let e : base + suc o ≡ base + 1 + o = omega arith in
         inr (member-unionOver (λ o. getD columns (base + 1 + o) 0) 64 (from / 2) q .1
         (o, omega (arith, few (suc o) m), member-suc o from .0 m, subst (λ z. Member q (getD columns z 0)) e k))
+
+-- The states of an occurrence are below n where those of the columns are.
+pub column-within : (n v size base : ℕ) (before columns : List ℕ) → size < 64 → PlacesOf v size before
+    → StatesWithin (base + size + 1) n columns → (i y : ℕ) → i < size → y ≡ columnOf before columns base v (1 + i) → y < 2 ^ n
+column-within n v size base before columns few places within i y h e =
+    members-below n y
+    (λ q m. side q (member-joined columns base from q (λ o k. omega (arith, inside o k)) .0 (subst (Member q) e m)))
+  where
+    from : ℕ
+    from = getD before (64 * v + (1 + i)) 0
+
+    inside : (o : ℕ) → Member o from → o ≤ size
+    inside o m = places o (1 + i) (omega arith) m
+
+    side : (q : ℕ) → (Member 0 from × Member q (getD columns 0 0)) ⊎ ((o : ℕ) × Member (suc o) from × Member q (getD columns (base + suc o) 0))
+        → q < n
+    side q (inl (m, k)) = within q 0 (omega arith) k
+    side q (inr (o, m, k)) = within q (base + suc o) (omega (arith, inside (suc o) m)) k

@@ -5,17 +5,18 @@ use mathlib.Core.Logic.{_↔_, _⊎_, inl, inr}
 use mathlib.Core.Path.{_≡_, refl, sym, ap, _∙_, subst}
 use native.Mathlib.Decide.{decLt}
 use native.Mathlib.Omega.{arith}
-use lib.ListN.{length, getD, set}
-use lib.Seq.{getD-set-same, getD-set-other}
+use lib.Bits.{or-zero-l}
+use lib.ListN.{getD}
 use Rattle.theory.specs.Places.{Member, member, union, when, unionOver}
 use Rattle.theory.specs.PlacesLaws.{member-none, member-suc, member-below, member-test, member-union, member-when}
-use Rattle.theory.specs.PlacesLaws.{member-unionOver, decMember}
+use Rattle.theory.specs.PlacesLaws.{member-unionOver, members-below, decMember}
 use Rattle.theory.specs.PlacesShift.{member-cut}
 use Rattle.verdict.specs.Tables.{occupied, Counted}
 use Rattle.verdict.specs.RowEndsLaws.{occupied-more, occupied-grows}
-use Rattle.verdict.specs.Columns.{offsetIn, PlacesWithin, Stepped}
-use Rattle.verdict.specs.ColumnOffsets.{occupied-room}
+use Rattle.verdict.specs.Columns.{offsetIn, StatesWithin, PlacesWithin, EndedWithin, Stepped}
+use Rattle.verdict.specs.ColumnOffsets.{occupied-room, offset-below}
 use Rattle.verdict.specs.ColumnLists.{innerOf, columnOf, endingOf, ListColumns, when-has, when-lacks, member-joined}
+use Rattle.verdict.specs.TurnedColumns.{Puts}
 
 -- The occurrences in a set of places, from 1 on.
 member-inner : (s size i : ℕ) → Member i (innerOf s size) ↔ ((i < size) × Member (1 + i) s)
@@ -37,32 +38,32 @@ module _ (n a : ℕ) (enter sizes accepting before ended columns : List ℕ) whe
 
   -- The lists before v are done: their occurrences have their columns, those of the others are empty, and `alone` are the states reached
   -- where their paths end.
-  pub record ListsLeft (next : List ℕ) (base alone v : ℕ) : Type 0 where
+  pub record ListsLeft (next : ℕ → ℕ) (base alone v : ℕ) : Type 0 where
     pub inside : v ≤ n
-    pub sized : length next ≡ 1024
     pub low : base ≡ occupied sizes 0 v
-    pub done : (u p : ℕ) → u < v → 0 < p → p ≤ getD sizes (u + 1) 0 → getD next (occupied sizes 0 u + p) 0 ≡ steppedAt u p
-    pub left : (x : ℕ) → base < x → x ≤ occupied sizes 0 n → getD next x 0 ≡ 0
+    pub done : (u p : ℕ) → u < v → 0 < p → p ≤ getD sizes (u + 1) 0 → next (occupied sizes 0 u + p) ≡ steppedAt u p
+    pub first : next 0 ≡ 0
+    pub left : (x : ℕ) → base < x → next x ≡ 0
     pub alone-exact : (t : ℕ) → Member t alone ↔ AloneBefore v t
 
-  pub lists-start : (next : List ℕ) → length next ≡ 1024 → ((x : ℕ) → x ≤ occupied sizes 0 n → getD next x 0 ≡ 0) → ListsLeft next 0 0 0
+  pub lists-start : (next : ℕ → ℕ) → ((x : ℕ) → next x ≡ 0) → ListsLeft next 0 0 0
   unfolding occupied
-  lists-start next size zeros =
+  lists-start next zeros =
       record {
         inside = omega arith;
-        sized = size;
         low = refl;
         done = λ u p h. absurd (omega arith);
-        left = λ x h k. zeros x k;
+        first = zeros 0;
+        left = λ x h. zeros x;
         alone-exact = λ t. (λ m. absurd (member-none t m), λ (v, p, q, h, b, c, d, e, k). absurd (omega arith));
       }
 
   -- The occurrences of the list v are among the offsets.
-  pub lists-room : (next : List ℕ) (base alone v : ℕ) → v < n → ListsLeft next base alone v
+  pub lists-room : (next : ℕ → ℕ) (base alone v : ℕ) → v < n → ListsLeft next base alone v
       → base + getD sizes (v + 1) 0 ≤ occupied sizes 0 n
   lists-room next base alone v h s = omega (arith, s .low, occupied-room sizes v n h)
 
-  module _ (next next′ : List ℕ) (base alone v ends : ℕ) (h : v < n) (s : ListsLeft next base alone v) (small : ends < 2 ^ 64)
+  module _ (next next′ : ℕ → ℕ) (base alone v ends : ℕ) (h : v < n) (s : ListsLeft next base alone v) (small : ends < 2 ^ 64)
       (t : ListColumns v (getD sizes (v + 1) 0) base (getD enter (32 * (v + 1) + a) 0) (getD accepting (v + 1) 0) before columns
       next next′ ends)
       (few : getD sizes (v + 1) 0 ≤ 63) where
@@ -77,32 +78,34 @@ module _ (n a : ℕ) (enter sizes accepting before ended columns : List ℕ) whe
 
     -- The columns of the lists before, and of the list v.
 
-    earlier : (u p : ℕ) → u < v → 0 < p → p ≤ getD sizes (u + 1) 0 → getD next′ (occupied sizes 0 u + p) 0 ≡ steppedAt u p
+    earlier : (u p : ℕ) → u < v → 0 < p → p ≤ getD sizes (u + 1) 0 → next′ (occupied sizes 0 u + p) ≡ steppedAt u p
     earlier u p l k m =
         t .others (occupied sizes 0 u + p)
         (λ i j e. omega (arith, s .low, occupied-more sizes u, occupied-grows sizes (u + 1) v (omega arith)))
         ∙ s .done u p l k m
 
-    this : (p : ℕ) → 0 < p → p ≤ size → Dec (Member p entry) → getD next′ (occupied sizes 0 v + p) 0 ≡ steppedAt v p
+    this : (p : ℕ) → 0 < p → p ≤ size → Dec (Member p entry) → next′ (occupied sizes 0 v + p) ≡ steppedAt v p
     this p k m (yes i) =
         let e : 1 + (p - 1) ≡ p = omega arith in
         let place : occupied sizes 0 v + p ≡ base + (1 + (p - 1)) = omega (arith, s .low) in
-        ap (λ x. getD next′ x 0) place
+        ap next′ place
         ∙ t .filled (p - 1) (member-inner entry size (p - 1) .1 (omega arith, subst (λ z. Member z entry) (sym e) i))
+        ∙ ap (λ x. union x (columnOf before columns base v (1 + (p - 1)))) (s .left (base + (1 + (p - 1))) (omega arith))
+        ∙ or-zero-l (columnOf before columns base v (1 + (p - 1)))
         ∙ ap (columnOf before columns base v) e ∙ same-column p
         ∙ sym (when-has p entry (columnOf before columns (occupied sizes 0 v) v p) i)
     this p k m (no d) =
         t .others (occupied sizes 0 v + p) (λ i j e.
         let same : 1 + i ≡ p = omega (arith, s .low) in
         d (subst (λ z. Member z entry) same (member-inner entry size i .0 j .1)))
-        ∙ s .left (occupied sizes 0 v + p) (omega (arith, s .low)) (omega (arith, occupied-room sizes v n h))
+        ∙ s .left (occupied sizes 0 v + p) (omega (arith, s .low))
         ∙ sym (when-lacks p entry (columnOf before columns (occupied sizes 0 v) v p) d)
 
-    filled : (u p : ℕ) → u < v + 1 → 0 < p → p ≤ getD sizes (u + 1) 0 → Dec (u < v) → getD next′ (occupied sizes 0 u + p) 0 ≡ steppedAt u p
+    filled : (u p : ℕ) → u < v + 1 → 0 < p → p ≤ getD sizes (u + 1) 0 → Dec (u < v) → next′ (occupied sizes 0 u + p) ≡ steppedAt u p
     filled u p l k m (yes d) = earlier u p d k m
     filled u p l k m (no d) =
         let e : v ≡ u = omega arith in
-        subst (λ z. p ≤ getD sizes (z + 1) 0 → getD next′ (occupied sizes 0 z + p) 0 ≡ steppedAt z p) e
+        subst (λ z. p ≤ getD sizes (z + 1) 0 → next′ (occupied sizes 0 z + p) ≡ steppedAt z p) e
         (λ r. this p k r (decMember p entry)) m
 
     -- The states at whose occurrences a path of the list v may end.
@@ -165,10 +168,10 @@ module _ (n a : ℕ) (enter sizes accepting before ended columns : List ℕ) whe
     lists-turn y e =
         record {
           inside = omega arith;
-          sized = t .sized ∙ s .sized;
           low = omega (arith, s .low, occupied-more sizes v);
           done = λ u p l k m. filled u p l k m (decLt u v);
-          left = λ x l k. t .others x (λ i j z. omega (arith, member-inner entry size i .0 j .0)) ∙ s .left x (omega arith) k;
+          first = t .others 0 (λ i j z. omega arith) ∙ s .first;
+          left = λ x l. t .others x (λ i j z. omega (arith, member-inner entry size i .0 j .0)) ∙ s .left x (omega arith);
           alone-exact = λ x. (
             λ m. alone-there x (member-union x alone reached .0 (subst (λ z. Member x (union alone z)) e m)),
             λ m. subst (λ z. Member x (union alone z)) (sym e) (member-union x alone reached .1 (alone-back x m)),
@@ -203,9 +206,28 @@ module _ (n a : ℕ) (enter sizes accepting before ended columns : List ℕ) whe
       back zero m i = inl (m, i)
       back (suc o) m i = inr (o, m, i)
 
-  pub lists-end : (next : List ℕ) (base alone v : ℕ) → n ≤ v → ListsLeft next base alone v → Counted n sizes → PlacesWithin n sizes before
-      → Stepped n a enter sizes accepting before ended columns (set next 0 alone)
-  lists-end next base alone v h s counted within =
+  -- The states alone are below `states` where those of the columns are, and those reached from them.
+  pub alone-within : (w states : ℕ) (next : ℕ → ℕ) (base alone v : ℕ) → ListsLeft next base alone v → Counted n sizes
+      → w ≡ suc (occupied sizes 0 n) → PlacesWithin n sizes before → StatesWithin w states columns → EndedWithin states n ended
+      → alone < 2 ^ states
+  alone-within w states next base alone v s counted wide within below reached =
+      members-below states alone λ t m.
+      let (u, p, q, h, b, c, d, e, k) = s .alone-exact t .0 m in
+      let i : u < n = omega (arith, s .inside) in
+      let (y, z) = member-when (member p (getD enter (32 * (u + 1) + a) 0)) q (columnOf before columns (occupied sizes 0 u) u p) .0 e in
+      let (o, leads, had) = column-from counted within u p q i c .0 z in
+      let few : o ≤ getD sizes (u + 1) 0 = within u o p i (omega (arith, counted .small u i)) leads in
+      reached q u t (below q (offsetIn sizes u o) (omega (arith, wide, offset-below sizes u o n i few)) had) i k
+
+  -- The columns after the last list's are empty.
+  pub lists-empty : (w : ℕ) (next next′ : ℕ → ℕ) (base alone v : ℕ) → ListsLeft next base alone v → w ≡ suc (occupied sizes 0 n)
+      → Puts 0 alone next next′ → (x : ℕ) → w ≤ x → next′ x ≡ 0
+  lists-empty w next next′ base alone v s wide put x h =
+      put .others x (λ e. omega arith) ∙ s .left x (omega (arith, wide, s .low, occupied-grows sizes v n (s .inside)))
+
+  pub lists-end : (next next′ : ℕ → ℕ) (base alone v : ℕ) → n ≤ v → ListsLeft next base alone v → Puts 0 alone next next′ → Counted n sizes
+      → PlacesWithin n sizes before → Stepped n a enter sizes accepting before ended columns next′
+  lists-end next next′ base alone v h s put counted within =
       record {
         moved = λ u p q l k m. (
           λ x.
@@ -227,9 +249,9 @@ module _ (n a : ℕ) (enter sizes accepting before ended columns : List ℕ) whe
         );
       }
     where
-      first : getD (set next 0 alone) 0 0 ≡ alone
-      first = getD-set-same next 0 alone 0 (omega (arith, s .sized))
+      first : next′ 0 ≡ alone
+      first = put .here ∙ ap (λ x. union x alone) (s .first) ∙ or-zero-l alone
 
       stands : (u p : ℕ) → u < n → 0 < p → p ≤ getD sizes (u + 1) 0
-          → getD (set next 0 alone) (occupied sizes 0 u + p) 0 ≡ steppedAt u p
-      stands u p l k m = getD-set-other next 0 (occupied sizes 0 u + p) alone 0 (λ e. omega arith) ∙ s .done u p (omega arith) k m
+          → next′ (occupied sizes 0 u + p) ≡ steppedAt u p
+      stands u p l k m = put .others (occupied sizes 0 u + p) (λ e. omega arith) ∙ s .done u p (omega arith) k m

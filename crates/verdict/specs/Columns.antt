@@ -15,14 +15,19 @@ abbrev pub offsetIn : List ℕ → ℕ → ℕ → ℕ
 offsetIn sizes v zero = 0
 offsetIn sizes v (suc o) = occupied sizes 0 v + suc o
 
+-- The first w columns have states below `states` alone.
+abbrev pub StatesWithin : ℕ → ℕ → List ℕ → Type 0
+StatesWithin w states columns = (q o : ℕ) → o < w → Member q (getD columns o 0) → q < states
+
 -- The columns of a cover set.
 pub record ColumnsOf (w states : ℕ) (set columns : List ℕ) : Type 0 where
   pub exact : (q o : ℕ) → q < states → o < w → Member q (getD columns o 0) ↔ Member (w * q + o) (numberOf set)
-  pub within : (q o : ℕ) → o < w → Member q (getD columns o 0) → q < states
+  pub within : StatesWithin w states columns
 
--- The set of columns, which has no other places.
-pub record SetOf (w states : ℕ) (columns set : List ℕ) : Type 0 where
-  pub same : ColumnsOf w states set columns
+-- The set of columns, which has no other places; `next` gives the column of each offset.
+pub record SetOf (w states : ℕ) (next : ℕ → ℕ) (set : List ℕ) : Type 0 where
+  pub exact : (q o : ℕ) → q < states → o < w → Member q (next o) ↔ Member (w * q + o) (numberOf set)
+  pub within : (q o : ℕ) → o < w → Member q (next o) → q < states
   pub below : numberOf set < 2 ^ (states * w)
 
 -- The entry 64 × v + p has places of the list v alone.
@@ -45,18 +50,23 @@ pub record Passing (states n : ℕ) (accepting table passes : List ℕ) : Type 0
   pub exact : (q t : ℕ) → q < states → Member t (getD passes q 0) ↔ Reaches (Passes n accepting table) q t
   pub within : (q t : ℕ) → q < states → Member t (getD passes q 0) → t < states
 
--- The entry 16 × q + v has the states that are reached from the state q where a path of the list v ends.
+-- The entry 16 × q + v has states below `states` alone.
+abbrev pub EndedWithin : ℕ → ℕ → List ℕ → Type 0
+EndedWithin states n ended = (q v t : ℕ) → q < states → v < n → Member t (getD ended (16 * q + v) 0) → t < states
+
+-- It has the states that are reached from the state q where a path of the list v ends.
 pub record Finishing (states n : ℕ) (accepting table ended : List ℕ) : Type 0 where
   pub exact : (q v t : ℕ) → q < states → v < n
       → Member t (getD ended (16 * q + v) 0) ↔ Reaches (Passes n accepting table) (getD table (16 * q + v) 0) t
-  pub within : (q v t : ℕ) → q < states → v < n → Member t (getD ended (16 * q + v) 0) → t < states
+  pub within : EndedWithin states n ended
 
--- The columns after a step over the label a: the occurrences that it leads to, and the states alone where paths of lists end.
-pub record Stepped (n a : ℕ) (enter sizes accepting before ended columns next : List ℕ) : Type 0 where
+-- The columns after a step over the label a: the occurrences that it leads to, and the states alone where paths of lists end. `next` gives
+-- the column of each offset.
+pub record Stepped (n a : ℕ) (enter sizes accepting before ended columns : List ℕ) (next : ℕ → ℕ) : Type 0 where
   pub moved : (v p q : ℕ) → v < n → 0 < p → p ≤ getD sizes (v + 1) 0
-      → Member q (getD next (occupied sizes 0 v + p) 0)
+      → Member q (next (occupied sizes 0 v + p))
       ↔ (Member p (getD enter (32 * (v + 1) + a) 0)
       × ((o : ℕ) × Member o (getD before (64 * v + p) 0) × Member q (getD columns (offsetIn sizes v o) 0)))
-  pub alone : (t : ℕ) → Member t (getD next 0 0)
+  pub alone : (t : ℕ) → Member t (next 0)
       ↔ ((v : ℕ) × (p : ℕ) × (q : ℕ) × (v < n) × (0 < p) × (p ≤ getD sizes (v + 1) 0) × Member p (getD accepting (v + 1) 0)
-      × Member q (getD next (occupied sizes 0 v + p) 0) × Member t (getD ended (16 * q + v) 0))
+      × Member q (next (occupied sizes 0 v + p)) × Member t (getD ended (16 * q + v) 0))

@@ -95,11 +95,11 @@ module _ (states n a : ℕ) (follow enter sizes accepting table flags : List ℕ
             r,
           )
 
-  module _ (before ended set columns next set′ : List ℕ) (leading : Leading n follow sizes before)
+  module _ (before ended set columns : List ℕ) (next : ℕ → ℕ) (set′ : List ℕ) (leading : Leading n follow sizes before)
       (finishing : Finishing states n accepting table ended) (of : ColumnsOf w states set columns)
       (stepped : Stepped n a enter sizes accepting before ended columns next) (set-of : SetOf w states next set′) where
     -- A state in the column of an occurrence: a place of the set leads there.
-    moved-from : (v p q : ℕ) → v < n → 0 < p → p ≤ getD sizes (v + 1) 0 → Member q (getD next (occupied sizes 0 v + p) 0)
+    moved-from : (v p q : ℕ) → v < n → 0 < p → p ≤ getD sizes (v + 1) 0 → Member q (next (occupied sizes 0 v + p))
         → (q < states) × ((x : ℕ) × (x < states * w) × Member x (numberOf set)
         × TableMove n a follow enter sizes x (w * q + (occupied sizes 0 v + p)))
     moved-from v p q h s k m =
@@ -128,7 +128,7 @@ module _ (states n a : ℕ) (follow enter sizes accepting table flags : List ℕ
         )
 
     -- Every place of the stepped columns is one of the step.
-    column-there : (q o : ℕ) → q < states → o < w → Member q (getD next o 0) → Member (w * q + o) (coverStep R lists (numberOf set) a)
+    column-there : (q o : ℕ) → q < states → o < w → Member q (next o) → Member (w * q + o) (coverStep R lists (numberOf set) a)
     column-there q zero h k m =
         let (v, p, r, l, s, i, c, j, d) = stepped .alone q .0 m in
         let (inside, (x, b, e, t)) = moved-from v p r l s i j in
@@ -141,7 +141,7 @@ module _ (states n a : ℕ) (follow enter sizes accepting table flags : List ℕ
         (step-exactly (numberOf set) (w * q) .1 (x, z, b, e, t, onward ends-here onwards))
     column-there q (suc o) h k m =
         let (v, i, l, s, e) = occurrence-at sizes n (suc o) (omega arith) (omega arith) in
-        let (inside, (x, b, j, t)) = moved-from v (suc i) q l (omega arith) s (subst (λ y. Member q (getD next y 0)) e m) in
+        let (inside, (x, b, j, t)) = moved-from v (suc i) q l (omega arith) s (subst (λ y. Member q (next y)) e m) in
         subst (λ y. Member (w * q + y) (coverStep R lists (numberOf set) a)) (sym e)
         (step-exactly (numberOf set) (w * q + (occupied sizes 0 v + suc i)) .1 (x, w * q + (occupied sizes 0 v + suc i), b, j, t, here))
 
@@ -149,7 +149,7 @@ module _ (states n a : ℕ) (follow enter sizes accepting table flags : List ℕ
 
     move-column : (x z : ℕ) → x < states * w → Member x (numberOf set) → (t : TableMove n a follow enter sizes x z)
         → (t .state < states) × (0 < t .to) × (t .to ≤ getD sizes (t .list + 1) 0)
-        × Member (t .state) (getD next (occupied sizes 0 (t .list) + t .to) 0)
+        × Member (t .state) (next (occupied sizes 0 (t .list) + t .to))
     move-column x z l m t =
         let v = t .list in
         let low : offsetIn sizes v (t .from) < w = offset-below sizes v (t .from) n (t .inside) (t .within) in
@@ -191,25 +191,25 @@ module _ (states n a : ℕ) (follow enter sizes accepting table flags : List ℕ
         place : ℕ
         place = occupied sizes 0 v + t .to
 
-        held : (q < states) × (0 < t .to) × (t .to ≤ getD sizes (v + 1) 0) × Member q (getD next place 0)
+        held : (q < states) × (0 < t .to) × (t .to ≤ getD sizes (v + 1) 0) × Member q (next place)
         held = move-column x z l m t
 
         go : (z ≡ y) ⊎ ((u : ℕ) × Ends z u × Reaches Ends u y) → Member y (numberOf set′)
         go (inl e) =
             let (inside, some, small, c) = held in
             subst (λ u. Member u (numberOf set′)) (sym (t .stops) ∙ e)
-            (set-of .same .exact q place inside (omega (arith, occupied-room sizes v n (t .inside))) .0 c)
+            (set-of .exact q place inside (omega (arith, occupied-room sizes v n (t .inside))) .0 c)
         go (inr (u, e, f)) =
             let (inside, some, small, c) = held in
             let (i, g) = table-ends-there states n follow enter sizes accepting table flags counted room q v (t .to) u
             (t .inside) some small (subst (λ k. Ends k u) (t .stops) e) in
             let (s, k, p) = table-reached-there states n follow enter sizes accepting table flags counted room
             (getD table (16 * q + v) 0) y (subst (λ k. Reaches Ends k y) g f) in
-            let alone : Member s (getD next 0 0) =
+            let alone : Member s (next 0) =
             stepped .alone s .1 (v, t .to, q, t .inside, some, small, i, c, finishing .exact q v s inside (t .inside) .1 p) in
-            let state : s < states = set-of .same .within s 0 (omega arith) alone in
+            let state : s < states = set-of .within s 0 (omega arith) alone in
             let same : w * s + 0 ≡ y = omega arith in
-            subst (λ u. Member u (numberOf set′)) same (set-of .same .exact s 0 state (omega arith) .0 alone)
+            subst (λ u. Member u (numberOf set′)) same (set-of .exact s 0 state (omega arith) .0 alone)
 
     same-step : numberOf set′ ≡ coverStep R lists (numberOf set) a
     same-step = equal-members (numberOf set′) (coverStep R lists (numberOf set) a) λ y. (there y, back y)
@@ -222,14 +222,14 @@ module _ (states n a : ℕ) (follow enter sizes accepting table flags : List ℕ
             let parts : w * (y / w) + y % w ≡ y = div-add-mod y w in
             subst (λ z. Member z (coverStep R lists (numberOf set) a)) parts
             (column-there (y / w) (y % w) q o
-            (set-of .same .exact (y / w) (y % w) q o .1 (subst (λ z. Member z (numberOf set′)) (sym parts) m)))
+            (set-of .exact (y / w) (y % w) q o .1 (subst (λ z. Member z (numberOf set′)) (sym parts) m)))
 
         back : (y : ℕ) → Member y (coverStep R lists (numberOf set) a) → Member y (numberOf set′)
         back y m =
             let (x, z, l, i, t, r) = step-exactly (numberOf set) y .0 m in
             reached-column x z y l i t r
 
-pub columns-step : (states n a : ℕ) (follow enter sizes accepting table before ended set columns next set′ : List ℕ)
+pub columns-step : (states n a : ℕ) (follow enter sizes accepting table before ended set columns : List ℕ) (next : ℕ → ℕ) (set′ : List ℕ)
     → Proper states n follow enter sizes accepting table → a < 32 → Leading n follow sizes before → Finishing states n accepting table ended
     → ColumnsOf (suc (occupied sizes 0 n)) states set columns → Stepped n a enter sizes accepting before ended columns next
     → SetOf (suc (occupied sizes 0 n)) states next set′ → (flags : List ℕ)

@@ -168,27 +168,27 @@ list-turn v o follow before₀ before before′ s e none f l =
     start x h (yes d) m = none (subst (Member 0) (ap led d ∙ sym e) m)
     start x h (no d) m = l .no-start x (omega arith) m
 
--- The entries of the lists before v are filled, and those of the others are empty.
-pub record ListsLed (v : ℕ) (follow sizes before : List ℕ) : Type 0 where
+-- The entries of the lists before v are filled, and those of the others are empty; there are n lists.
+pub record ListsLed (n v : ℕ) (follow sizes before : List ℕ) : Type 0 where
   pub done : (u x p : ℕ) → u < v → p < 64 → Member x (getD before (64 * u + p) 0)
       ↔ ((x ≤ getD sizes (u + 1) 0) × Member p (getD follow (64 * (u + 1) + x) 0))
-  pub empty : (i : ℕ) → 64 * v ≤ i → getD before i 0 ≡ 0
+  pub empty : (i : ℕ) → 64 * v ≤ i → i < 64 * n → getD before i 0 ≡ 0
   pub no-start : (u x : ℕ) → u < v → x ≤ getD sizes (u + 1) 0 → ¬ Member 0 (getD follow (64 * (u + 1) + x) 0)
 
-pub lists-start : (follow sizes before : List ℕ) → ((i : ℕ) → getD before i 0 ≡ 0) → ListsLed 0 follow sizes before
-lists-start follow sizes before zeros =
+pub lists-start : (n : ℕ) (follow sizes before : List ℕ) → ((i : ℕ) → i < 64 * n → getD before i 0 ≡ 0) → ListsLed n 0 follow sizes before
+lists-start n follow sizes before zeros =
     record {
       done = λ u x p h. absurd (omega arith);
-      empty = λ i h. zeros i;
+      empty = λ i h k. zeros i k;
       no-start = λ u x h. absurd (omega arith);
     }
 
-pub lists-turn : (v : ℕ) (follow sizes before before′ : List ℕ) → ListLed v (getD sizes (v + 1) 0) follow before before′
-    → ListsLed v follow sizes before → ListsLed (v + 1) follow sizes before′
-lists-turn v follow sizes before before′ f l =
+pub lists-turn : (n v : ℕ) (follow sizes before before′ : List ℕ) → v < n → ListLed v (getD sizes (v + 1) 0) follow before before′
+    → ListsLed n v follow sizes before → ListsLed n (v + 1) follow sizes before′
+lists-turn n v follow sizes before before′ low f l =
     record {
       done = λ u x p h k. side u x p h k (ℕ-discrete u v);
-      empty = λ i h. f .apart i (inr (omega arith)) ∙ l .empty i (omega arith);
+      empty = λ i h k. f .apart i (inr (omega arith)) ∙ l .empty i (omega arith) k;
       no-start = λ u x h k. start u x h k (ℕ-discrete u v);
     }
   where
@@ -200,7 +200,7 @@ lists-turn v follow sizes before before′ f l =
       where
         new : Member x (getD before (64 * v + p) 0)
             ⊎ ((x < getD sizes (v + 1) 0 + 1) × Member p (getD follow (64 * (v + 1) + x) 0)) → Right v x p
-        new (inl m) = absurd (member-none x (subst (Member x) (l .empty (64 * v + p) (omega arith)) m))
+        new (inl m) = absurd (member-none x (subst (Member x) (l .empty (64 * v + p) (omega arith) (omega arith)) m))
         new (inr (h, m)) = (omega arith, m)
 
     side : (u x p : ℕ) → u < v + 1 → p < 64 → Dec (u ≡ v) → Member x (getD before′ (64 * u + p) 0) ↔ Right u x p
@@ -214,7 +214,7 @@ lists-turn v follow sizes before before′ f l =
         (subst (λ (z : ℕ). Member 0 (getD follow (64 * (z + 1) + x) 0)) e m)
     start u x h k (no d) m = l .no-start u x (omega arith) k m
 
-pub lists-end : (n v : ℕ) (follow sizes before : List ℕ) → v ≡ n → ListsLed v follow sizes before → Leading n follow sizes before
+pub lists-end : (n v : ℕ) (follow sizes before : List ℕ) → v ≡ n → ListsLed n v follow sizes before → Leading n follow sizes before
 lists-end n v follow sizes before e l =
     record {
       exact = λ u x p h k b. (

@@ -50,6 +50,7 @@ pub mod ColumnLists
 pub mod ColumnTurns
 pub mod Turned
 pub mod TurnedTurns
+pub mod TurnedColumns
 pub mod TurnedLaws
 pub mod Coded
 pub mod CodedLaws

@@ -1,26 +1,25 @@
 -- Cover sets as they stand in the workspace (Coded): the first one and the step over a label. Where sets are turned they go by columns
 -- (Prepared), and the step by columns is the step of the cover set.
-use Prim.Native.Nat.{ℕ, zero, suc, _+_, _*_, _^_, _≤_, _<_}
+use Prim.Native.Nat.{ℕ, suc, _+_, _*_, _^_, _<_}
 use mathlib.Core.List.{List, [], _∷_}
 use mathlib.Core.Path.{_≡_, sym, ap, _∙_, subst}
 use native.Mathlib.Omega.{arith}
-use lib.ListN.{getD}
 use Rattle.theory.specs.Places.{Member, one}
 use Rattle.theory.specs.PlacesLaws.{one-below}
 use Rattle.theory.specs.ClosureLaws.{closure-below}
 use Rattle.places.specs.Words.{numberOf}
-use Rattle.verdict.specs.Cover.{places, ends, settled, coverStart, coverStep}
+use Rattle.verdict.specs.Cover.{ends, settled, coverStart, coverStep}
 use Rattle.verdict.specs.Tables.{automataOf, occupied, rewritten, Proper}
 use Rattle.verdict.specs.CoverBounds.{ends-below}
 use Rattle.verdict.specs.CoverPlaces.{split-below}
 use Rattle.verdict.specs.CoverStepped.{places-ready}
 use Rattle.verdict.specs.CoverTold.{StartTold, StepTold, StartStands, StepStands}
-use Rattle.verdict.specs.Columns.{offsetIn, ColumnsOf, SetOf, Stepped}
-use Rattle.verdict.specs.ColumnOffsets.{occurrence-at, offset-below}
+use Rattle.verdict.specs.Columns.{ColumnsOf, SetOf, Stepped}
 use Rattle.verdict.specs.ColumnsStep.{columns-step}
 use Rattle.verdict.specs.CodedLaws.{stands-turned, turned-stands, stands-same, same-stands}
 use Rattle.verdict.specs.Prepared.{Prepared}
 use Rattle.verdict.specs.Turned.{Turned, Stacked}
+use Rattle.verdict.specs.TurnedColumns.{columnIn, member-column}
 use Rattle.verdict.specs.TurnedLaws.{turn, turn-made}
 
 -- What a step needs of a set: its columns, where it stands turned.
@@ -44,6 +43,18 @@ columns-turned w n C D columns t s =
       within = s .within;
     }
 
+-- The set that is turned is the set of the columns that stand in the turned one.
+set-turned : (w n C : ℕ) (r : List ℕ) → Turned w n C (numberOf r) → SetOf w n (columnIn n r) (C ∷ [])
+set-turned w n C r t =
+    record {
+      exact = λ q o h k. (
+        λ m. subst (Member (w * q + o)) (sym (number-alone C)) (t .exact q o h k .1 (member-column n r o q .0 m .1)),
+        λ m. member-column n r o q .1 (h, t .exact q o h k .0 (subst (Member (w * q + o)) (number-alone C) m)),
+      );
+      within = λ q o k m. member-column n r o q .0 m .0;
+      below = subst (λ z. z < 2 ^ (n * w)) (sym (number-alone C)) (t .below);
+    }
+
 module _ {states n : ℕ} {follow enter sizes accepting table : List ℕ} {w : ℕ} {before ended : List ℕ}
     (prepared : Prepared states n follow enter sizes accepting table w before ended) where
   wide : w ≡ suc (occupied sizes 0 n)
@@ -52,46 +63,27 @@ module _ {states n : ℕ} {follow enter sizes accepting table : List ℕ} {w : �
   some : 0 < w
   some = omega (arith, wide)
 
-  module _ (set : List ℕ) {columns : List ℕ} (of : Stacked w states columns (numberOf set)) {a : ℕ} {next : List ℕ}
-      (stepped : Stepped n a enter sizes accepting before ended columns next) where
-    -- The columns of occurrences ..
-    moved-within : (v p q : ℕ) → v < n → 0 < p → p ≤ getD sizes (v + 1) 0 → Member q (getD next (occupied sizes 0 v + p) 0) → q < states
-    moved-within v p q h k l m =
-        let (entered, (o, leads, had)) = stepped .moved v p q h k l .0 m in
-        let few : o ≤ getD sizes (v + 1) 0 = prepared .leading .within v o p h (omega (arith, prepared .ready .counted .small v h)) leads in
-        of .within q (offsetIn sizes v o) (omega (arith, wide, offset-below sizes v o n h few)) had
-
-    -- .. and of the states alone have states of the rewriting.
-    pub next-within : (q o : ℕ) → o < w → Member q (getD next o 0) → q < states
-    next-within q zero h m =
-        let (v, p, r, a, b, d, e, f, g) = stepped .alone q .0 m in
-        prepared .finishing .within r v q (moved-within v p r a b d f) a g
-    next-within q (suc o) h m =
-        let (v, x, b, d, e) = occurrence-at sizes n (suc o) (omega arith) (omega (arith, wide)) in
-        moved-within v (suc x) q b (omega arith) d (subst (λ i. Member q (getD next i 0)) e m)
-
-    pub next-stands : (r : List ℕ) → Stacked w states next (numberOf r) → numberOf r < 2 ^ (states * w)
-        → StepStands w states n follow enter sizes accepting table a set r
-    next-stands r packed below =
-        record {
-          told = λ proper l flags C stands.
-              let made = turn-made w states (numberOf r) some below in
-              let e =
-              sym (number-alone (turn w states (numberOf r)))
-              ∙ columns-step states n a follow enter sizes accepting table before ended (C ∷ []) columns next (turn w states (numberOf r) ∷ []) proper l
-              (prepared .leading) (prepared .finishing)
-              (subst (λ z. ColumnsOf z states (C ∷ []) columns) wide
-              (columns-turned w states C (numberOf set) columns (stands-turned w states C (numberOf set) some stands) of))
-              stepped
-              (subst (λ z. SetOf z states next (turn w states (numberOf r) ∷ [])) wide
-              (record {
-                same = columns-turned w states (turn w states (numberOf r)) (numberOf r) next made packed;
-                below = subst (λ z. z < 2 ^ (states * w)) (sym (number-alone (turn w states (numberOf r)))) (made .below);
-              }))
-              flags
-              ∙ ap (λ z. coverStep (rewritten states table flags) (automataOf follow enter sizes accepting n) z a) (number-alone C) in
-              turned-stands w states _ (numberOf r) some (subst (λ z. Turned w states z (numberOf r)) e made);
-        }
+  -- The step by columns, which stand in the turned set r.
+  pub next-stands : (set : List ℕ) {columns : List ℕ} → Stacked w states columns (numberOf set) → {a : ℕ} (r : List ℕ)
+      → Stepped n a enter sizes accepting before ended columns (columnIn states r) → numberOf r < 2 ^ (states * w)
+      → StepStands w states n follow enter sizes accepting table a set r
+  next-stands set {columns} of {a} r stepped below =
+      record {
+        told = λ proper l flags C stands.
+            let made = turn-made w states (numberOf r) some below in
+            let e =
+            sym (number-alone (turn w states (numberOf r)))
+            ∙ columns-step states n a follow enter sizes accepting table before ended (C ∷ []) columns (columnIn states r)
+            (turn w states (numberOf r) ∷ []) proper l (prepared .leading) (prepared .finishing)
+            (subst (λ z. ColumnsOf z states (C ∷ []) columns) wide
+            (columns-turned w states C (numberOf set) columns (stands-turned w states C (numberOf set) some stands) of))
+            stepped
+            (subst (λ z. SetOf z states (columnIn states r) (turn w states (numberOf r) ∷ [])) wide
+            (set-turned w states (turn w states (numberOf r)) r made))
+            flags
+            ∙ ap (λ z. coverStep (rewritten states table flags) (automataOf follow enter sizes accepting n) z a) (number-alone C) in
+            turned-stands w states _ (numberOf r) some (subst (λ z. Turned w states z (numberOf r)) e made);
+      }
 
   -- The cover set of the empty path has places of the rewriting alone.
   start-below : Proper states n follow enter sizes accepting table → (flags : List ℕ)

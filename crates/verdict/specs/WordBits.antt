@@ -2,13 +2,11 @@
 use Prim.Native.Nat.{ℕ, _*_, _%_, _^_, _<_}
 use mathlib.Core.List.{List}
 use mathlib.Core.Path.{_≡_, sym, _∙_}
-use native.Mathlib.Decide.{decLt}
 use native.Mathlib.Nat.{one-mul}
 use native.Mathlib.Omega.{arith}
 use lib.Bits.{bitAnd, and-mask}
 use lib.Dec.{lit<}
-use lib.ListN.{length, getD, drop, replicate, length-replicate, getD-replicate, List·getD-append, List·getD-eq-default}
-use lib.ListN.{length-append, length-drop}
+use lib.ListN.{getD, drop, replicate, length-replicate, getD-replicate, List·getD-append}
 use lib.Pow.{shl-exact}
 use Rattle.theory.specs.Places.{Member, one}
 use Rattle.theory.specs.PlacesLaws.{member-zero}
@@ -27,18 +25,7 @@ pub first-none : (s : ℕ) → ¬ (bitAnd s 1 ≡ 1) → ¬ Member 0 s
 first-none s d m = d (and-mask s 1 ∙ member-zero s .0 m)
 
 -- Words that were cleared are zero.
-
 pub cleared-zero : (n : ℕ) (l : List ℕ) (i : ℕ) → i < n → getD (cleared n l) i 0 ≡ 0
 cleared-zero n l i h =
     let z : ℕ = 0 in
     List·getD-append (replicate n z) (drop n l) z i (omega (arith, length-replicate n z)) ∙ getD-replicate n i z z h
-
-pub all-cleared : (n : ℕ) (l : List ℕ) → length l ≡ n → (i : ℕ) → getD (cleared n l) i 0 ≡ 0
-all-cleared n l e i = side (decLt i n)
-  where
-    side : Dec (i < n) → getD (cleared n l) i 0 ≡ 0
-    side (yes h) = cleared-zero n l i h
-    side (no h) =
-        let z : ℕ = 0 in
-        List·getD-eq-default (cleared n l) z
-        (omega (arith, length-append (replicate n z) (drop n l), length-replicate n z, length-drop n l))

@@ -1,13 +1,15 @@
 // The step of a cover set by columns, where there are at most 64 states: an occurrence is reached by the states of the places that lead to
 // it, and a state alone from the states at whose occurrences a path of a list may end.
-ghost use Prim.Native.Nat.{suc, _+_, _*_, _≤_, _<_};
+ghost use Prim.Native.Nat.{suc, _+_, _*_, _^_, _≤_, _<_};
 ghost use mathlib.Core.Path.{_≡_};
 ghost use lib.ListN.{length, getD};
 ghost use Rattle.theory.specs.Places.{member, when, unionOver};
+ghost use Rattle.places.specs.Words.{numberOf};
 ghost use Rattle.verdict.specs.Tables.{Counted, occupied};
-ghost use Rattle.verdict.specs.Columns.{PlacesWithin, Stepped};
+ghost use Rattle.verdict.specs.Columns.{StatesWithin, PlacesWithin, EndedWithin, Stepped};
 ghost use Rattle.verdict.specs.ColumnLists.{Below, PlacesOf, innerOf, joinedOf, ListColumns};
-use crate::clear::clear_words;
+ghost use Rattle.verdict.specs.TurnedColumns.{columnIn};
+use crate::columns::put_at;
 
 // The columns after the offset `base` of the places of a set, all in one; place 0 has the first of them.
 fn joined_after(columns: &[u64; 1024], base: usize, places: u64) -> u64
@@ -54,7 +56,8 @@ fn ending(accepting: u64, p: u64, states: u64) -> u64
     0
 }
 
-// The columns of the occurrences of the list v that the label enters; the states at whose occurrences a path of the list may end.
+// The columns of the occurrences of the list v that the label enters, each of n states, are put into the turned set `words`. The states at
+// whose occurrences a path of the list may end are returned.
 fn list_columns(
     before: &[u64; 1024],
     entered: u64,
@@ -63,11 +66,13 @@ fn list_columns(
     v: usize,
     base: usize,
     columns: &[u64; 1024],
-    next: &mut [u64; 1024],
+    n: u64,
+    words: &mut [u64],
 ) -> u64
-    requires { ⌜ (v < 16) × (size < 64) × (base + size < 1024) × PlacesOf v size (now before) × (length (now next) ≡ 1024) ⌝ }
-    ensures { λ r. ⌜ ListColumns v size base entered accepting (now (before .entry)) (now (columns .entry)) (now (next .entry))
-        (now (next .exit)) r ⌝ }
+    requires { ⌜ (v < 16) × (size < 64) × (base + size < 1024) × PlacesOf v size (now before) × (length (now words) ≡ 16) × (0 < n) × (n ≤ 64)
+        × (n * (base + size + 1) ≤ 1024) × StatesWithin (base + size + 1) n (now columns) ⌝ }
+    ensures { λ r. ⌜ ListColumns v size base entered accepting (now (before .entry)) (now (columns .entry)) (columnIn n (now (words .entry)))
+        (columnIn n (now (words .exit))) r ⌝ }
 {
     let mut ends: u64 = 0;
     let mut rest = inner(entered, size);
@@ -75,7 +80,9 @@ fn list_columns(
         let p = 1 + (u64::trailing_zeros(rest) as usize);
         let states = joined(columns, base, before[64 * v + p]);
         let over = ending(accepting, p as u64, states);
-        next[base + p] = states;
+        if states != 0 {
+            put_at(words, states, n * (base + p) as u64, n);
+        }
         ends = ends | over;
         rest = rest & (rest - 1);
     }
@@ -96,7 +103,7 @@ fn ended_from(ended: &[u64; 1024], v: usize, ends: u64) -> u64
     all
 }
 
-// The columns after a step over the label a.
+// The columns after a step over the label a, each of n states, are put into the turned set `words`, which is empty before.
 pub fn step_columns(
     enter: &[u64],
     sizes: &[u64],
@@ -107,14 +114,16 @@ pub fn step_columns(
     a: usize,
     w: u64,
     columns: &[u64; 1024],
-    next: &mut [u64; 1024],
+    n: u64,
+    words: &mut [u64],
 )
     requires { ⌜ Counted lists (now sizes) × (a < 32) × (32 * lists + 32 ≤ length (now enter)) × (lists < length (now accepting))
-        × (w ≡ suc (occupied (now sizes) 0 lists)) × (w ≤ 1024) × PlacesWithin lists (now sizes) (now before) ⌝ }
+        × (w ≡ suc (occupied (now sizes) 0 lists)) × PlacesWithin lists (now sizes) (now before) × (length (now words) ≡ 16)
+        × (numberOf (now words) ≡ 0) × (0 < n) × (n ≤ 64) × (n * w ≤ 1024) × StatesWithin w n (now columns)
+        × EndedWithin n lists (now ended) ⌝ }
     ensures { λ _. ⌜ Stepped lists a (now (enter .entry)) (now (sizes .entry)) (now (accepting .entry)) (now (before .entry))
-        (now (ended .entry)) (now (columns .entry)) (now (next .exit)) ⌝ }
+        (now (ended .entry)) (now (columns .entry)) (columnIn n (now (words .exit))) × (numberOf (now (words .exit)) < 2 ^ (n * w)) ⌝ }
 {
-    clear_words(next, w as usize);
     let mut base: usize = 0;
     let mut alone: u64 = 0;
     let mut v = 0;
@@ -129,11 +138,12 @@ pub fn step_columns(
             v,
             base,
             columns,
-            next,
+            n,
+            words,
         );
         alone = alone | ended_from(ended, v, ends);
         base += size as usize;
         v += 1;
     }
-    next[0] = alone;
+    put_at(words, alone, 0, n);
 }

@@ -59,7 +59,7 @@ fn put_word(words: &mut [u64], index: usize, word: u64)
 }
 
 // Adds a column, of n states, at the place `at`: a second word is touched only where the column reaches into it.
-fn put_at(words: &mut [u64], column: u64, at: u64, n: u64)
+pub fn put_at(words: &mut [u64], column: u64, at: u64, n: u64)
     requires { ⌜ (length (now words) ≡ 16) × (column < 2 ^ n) × (0 < n) × (n ≤ 64) × (at + n ≤ 1024) ⌝ }
     ensures { λ _. ⌜ Gains (now (words .entry)) (column * 2 ^ at) (now (words .exit)) ⌝ }
 {

@@ -45,7 +45,7 @@ pub fn leading(follow: &[u64], sizes: &[u64], lists: usize, before: &mut [u64; 1
     requires { ⌜ Counted lists (now sizes) × (64 * lists + 64 ≤ length (now follow)) ⌝ }
     ensures { λ r. ⌜ (r ≡ true → Leading lists (now (follow .entry)) (now (sizes .entry)) (now (before .exit))) ⌝ }
 {
-    clear_words(before, 1024);
+    clear_words(before, 64 * lists);
     let mut v = 0;
     while v < lists {
         if !list_leading(follow, v, sizes[v + 1], before) {

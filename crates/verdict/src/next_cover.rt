@@ -51,7 +51,7 @@ pub fn lay(states: u64, w: u64, set: Wide, laid: &mut [u64; 1024])
     }
 }
 
-// The next cover set. `laid` has the columns of the set, `next` is for those of the next one.
+// The next cover set. `laid` has the columns of the set.
 pub fn next_cover(
     states: u64,
     table: &[u16],
@@ -66,7 +66,6 @@ pub fn next_cover(
     before: &[u64; 1024],
     ended: &[u64; 1024],
     laid: &[u64; 1024],
-    next: &mut [u64; 1024],
 ) -> Wide
     requires { ⌜ Laid states lists (now follow) (now enter) (now sizes) (now accepting) (now table) w (now before) (now ended) (set .words)
         (now laid) × (a < 32) ⌝ }
@@ -74,6 +73,7 @@ pub fn next_cover(
         (set .words) (r .words) ⌝ }
 {
     if 0 < w {
+        let mut words = [0; 16];
         step_columns(
             enter,
             sizes,
@@ -84,9 +84,10 @@ pub fn next_cover(
             a,
             w,
             laid,
-            next,
+            states,
+            &mut words,
         );
-        return pack(next, w, states);
+        return Wide { words };
     }
     cover_step(
         states,

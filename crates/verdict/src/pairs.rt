@@ -101,7 +101,7 @@ fn query_step(after: u64, enter: &[u64], a: usize) -> u64
 }
 
 // The pairs that the labels lead to from the pair number i: those that are new go behind the n that are found. Where w is not 0, cover sets
-// stand turned and steps by columns are prepared; `laid` and `next` are for the columns of two of them.
+// stand turned and steps by columns are prepared; `laid` is for the columns of one of them.
 fn row(
     states: u64,
     table: &[u16],
@@ -118,7 +118,6 @@ fn row(
     before: &[u64; 1024],
     ended: &[u64; 1024],
     laid: &mut [u64; 1024],
-    next: &mut [u64; 1024],
     workspace: &mut [u64],
     heads: &mut [u16; 4093],
     nexts: &mut [u16; 4096],
@@ -152,7 +151,6 @@ fn row(
             before,
             ended,
             laid,
-            next,
         );
         let at = bucket(standing, cover);
         if !seen(workspace, heads, nexts, at, m, standing, cover) {
@@ -168,7 +166,7 @@ fn row(
     Explored::All(m as u64)
 }
 
-// All pairs from the first on, as long as there are no more than the limit. The index and the columns take about 33 KiB of the thread's
+// All pairs from the first on, as long as there are no more than the limit. The index and the columns take about 25 KiB of the thread's
 // stack.
 fn sweep(
     states: u64,
@@ -193,7 +191,6 @@ fn sweep(
     let mut heads: [u16; 4093] = [0; 4093];
     let mut nexts: [u16; 4096] = [0; 4096];
     let mut laid: [u64; 1024] = [0; 1024];
-    let mut next: [u64; 1024] = [0; 1024];
     let first = first_cover(
         states,
         table,
@@ -228,7 +225,6 @@ fn sweep(
             before,
             ended,
             &mut laid,
-            &mut next,
             workspace,
             &mut heads,
             &mut nexts,

@@ -1,123 +1,143 @@
 -- The loop's invariant: the occurrences of the lists before v have their columns (ListsLeft). The measure is the number of lists left.
-use Prim.Native.Nat.{_-_}
-use mathlib.Core.Path.{_≡_, ap, _∙_}
+use Prim.Native.Nat.{_+_, _-_, _≤_}
+use mathlib.Core.Path.{_≡_, sym, _∙_}
+use native.Mathlib.Nat.{mul-le-mul-left}
 use lib.ListN.{length, getD}
-use Rattle.finding.specs.Padded.{cleared-zero}
-use Rattle.verdict.specs.ColumnTurns.{ListsLeft, lists-start, lists-room, lists-turn, lists-end}
+use Rattle.verdict.specs.ColumnTurns.{ListsLeft, lists-start, lists-room, lists-turn, alone-within, lists-empty, lists-end}
+use Rattle.verdict.specs.ColumnsTurns.{few-columns}
+use Rattle.verdict.specs.TurnedColumns.{columnIn, no-columns, Puts, put-column, columns-below}
 use native.Mathlib.Omega.{arith}
-use borrow.Author.Needs.{needs}
 use Rattle.verdict.proofs.column_steps.step_columns.Statement.{statement}
 use Rattle.verdict.proofs.column_steps.step_columns.Tie as tie
 
 abbrev Inv-loop : tie.InvT-loop
-Inv-loop enter sizes accepting before ended lists a w columns next₀ base₀ alone₀ v₀ next base alone v =
-    ListsLeft lists a enter sizes accepting before ended columns next base alone v
+Inv-loop enter sizes accepting before ended lists a w columns n words₀ base₀ alone₀ v₀ words base alone v =
+    (length words ≡ 16) × ListsLeft lists a enter sizes accepting before ended columns (columnIn n words) base alone v
 
 abbrev μ-loop : tie.MeasureT-loop
-μ-loop enter sizes accepting before ended lists a w columns next₀ base₀ alone₀ v₀ next base alone v = lists - v
-
-clear-words-requires : tie.Need-clear-words-requires Inv-loop μ-loop
-clear-words-requires c κs = search needs
+μ-loop enter sizes accepting before ended lists a w columns n words₀ base₀ alone₀ v₀ words base alone v = lists - v
 
 loop-holds : tie.Need-loop-holds Inv-loop μ-loop
 loop-holds c =
-    let s = c .before .before .before .before .before in
-    let room : length (s .args .next .now) ≡ 1024 = omega (arith, c .before .clear-words-arg .given) in
-    let zeros = c .clear-words .ensures (omega (arith, room, s .pre .5)) in
-    lists-start _ _ _ _ _ _ _ _ (c .clear-words .last .0) (omega (arith, room, c .clear-words .kept .0))
-    (λ x h. ap (λ l. getD l x 0) zeros ∙ cleared-zero (s .args .w) x (s .args .next .now) (omega (arith, h, s .pre .4)))
+    let s = c .before .before .before .before in
+    (s .pre .6, lists-start _ _ _ _ _ _ _ _ _ (no-columns (s .args .n) (s .args .words .now) (s .pre .7)))
 
 add-x : tie.Need-add-x Inv-loop μ-loop
-add-x c = omega (arith, c .loop-test .taken, c .before .before .before .before .before .before .before .pre .0 .few)
+add-x c = omega (arith, c .loop-test .taken, c .before .before .before .before .before .before .pre .0 .few)
 
 mul-size : tie.Need-mul-size Inv-loop μ-loop
-mul-size c = omega (arith, c .loop-test .taken, c .before .before .before .before .before .before .before .pre .0 .few)
+mul-size c = omega (arith, c .loop-test .taken, c .before .before .before .before .before .before .pre .0 .few)
 
 shared-slice-read-size : tie.Need-shared-slice-read-size Inv-loop μ-loop
 shared-slice-read-size c =
-    let s = c .before .before .before .before .before .before .before .before in
+    let s = c .before .before .before .before .before .before .before in
     omega (arith, c .before .loop-test .taken, s .pre .0 .room)
 
 mul-list-columns : tie.Need-mul-list-columns Inv-loop μ-loop
 mul-list-columns c =
-    let s = c .before .before .before .before .before .before .before .before in
+    let s = c .before .before .before .before .before .before .before in
     omega (arith, c .before .loop-test .taken, s .pre .0 .few)
 
 add-list-columns : tie.Need-add-list-columns Inv-loop μ-loop
 add-list-columns c =
-    let s = c .before .before .before .before .before .before .before .before in
+    let s = c .before .before .before .before .before .before .before in
     omega (arith, c .before .loop-test .taken, s .pre .0 .few, s .pre .1)
 
 mul-list-columns-2 : tie.Need-mul-list-columns-2 Inv-loop μ-loop
 mul-list-columns-2 c =
-    let s = c .before .before .before .before .before .before .before .before in
+    let s = c .before .before .before .before .before .before .before in
     omega (arith, c .before .loop-test .taken, s .pre .0 .few, s .pre .1)
 
 shared-slice-read-list-columns : tie.Need-shared-slice-read-list-columns Inv-loop μ-loop
 shared-slice-read-list-columns c =
-    let s = c .before .before .before .before .before .before .before .before .before in
+    let s = c .before .before .before .before .before .before .before .before in
     omega (arith, c .before .before .loop-test .taken, s .pre .1, s .pre .2)
 
 mul-list-columns-3 : tie.Need-mul-list-columns-3 Inv-loop μ-loop
 mul-list-columns-3 c =
-    let s = c .before .before .before .before .before .before .before .before .before in
+    let s = c .before .before .before .before .before .before .before .before in
     omega (arith, c .before .before .loop-test .taken, s .pre .0 .few)
 
 shared-slice-read-list-columns-2 : tie.Need-shared-slice-read-list-columns-2 Inv-loop μ-loop
 shared-slice-read-list-columns-2 c =
-    let s = c .before .before .before .before .before .before .before .before .before .before in
+    let s = c .before .before .before .before .before .before .before .before .before in
     omega (arith, c .before .before .before .loop-test .taken, s .pre .3)
 
 list-columns-requires : tie.Need-list-columns-requires Inv-loop μ-loop
 list-columns-requires c κs =
-    let s = c .before .before .before .before .before .before .before .before .before .before .before in
+    let s = c .before .before .before .before .before .before .before .before .before .before in
     let l = c .before .before .before .before .before .loop in
-    let h = c .before .before .before .before .loop-test .taken in (
+    let h = c .before .before .before .before .loop-test .taken in
+    let size = getD (s .args .sizes .now) (l .v + 1) 0 in
+    let room : l .base + size + 1 ≤ s .args .w =
+    omega (arith, s .pre .4, lists-room _ _ _ _ _ _ _ _ _ (l .base) (l .alone) (l .v) h (l .inv .1)) in (
       omega (arith, h, s .pre .0 .few),
       omega (arith, s .pre .0 .small (l .v) h),
-      omega (arith, s .pre .4, s .pre .5, lists-room _ _ _ _ _ _ _ _ (l .next) (l .base) (l .alone) (l .v) h (l .inv)),
-      λ o p k m. s .pre .6 (l .v) o p h k m,
-      l .inv .sized,
+      omega (arith, room, few-columns (s .args .w) (s .args .n) (s .pre .8) (s .pre .10)),
+      λ o p k m. s .pre .5 (l .v) o p h k m,
+      l .inv .0,
+      s .pre .8,
+      s .pre .9,
+      omega (arith, s .pre .10, mul-le-mul-left (s .args .n) room),
+      λ q o k m. s .pre .11 q o (omega (arith, room)) m,
     )
 
 ended-from-requires : tie.Need-ended-from-requires Inv-loop μ-loop
-ended-from-requires c κs =
-    let s = c .before .before .before .before .before .before .before .before .before .before .before .before in
-    omega (arith, c .before .before .before .before .before .loop-test .taken, s .pre .0 .few)
+ended-from-requires c κs = omega (arith, c .before .before .before .before .before .before .before .loop-test .taken, c .before .before .before .before .before .before .before .before .before .before .before .before .before .pre .0 .few)
 
 add-base : tie.Need-add-base Inv-loop μ-loop
 add-base c =
-    let s = c .before .before .before .before .before .before .before .before .before .before .before .before .before in
-    let l = c .before .before .before .before .before .before .before .loop in
-    let h = c .before .before .before .before .before .before .loop-test .taken in
-    omega (arith, s .pre .4, s .pre .5, lists-room _ _ _ _ _ _ _ _ (l .next) (l .base) (l .alone) (l .v) h (l .inv))
+    let s = c .before .before .before .before .before .before .before .before .before .before .before .before .before .before in
+    let l = c .before .before .before .before .before .before .before .before .before .loop in
+    omega (arith, s .pre .4, few-columns (s .args .w) (s .args .n) (s .pre .8) (s .pre .10), lists-room _ _ _ _ _ _ _ _ _ (l .base) (l .alone) (l .v) (c .before .before .before .before .before .before .before .before .loop-test .taken) (l .inv .1))
 
 add-v : tie.Need-add-v Inv-loop μ-loop
-add-v c =
-    let s = c .before .before .before .before .before .before .before .before .before .before .before .before .before in
-    omega (arith, c .before .before .before .before .before .before .loop-test .taken, s .pre .0 .few)
+add-v c = omega (arith, c .before .before .before .before .before .before .before .before .loop-test .taken, c .before .before .before .before .before .before .before .before .before .before .before .before .before .before .pre .0 .few)
 
 loop-less : tie.Need-loop-less Inv-loop μ-loop
-loop-less c = omega (arith, c .before .before .before .before .before .before .loop-test .taken)
+loop-less c = omega (arith, c .before .before .before .before .before .before .before .before .loop-test .taken)
 
 loop-again : tie.Need-loop-again Inv-loop μ-loop
 loop-again c =
-    let s = c .before .before .before .before .before .before .before .before .before .before .before .before .before in
-    let l = c .before .before .before .before .before .before .before .loop in
-    let h = c .before .before .before .before .before .before .loop-test .taken in
-    lists-turn (s .args .lists) (s .args .a) (s .args .enter .now) (s .args .sizes .now) (s .args .accepting .now) (s .args .before .now)
-    (s .args .ended .now) (s .args .columns .now) (l .next) _ (l .base) (l .alone) (l .v) (c .before .list-columns .result) h (l .inv)
-    (omega (arith, c .before .list-columns .ok)) (c .before .list-columns .ensures) (s .pre .0 .small (l .v) h) (c .ended-from .result)
-    (c .ended-from .ensures)
+    let s = c .before .before .before .before .before .before .before .before .before .before .before .before .before .before in
+    let l = c .before .before .before .before .before .before .before .before .before .loop in
+    let h = c .before .before .before .before .before .before .before .before .loop-test .taken in
+    let list = c .before .before .before .list-columns in (
+      list .kept .1 .1 .1 .1 .1 .1 .1 .1 .0 ∙ l .inv .0,
+      lists-turn (s .args .lists) (s .args .a) (s .args .enter .now) (s .args .sizes .now) (s .args .accepting .now) (s .args .before .now)
+          (s .args .ended .now) (s .args .columns .now) (columnIn (s .args .n) (l .words)) _ (l .base) (l .alone) (l .v) (list .result) h
+          (l .inv .1) (omega (arith, list .ok)) (list .ensures) (s .pre .0 .small (l .v) h) (c .ended-from .result) (c .ended-from .ensures),
+    )
 
-element-write-next : tie.Need-element-write-next Inv-loop μ-loop
-element-write-next c = search needs
+put-at-requires : tie.Need-put-at-requires Inv-loop μ-loop
+put-at-requires c κs =
+    let s = c .before .before .before .before .before .before .before in
+    let l = c .before .before .loop in (
+      l .inv .0,
+      alone-within _ _ _ _ _ _ _ _ _ (s .args .n) _ (l .base) (l .alone) (l .v) (l .inv .1) (s .pre .0) (s .pre .4) (s .pre .5) (s .pre .11)
+          (s .pre .12),
+      s .pre .8,
+      s .pre .9,
+      omega (arith, s .pre .9),
+    )
+
+same-length : tie.Need-same-length Inv-loop μ-loop
+same-length c = c .before .before .put-at .kept .0 ∙ c .before .before .before .before .before .loop .inv .0 ∙ sym (c .before .before .before .before .before .before .before .before .before .before .pre .6)
 
 returns : tie.Need-returns Inv-loop μ-loop
 returns c =
-    let s = c .before .before .before .before .before .before .before in
-    let l = c .before .loop in
-    lists-end _ _ _ _ _ _ _ _ (l .next) (l .base) (l .alone) (l .v) (c .loop-test .left) (l .inv) (s .pre .0) (s .pre .6)
+    let s = c .before .before .before .before .before .before .before .before .before .before in
+    let l = c .before .before .before .before .before .loop in
+    let call = c .before .before .put-at in
+    let small =
+    alone-within _ _ _ _ _ _ _ _ _ (s .args .n) _ (l .base) (l .alone) (l .v) (l .inv .1) (s .pre .0) (s .pre .4) (s .pre .5) (s .pre .11)
+    (s .pre .12) in
+    let put : Puts 0 (l .alone) (columnIn (s .args .n) (l .words)) (columnIn (s .args .n) (call .last .0)) =
+    put-column (s .args .n) 0 0 (l .alone) (l .words) (call .last .0) (omega arith) small (omega (arith, s .pre .9)) (call .ensures) in (
+      lists-end _ _ _ _ _ _ _ _ _ _ (l .base) (l .alone) (l .v) (c .before .before .before .before .loop-test .left) (l .inv .1) put (s .pre .0) (s .pre .5),
+      columns-below (s .args .w) (s .args .n) (call .last .0) (s .pre .8)
+          (lists-empty _ _ _ _ _ _ _ _ (s .args .w) _ _ (l .base) (l .alone) (l .v) (l .inv .1) (s .pre .4) put),
+    )
 
 pub step-columns-spec : {M : Type 1} → statement M
 step-columns-spec =
@@ -125,7 +145,6 @@ step-columns-spec =
     (tie.spec
     Inv-loop
     μ-loop
-    clear-words-requires
     loop-holds
     add-x
     mul-size
@@ -142,5 +161,6 @@ step-columns-spec =
     add-v
     loop-less
     loop-again
-    element-write-next
+    put-at-requires
+    same-length
     returns)

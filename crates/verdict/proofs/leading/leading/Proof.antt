@@ -1,23 +1,26 @@
 -- The loop's invariant: the entries of the lists before v are filled, and those of the others are empty (ListsLed). The measure is the
 -- number of lists left.
-use Prim.Native.Nat.{ℕ, _-_, _≤_}
+use Prim.Native.Nat.{ℕ, _*_, _-_, _≤_}
 use mathlib.Core.Bool.{false≢true}
 use mathlib.Core.List.{List}
 use mathlib.Core.Path.{_≡_, sym, subst}
 use lib.ListN.{getD}
 use borrow.Author.Tests.{not-false}
 use Rattle.verdict.specs.LeadingTurns.{ListsLed, lists-start, lists-turn, lists-end}
-use Rattle.verdict.specs.WordBits.{all-cleared}
+use Rattle.verdict.specs.WordBits.{cleared-zero}
 use native.Mathlib.Omega.{arith}
 use borrow.Author.Needs.{needs}
 use Rattle.verdict.proofs.leading.leading.Statement.{statement}
 use Rattle.verdict.proofs.leading.leading.Tie as tie
 
 abbrev Inv-loop : tie.InvT-loop
-Inv-loop follow sizes lists before₀ v₀ before v = (v ≤ lists) × ListsLed v follow sizes before
+Inv-loop follow sizes lists before₀ v₀ before v = (v ≤ lists) × ListsLed lists v follow sizes before
 
 abbrev μ-loop : tie.MeasureT-loop
 μ-loop follow sizes lists before₀ v₀ before v = lists - v
+
+mul-clear-words : tie.Need-mul-clear-words Inv-loop μ-loop
+mul-clear-words c = omega (arith, c .before .before .before .pre .0 .few)
 
 clear-words-requires : tie.Need-clear-words-requires Inv-loop μ-loop
 clear-words-requires c κs = search needs
@@ -27,9 +30,9 @@ loop-holds c =
     let s = c .before .before .before .before in
     let sized = c .before .clear-words-arg .given .0 .1 in (
       omega arith,
-      lists-start (s .args .follow .now) (s .args .sizes .now) (c .clear-words .last .0)
-          (λ i. subst (λ (z : List ℕ). getD z i 0 ≡ 0) (sym (c .clear-words .ensures (omega arith)))
-          (all-cleared 1024 (s .args .before .now) sized i)),
+      lists-start (s .args .lists) (s .args .follow .now) (s .args .sizes .now) (c .clear-words .last .0)
+          (λ i h. subst (λ (z : List ℕ). getD z i 0 ≡ 0) (sym (c .clear-words .ensures (omega (arith, sized, s .pre .0 .few))))
+          (cleared-zero (64 * s .args .lists) (s .args .before .now) i h)),
     )
 
 add-list-leading : tie.Need-add-list-leading Inv-loop μ-loop
@@ -60,9 +63,10 @@ loop-less c = search needs
 loop-again : tie.Need-loop-again Inv-loop μ-loop
 loop-again c =
     let l = c .before .before .before .before .before .loop in
-    let s = c .before .before .before .before .before .before .before .before .before .before in (
-      omega (arith, c .before .before .before .before .loop-test .taken),
-      lists-turn (l .v) (s .args .follow .now) (s .args .sizes .now) (l .before) (c .before .list-leading .last .1 .1 .1 .0)
+    let s = c .before .before .before .before .before .before .before .before .before .before in
+    let below = c .before .before .before .before .loop-test .taken in (
+      omega (arith, below),
+      lists-turn (s .args .lists) (l .v) (s .args .follow .now) (s .args .sizes .now) (l .before) (c .before .list-leading .last .1 .1 .1 .0) below
           (c .before .list-leading .ensures (not-false _ (c .if1 .left))) (l .inv .1),
     )
 
@@ -79,6 +83,7 @@ leading-spec =
     (tie.spec
     Inv-loop
     μ-loop
+    mul-clear-words
     clear-words-requires
     loop-holds
     add-list-leading

@@ -15,12 +15,12 @@ use Rattle.verdict.proofs.pairs.row.Statement.{statement}
 use Rattle.verdict.proofs.pairs.row.Tie as tie
 
 abbrev Inv-loop : tie.InvT-loop
-Inv-loop states table follow enter sizes accepting lists labels limit i n w before ended laid next₀ workspace₀ heads₀ nexts₀ from set after m₀ a₀ next workspace heads nexts m a =
+Inv-loop states table follow enter sizes accepting lists labels limit i n w before ended laid workspace₀ heads₀ nexts₀ from set after m₀ a₀ workspace heads nexts m a =
     RowLoop (lent states labels lists follow enter sizes accepting table) w limit i n workspace₀ a m workspace
     × Indexed workspace m heads nexts
 
 abbrev μ-loop : tie.MeasureT-loop
-μ-loop states table follow enter sizes accepting lists labels limit i n w before ended laid next₀ workspace₀ heads₀ nexts₀ from set after m₀ a₀ next workspace heads nexts m a =
+μ-loop states table follow enter sizes accepting lists labels limit i n w before ended laid workspace₀ heads₀ nexts₀ from set after m₀ a₀ workspace heads nexts m a =
     labels - a
 
 mul-from : tie.Need-mul-from Inv-loop μ-loop
@@ -51,16 +51,16 @@ query-step-requires c κs = search needs
 
 next-cover-requires : tie.Need-next-cover-requires Inv-loop μ-loop
 next-cover-requires c κs =
-    let s = c .before .before .before .before .before .before .before .before .before .before .before .before .before .before .before .before .before in
-    (record { prepared = s .pre .6; stacked = c .before .before .before .before .before .before .lay .ensures }, omega (arith, c .before .before .before .loop-test .taken, s .pre .3))
+    let s = c .before .before .before .before .before .before .before .before .before .before .before .before .before .before .before .before in
+    (record { prepared = s .pre .6; stacked = c .before .before .before .before .before .lay .ensures }, omega (arith, c .before .before .loop-test .taken, s .pre .3))
 
 bucket-requires : tie.Need-bucket-requires Inv-loop μ-loop
 bucket-requires c κs = search needs
 
 seen-requires : tie.Need-seen-requires Inv-loop μ-loop
 seen-requires c κs =
-    let s = c .before .before .before .before .before .before .before .before .before .before .before .before .before .before .before .before .before .before .before .before .before .before in
-    let l = c .before .before .before .before .before .before .before .before .before .loop in (
+    let s = c .before .before .before .before .before .before .before .before .before .before .before .before .before .before .before .before .before .before .before .before .before in
+    let l = c .before .before .before .before .before .before .before .before .loop in (
       omega (arith, l .inv .0 .within, l .inv .0 .size, s .pre .4),
       omega (arith, l .inv .0 .within, s .pre .2),
       c .before .before .before .bucket .ensures,
@@ -68,18 +68,18 @@ seen-requires c κs =
     )
 
 same-length : tie.Need-same-length Inv-loop μ-loop
-same-length c = c .before .before .before .before .before .before .before .before .before .before .before .before .loop .inv .0 .size
+same-length c = c .before .before .before .before .before .before .before .before .before .before .before .loop .inv .0 .size
 
 returns : tie.Need-returns Inv-loop μ-loop
 returns c =
     let seen = c .before .before in
     let w = c .before .before .before .before .before .before .before .next-cover in
-    let q = c .before .before .before .before .before .before .before .before .before .before .query-step in
-    let l = c .before .before .before .before .before .before .before .before .before .before .before .before .loop in
-    let after = c .before .before .before .before .before .before .before .before .before .before .before .before .before .query-follows .ensures in
-    let load = c .before .before .before .before .before .before .before .before .before .before .before .before .before .before .before .before .load in
-    let s = c .before .before .before .before .before .before .before .before .before .before .before .before .before .before .before .before .before .before .before .before .before .before .before .before .before in (
-      row-exceeds _ _ _ _ _ _ (l .a) (l .m) _ (l .inv .0) (c .before .before .before .before .before .before .before .before .before .before .before .loop-test .taken) (s .pre .0) (q .result) (w .result .words)
+    let q = c .before .before .before .before .before .before .before .before .before .query-step in
+    let l = c .before .before .before .before .before .before .before .before .before .before .before .loop in
+    let after = c .before .before .before .before .before .before .before .before .before .before .before .before .query-follows .ensures in
+    let load = c .before .before .before .before .before .before .before .before .before .before .before .before .before .before .before .load in
+    let s = c .before .before .before .before .before .before .before .before .before .before .before .before .before .before .before .before .before .before .before .before .before .before .before .before in (
+      row-exceeds _ _ _ _ _ _ (l .a) (l .m) _ (l .inv .0) (c .before .before .before .before .before .before .before .before .before .before .loop-test .taken) (s .pre .0) (q .result) (w .result .words)
           (record {
             from = getD (s .args .workspace .now) (18 * s .args .i) 0;
             from-at = refl;
@@ -94,19 +94,19 @@ returns c =
 
 mul-link : tie.Need-mul-link Inv-loop μ-loop
 mul-link c =
-    let in-loop = c .before .before .before .before .before .before .before .before .before .before .before in
+    let in-loop = c .before .before .before .before .before .before .before .before .before .before in
     let s = in-loop .before .before .before .before .before .before .before .before .before .before .before .before .before .before in
     omega (arith, in-loop .loop-test .taken, s .pre .3)
 
 add-link : tie.Need-add-link Inv-loop μ-loop
 add-link c =
-    let in-loop = c .before .before .before .before .before .before .before .before .before .before .before in
+    let in-loop = c .before .before .before .before .before .before .before .before .before .before in
     let s = in-loop .before .before .before .before .before .before .before .before .before .before .before .before .before .before in
     omega (arith, in-loop .loop-test .taken, s .pre .0, s .pre .1, s .pre .2, s .pre .3)
 
 add-requires : tie.Need-add-requires Inv-loop μ-loop
 add-requires c κs =
-    let in-loop = c .before .before .before .before .before .before .before .before .before .before .before .before .before .before in
+    let in-loop = c .before .before .before .before .before .before .before .before .before .before .before .before .before in
     let s = in-loop .before .before .before .before .before .before .before .before .before .before .before .before .before .before in
     let l = in-loop .before .loop in
     let m : l .m < s .args .limit = omega (arith, l .inv .0 .within, c .before .before .before .if2 .left) in (
@@ -119,25 +119,25 @@ add-requires c κs =
 add-m : tie.Need-add-m Inv-loop μ-loop
 add-m c =
     let call = c .before .before .before .before .before in
-    let in-loop = call .before .before .before .before .before .before .before .before .before .before .before .before in
+    let in-loop = call .before .before .before .before .before .before .before .before .before .before .before in
     let s = in-loop .before .before .before .before .before .before .before .before .before .before .before .before .before .before in
     omega (arith, in-loop .before .loop .inv .0 .within, s .pre .2)
 
 add-a : tie.Need-add-a Inv-loop μ-loop
 add-a c =
-    let in-loop = c .before .before .before .before .before .before .before .before .before .before in
+    let in-loop = c .before .before .before .before .before .before .before .before .before in
     let s = in-loop .before .before .before .before .before .before .before .before .before .before .before .before .before .before in
     omega (arith, in-loop .loop-test .taken, s .pre .3)
 
 loop-less : tie.Need-loop-less Inv-loop μ-loop
-loop-less c = omega (arith, c .before .before .before .before .before .before .before .before .before .before .loop-test .taken)
+loop-less c = omega (arith, c .before .before .before .before .before .before .before .before .before .loop-test .taken)
 
 loop-again : tie.Need-loop-again Inv-loop μ-loop
 loop-again c =
     let seen = c .before in
     let w = seen .before .before .before .before .before .next-cover in
-    let q = seen .before .before .before .before .before .before .before .before .query-step in
-    let in-loop = seen .before .before .before .before .before .before .before .before .before in
+    let q = seen .before .before .before .before .before .before .before .query-step in
+    let in-loop = seen .before .before .before .before .before .before .before .before in
     let l = in-loop .before .loop in
     let after = in-loop .before .before .query-follows .ensures in
     let load = in-loop .before .before .before .before .before .load in

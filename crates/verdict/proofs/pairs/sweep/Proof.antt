@@ -12,11 +12,11 @@ use Rattle.verdict.proofs.pairs.sweep.Statement.{statement}
 use Rattle.verdict.proofs.pairs.sweep.Tie as tie
 
 abbrev Inv-loop : tie.InvT-loop
-Inv-loop states table follow enter sizes accepting lists labels limit w before ended workspace₀ heads₀ nexts₀ laid₀ next₀ at n₀ i₀ workspace heads nexts laid next n i =
+Inv-loop states table follow enter sizes accepting lists labels limit w before ended workspace₀ heads₀ nexts₀ laid₀ at n₀ i₀ workspace heads nexts laid n i =
     SweepLoop (lent states labels lists follow enter sizes accepting table) w limit workspace₀ i n workspace × Indexed workspace n heads nexts
 
 abbrev μ-loop : tie.MeasureT-loop
-μ-loop states table follow enter sizes accepting lists labels limit w before ended workspace₀ heads₀ nexts₀ laid₀ next₀ at n₀ i₀ workspace heads nexts laid next n i = limit - i
+μ-loop states table follow enter sizes accepting lists labels limit w before ended workspace₀ heads₀ nexts₀ laid₀ at n₀ i₀ workspace heads nexts laid n i = limit - i
 
 first-cover-requires : tie.Need-first-cover-requires Inv-loop μ-loop
 first-cover-requires c κs = c .before .before .before .before .before .before .before .pre .4
@@ -41,13 +41,13 @@ loop-holds c =
 
 row-requires : tie.Need-row-requires Inv-loop μ-loop
 row-requires c κs =
-    let l = c .before .before .before .before .before .before .loop in
-    let s = c .before .before .before .before .before .before .before .before .before .before .before .before .before .before .before .before .before .before .before .before .before .before in (
-      c .before .before .before .before .before .loop-test .taken,
+    let l = c .before .before .before .before .before .loop in
+    let s = c .before .before .before .before .before .before .before .before .before .before .before .before .before .before .before .before .before .before .before .before .before in (
+      c .before .before .before .before .loop-test .taken,
       l .inv .0 .within,
       s .pre .1,
       s .pre .2,
-      omega (arith, l .inv .0 .size, c .before .before .before .before .before .before .before .before .before .add .ensures .0 .size, s .pre .3),
+      omega (arith, l .inv .0 .size, c .before .before .before .before .before .before .before .before .add .ensures .0 .size, s .pre .3),
       l .inv .1,
       s .pre .4,
     )
@@ -59,31 +59,31 @@ enum-told : tie.Need-enum-told Inv-loop μ-loop
 enum-told c = search needs
 
 same-length : tie.Need-same-length Inv-loop μ-loop
-same-length c = c .before .before .before .before .row .kept .1 .1 .1 .1 .1 .1 .1 .1 .1 .1 .1 .1 .1 .1 .1 .1 .0 ∙ c .before .before .before .before .before .before .before .before .before .before .before .loop .inv .0 .size ∙ c .before .before .before .before .before .before .before .before .before .before .before .before .before .before .add .ensures .0 .size
+same-length c = c .before .before .before .before .row .kept .1 .1 .1 .1 .1 .1 .1 .1 .1 .1 .1 .1 .1 .1 .1 .0 ∙ c .before .before .before .before .before .before .before .before .before .before .loop .inv .0 .size ∙ c .before .before .before .before .before .before .before .before .before .before .before .before .before .add .ensures .0 .size
 
 returns : tie.Need-returns Inv-loop μ-loop
 returns c =
-    let l = c .before .before .before .before .before .before .before .before .before .before .before .loop in
-    let first = c .before .before .before .before .before .before .before .before .before .before .before .before .before .before in
-    let s = c .before .before .before .before .before .before .before .before .before .before .before .before .before .before .before .before .before .before .before .before .before .before .before .before .before .before .before in
+    let l = c .before .before .before .before .before .before .before .before .before .before .loop in
+    let first = c .before .before .before .before .before .before .before .before .before .before .before .before .before in
+    let s = c .before .before .before .before .before .before .before .before .before .before .before .before .before .before .before .before .before .before .before .before .before .before .before .before .before .before in
     let r = c .before .before .before .before .row in
-    told-before _ _ _ _ (first .add .last .0) _ _ (r .last .1 .1 .1 .1 .1 .1 .1 .1 .1 .1 .1 .1 .1 .1 .1 .1 .0) (s .pre .0) (first .add .ensures .0)
-    (sweep-exceeds _ _ _ (first .add .last .0) (l .i) (l .n) (l .workspace) (l .inv .0) (c .before .before .before .before .before .before .before .before .before .before .loop-test .taken)
-    (r .result) (r .last .1 .1 .1 .1 .1 .1 .1 .1 .1 .1 .1 .1 .1 .1 .1 .1 .0) (r .ensures .0) (c .enum-told .given .1))
+    told-before _ _ _ _ (first .add .last .0) _ _ (r .last .1 .1 .1 .1 .1 .1 .1 .1 .1 .1 .1 .1 .1 .1 .1 .0) (s .pre .0) (first .add .ensures .0)
+    (sweep-exceeds _ _ _ (first .add .last .0) (l .i) (l .n) (l .workspace) (l .inv .0) (c .before .before .before .before .before .before .before .before .before .loop-test .taken)
+    (r .result) (r .last .1 .1 .1 .1 .1 .1 .1 .1 .1 .1 .1 .1 .1 .1 .1 .0) (r .ensures .0) (c .enum-told .given .1))
 
 add-i : tie.Need-add-i Inv-loop μ-loop
-add-i c = omega (arith, c .before .before .before .before .before .before .before .before .before .before .before .loop-test .taken, c .before .before .before .before .before .before .before .before .before .before .before .before .loop .inv .0 .within, c .before .before .before .before .before .before .before .before .before .before .before .before .before .before .before .before .before .before .before .before .before .before .before .before .before .before .before .before .pre .1)
+add-i c = omega (arith, c .before .before .before .before .before .before .before .before .before .before .loop-test .taken, c .before .before .before .before .before .before .before .before .before .before .before .loop .inv .0 .within, c .before .before .before .before .before .before .before .before .before .before .before .before .before .before .before .before .before .before .before .before .before .before .before .before .before .before .before .pre .1)
 
 loop-less : tie.Need-loop-less Inv-loop μ-loop
-loop-less c = omega (arith, c .before .before .before .before .before .before .before .before .before .before .before .loop-test .taken, c .before .before .before .before .before .before .before .before .before .before .before .before .loop .inv .0 .within)
+loop-less c = omega (arith, c .before .before .before .before .before .before .before .before .before .before .loop-test .taken, c .before .before .before .before .before .before .before .before .before .before .before .loop .inv .0 .within)
 
 loop-again : tie.Need-loop-again Inv-loop μ-loop
 loop-again c =
-    let l = c .before .before .before .before .before .before .before .before .before .before .before .before .loop in
-    let first = c .before .before .before .before .before .before .before .before .before .before .before .before .before .before .before in
+    let l = c .before .before .before .before .before .before .before .before .before .before .before .loop in
+    let first = c .before .before .before .before .before .before .before .before .before .before .before .before .before .before in
     let r = c .before .before .before .before .before .row in (
-      sweep-turn _ _ _ (first .add .last .0) (l .i) (l .n) (l .workspace) (l .inv .0) (c .before .before .before .before .before .before .before .before .before .before .before .loop-test .taken) (r .result)
-          (r .last .1 .1 .1 .1 .1 .1 .1 .1 .1 .1 .1 .1 .1 .1 .1 .1 .0) (r .ensures .0) _ (c .before .found .given .1) (r .kept .1 .1 .1 .1 .1 .1 .1 .1 .1 .1 .1 .1 .1 .1 .1 .1 .0),
+      sweep-turn _ _ _ (first .add .last .0) (l .i) (l .n) (l .workspace) (l .inv .0) (c .before .before .before .before .before .before .before .before .before .before .loop-test .taken) (r .result)
+          (r .last .1 .1 .1 .1 .1 .1 .1 .1 .1 .1 .1 .1 .1 .1 .1 .0) (r .ensures .0) _ (c .before .found .given .1) (r .kept .1 .1 .1 .1 .1 .1 .1 .1 .1 .1 .1 .1 .1 .1 .1 .0),
       r .ensures .1 _ (c .before .found .given .1),
     )
 
