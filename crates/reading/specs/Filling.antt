@@ -12,7 +12,7 @@ use Rattle.syntax.specs.declared.checks.Check.{Check as Verdict}
 use Rattle.syntax.specs.Byte.{Bytes}
 use Rattle.syntax.specs.Limits.{mostOccurrences}
 use Rattle.syntax.specs.Check.{fine, check}
-use Rattle.syntax.specs.Verdict.{verdict}
+use Rattle.syntax.specs.Verdict.{verdict, isFine}
 use Rattle.reading.specs.Tables.{Tables, Row, followWidth, enterWidth}
 use Rattle.reading.specs.Loading.{tables}
 
@@ -23,13 +23,15 @@ pub record InRow (e : Expression) (r : Automaton) (follow enter : List ℕ) : Ty
   pub follows : take (suc (size e)) follow ≡ glushkov e .follow
   pub enters : (a : ℕ) → a < length enter → getD enter a 0 ≡ glushkov e .enter a
 
--- One row of each table: it stays as long as it is, and where the text is fine and has room, it holds the automaton.
+-- One row of each table: it stays as long as it is, and where the text is fine and has room, it holds the automaton; whether the text is
+-- fine is told where there is room for all places.
 pub record FillsRow (labels : List Bytes) (s : Bytes) (follow enter : List ℕ) (r : Automaton) (follow′ enter′ : List ℕ) : Type 0 where
   pub same-follow : length follow′ ≡ length follow
   pub same-enter : length enter′ ≡ length enter
   pub fills : (e : Expression) → check labels s ≡ fine e → size e < length follow → InRow e r follow′ enter′
+  pub told : 64 ≤ length follow → r .fine ≡ isFine (check labels s)
 
--- The rows x of whole tables: all else stays as it is.
+-- The rows x of whole tables: all else stays as it is, and whether the text is fine is told.
 pub record Fills (labels : List Bytes) (s : Bytes) (x : ℕ) (follow enter : List ℕ) (r : Automaton) (follow′ enter′ : List ℕ) : Type 0 where
   pub same-follow : length follow′ ≡ length follow
   pub same-enter : length enter′ ≡ length enter
@@ -37,6 +39,7 @@ pub record Fills (labels : List Bytes) (s : Bytes) (x : ℕ) (follow enter : Lis
   pub other-enter : (i : ℕ) → (i < enterWidth * x) ⊎ (enterWidth * x + enterWidth ≤ i) → getD enter′ i 0 ≡ getD enter i 0
   pub fills : (e : Expression) → check labels s ≡ fine e
       → InRow e r (take followWidth (drop (followWidth * x) follow′)) (take enterWidth (drop (enterWidth * x) enter′))
+  pub told : r .fine ≡ isFine (check labels s)
 
 -- An expression read into the rows x: the verdict on it, the rows where it is fine, and all other rows, which stay as they are.
 pub record Reads (labels : List Bytes) (s : Bytes) (x : ℕ) (T : Tables) (r : Verdict) (T′ : Tables) : Type 0 where

@@ -1,8 +1,9 @@
 -- An automaton built in a row stands there, and leaves the other rows as they are.
 use Prim.Native.Nat.{ℕ, zero, suc, _+_, _*_, _≤_, _<_}
+use mathlib.Core.Bool.{true}
 use mathlib.Core.List.{List, [], _∷_, _++_}
 use mathlib.Core.Logic.{_⊎_, inl, inr, _≢_}
-use mathlib.Core.Path.{_≡_, refl, sym, ap, _∙_}
+use mathlib.Core.Path.{_≡_, sym, ap, _∙_}
 use native.Mathlib.Decide.{decLt}
 use native.Mathlib.Nat.{zero-add, add-zero}
 use native.Mathlib.Omega.{arith}
@@ -15,18 +16,18 @@ use Rattle.theory.specs.Automaton.{glushkov, labelled}
 use Rattle.theory.specs.AutomatonLaws.{length-follows}
 use Rattle.syntax.specs.declared.build.Automaton.{Automaton}
 use Rattle.syntax.specs.declared.checks.Check.{Check as Verdict}
-use Rattle.syntax.specs.declared.checks.Check.the-variants.{Fine, Faulty}
-use Rattle.syntax.specs.declared.refusal.Refusal.{Refusal}
+use Rattle.syntax.specs.declared.checks.Check.the-variants.{Fine}
 use Rattle.syntax.specs.Byte.{Bytes}
 use Rattle.syntax.specs.Limits.{mostOccurrences}
 use Rattle.syntax.specs.Check.{fine, check}
 use Rattle.syntax.specs.FineLaws.{fine-cases}
 use Rattle.syntax.specs.Verdict.{verdict}
+use Rattle.syntax.specs.VerdictLaws.{fine-verdict}
 use Rattle.syntax.specs.Entered.{entered}
 use Rattle.syntax.specs.Build.{Makes, Made}
-use Rattle.reading.specs.Tables.{Tables, Row, followWidth, enterWidth}
+use Rattle.reading.specs.Tables.{Row, followWidth, enterWidth}
 use Rattle.reading.specs.Loading.{tables}
-use Rattle.reading.specs.Filling.{InRow, FillsRow, Fills, Reads, ReadsRow}
+use Rattle.reading.specs.Filling.{InRow, FillsRow, Fills, ReadsRow}
 use Rattle.reading.specs.RowLaws.{put, length-put, row-put, other-put, put-back, take-agree}
 
 -- The entries of a table with the places of an expression added.
@@ -70,6 +71,7 @@ module _ (labels : List Bytes) (s : Bytes) where
               ap (λ t. getD t a 0) (b .enter-sets)
               ∙ getD-cleared e (length enter) a (rw (m .same-enter ∙ length-replicate {A = ℕ} (length enter) 0) at l);
         };
+    told = m .told;
   }
 
   -- What is built in the rows x.
@@ -92,6 +94,7 @@ module _ (labels : List Bytes) (s : Bytes) where
         fills = λ e c.
             rw (row-there (followWidth * x) followWidth row follow l f, row-there (enterWidth * x) enterWidth row′ enter l′ f′)
             (m .fills e c (omega (arith, fine-cases labels s e c .few)));
+        told = m .told (omega arith);
       }
 
   -- The same with the rows as they come back from being lent.
@@ -156,26 +159,21 @@ module _ (labels : List Bytes) (s : Bytes) (x : ℕ) (follow enter : List ℕ) (
     accepting = getD-set-other accepting x y (r .accepting .0) 0 n ∙ h .accepting;
   }
 
-  pub reads-fine : (sizes accepting : List ℕ) → enterWidth * x + enterWidth ≤ length enter → x < length sizes → x < length accepting
-      → Fine ≡ verdict (check labels s)
-      → ReadsRow labels s x follow enter sizes accepting Fine follow′ enter′ (set sizes x (r .size)) (set accepting x (r .accepting .0))
-  reads-fine sizes accepting room within within′ told = record {
-    reads = λ names. record {
-      told = told;
-      row = λ e c.
-          row-held x e r names follow′ enter′ sizes accepting (fine-cases labels s e c .few) (omega (arith, filled .same-enter)) within
-          within′ (filled .fills e c);
-      others = other-held names sizes accepting;
-    };
-  }
+  -- The verdict is told by the check, or is told with the automaton.
+  module _ (sizes accepting : List ℕ) (room : enterWidth * x + enterWidth ≤ length enter) (within : x < length sizes)
+      (within′ : x < length accepting) where
+    pub reads-told : (v : Verdict) → v ≡ verdict (check labels s)
+        → ReadsRow labels s x follow enter sizes accepting v follow′ enter′ (set sizes x (r .size)) (set accepting x (r .accepting .0))
+    reads-told v told = record {
+      reads = λ names. record {
+        told = told;
+        row = λ e c.
+            row-held x e r names follow′ enter′ sizes accepting (fine-cases labels s e c .few) (omega (arith, filled .same-enter)) within
+            within′ (filled .fills e c);
+        others = other-held names sizes accepting;
+      };
+    }
 
-pub reads-faulty : (labels : List Bytes) (s : Bytes) (x : ℕ) (follow enter sizes accepting : List ℕ) (f : Refusal)
-    → Faulty f ≡ verdict (check labels s)
-    → ReadsRow labels s x follow enter sizes accepting (Faulty f) follow enter sizes accepting
-reads-faulty labels s x follow enter sizes accepting f told = record {
-  reads = λ names. record {
-    told = told;
-    row = λ e c. absurd (let b : Faulty f ≡ Fine = told ∙ ap verdict c in let z : _≡_ {A = ℕ} 0 1 = cc in omega arith);
-    others = λ e y n few h. h;
-  };
-}
+    pub reads-fine : r .fine ≡ true
+        → ReadsRow labels s x follow enter sizes accepting Fine follow′ enter′ (set sizes x (r .size)) (set accepting x (r .accepting .0))
+    reads-fine h = reads-told Fine (fine-verdict (check labels s) (sym (filled .told) ∙ h))

@@ -83,15 +83,12 @@ pub fn expression(
         ⌜ ReadsRow (namesAt (now (text .entry)) (now (labels .entry))) (now (s .entry)) x (now (follow .entry)) (now (enter .entry))
         (now (sizes .entry)) (now (accepting .entry)) r (now (follow .exit)) (now (enter .exit)) (now (sizes .exit)) (now (accepting .exit)) ⌝ }
 {
-    let told = check_expression(s, text, labels);
-    match told {
-        Check::Faulty(r) => Check::Faulty(r),
-        Check::Fine => {
-            let made = fill(s, text, labels, x, follow, enter);
-            let places = made.accepting;
-            put(sizes, x, made.size);
-            put(accepting, x, places.0);
-            Check::Fine
-        }
+    let made = fill(s, text, labels, x, follow, enter);
+    let places = made.accepting;
+    put(sizes, x, made.size);
+    put(accepting, x, places.0);
+    if made.fine {
+        return Check::Fine;
     }
+    check_expression(s, text, labels)
 }

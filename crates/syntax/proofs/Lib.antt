@@ -1,7 +1,9 @@
 pub mod Front
 pub mod Run
 pub mod RunName
+pub mod Named
 pub mod Reading
 pub mod Runs
 pub mod Ways
+pub mod FactorWays
 pub mod Occurrence

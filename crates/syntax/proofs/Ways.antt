@@ -1,28 +1,29 @@
--- The ways through the three functions that build an automaton from a text: on each, what the functions called promise gives what the
--- function itself promises. Alternatives and sequences share theirs, over the mark that joins their parts.
+-- The ways through the two functions that read parts joined by a mark: on each, what the functions called promise gives what the function
+-- itself promises. Alternatives and sequences share theirs, over the mark.
 use Prim.Native.Nat.{ℕ, zero, suc, _+_, _*_, _-_, _≤_, _<_}
-use mathlib.Core.Bool.{Bool, true, false}
-use mathlib.Core.List.{List, [], _∷_}
+use mathlib.Core.Bool.{true}
+use mathlib.Core.List.{List, _++_}
 use mathlib.Core.Option.{Option, some, none}
-use mathlib.Core.Path.{_≡_, refl, sym, ap, _∙_, subst}
+use mathlib.Core.Path.{_≡_, refl, sym, ap, _∙_}
 use native.Mathlib.Omega.{arith}
-use lib.Dec.{eqb}
-use lib.ListN.{length, drop}
-use Rattle.theory.specs.Expression.{empty, alternative, sequence, star, optional}
+use lib.ListN.{length, drop, length-append}
+use Rattle.theory.specs.Expression.{alternative, sequence}
 use Rattle.theory.specs.Standing.{size}
 use Rattle.theory.specs.Automaton.{link}
 use Rattle.theory.specs.AutomatonLaws.{length-link}
 use Rattle.syntax.specs.declared.cursor.Cursor.{Cursor}
 use Rattle.syntax.specs.declared.parts.Part.{Part}
-use Rattle.syntax.specs.Byte.{Bytes, dot, bar, asterisk, question, opening, closing}
+use Rattle.syntax.specs.Byte.{Bytes, dot, bar}
 use Rattle.syntax.specs.Grammar.{Tree}
-use Rattle.syntax.specs.Parser.{Parsed, failed, parsed, pastMark, suffixes, suffixed, closed, joined, named}
-use Rattle.syntax.specs.Parser.{alternatives, sequences, factors}
-use Rattle.syntax.specs.Resolve.{numbered}
-use Rattle.syntax.specs.Part.{unit, either, both, ended}
-use Rattle.syntax.specs.PlaceLaws.{Past}
-use Rattle.syntax.specs.Build.{Built, Room, Builds, Suffixed, Marked, marked}
-use Rattle.syntax.specs.BuildLaws.{built-empty, built-alternative, built-sequence, built-ended, built-suffixes}
+use Rattle.syntax.specs.Parser.{Parsed, failed, parsed, pastMark, joined, alternatives, sequences, factors}
+use Rattle.syntax.specs.Unread.{after, level, alternatives-level, sequences-level}
+use Rattle.syntax.specs.Limits.{mostNesting, balance, nesting, leaves}
+use Rattle.syntax.specs.LimitsLaws.{leaves-size, known-both}
+use Rattle.syntax.specs.Resolve.{numbered, known}
+use Rattle.syntax.specs.Part.{either, both}
+use Rattle.syntax.specs.PlaceLaws.{Past, past-level}
+use Rattle.syntax.specs.Build.{Built, Room, Read, Reads, Sure, Builds}
+use Rattle.syntax.specs.BuildLaws.{built-alternative, built-sequence}
 
 -- How f reads the tree t: g reads it alone, or g reads its left part and f, past the mark m, its right part.
 data Joins (f g : Bytes → Parsed) (join : Tree → Tree → Tree) (m : ℕ) (s : Bytes) (t : Tree) (rest : Bytes) : Type 0 where
@@ -30,11 +31,7 @@ data Joins (f g : Bytes → Parsed) (join : Tree → Tree → Tree) (m : ℕ) (s
   more : (l u : Tree) (r v : Bytes) → g s ≡ parsed l r → pastMark m r ≡ some v → f v ≡ parsed u rest → t ≡ join l u → Joins f g join m s t rest
 
 joins : (f g : Bytes → Parsed) (join : Tree → Tree → Tree) (m : ℕ) (s : Bytes) (t : Tree) (rest : Bytes) (p : Parsed) → g s ≡ p
-    → elim p as (λ q. Parsed) [
-      | failed ↦ failed
-      | parsed l r ↦ elim (pastMark m r) [ none ↦ parsed l r | some v ↦ joined join l (f v) ]
-    ] ≡ parsed t rest
-    → Joins f g join m s t rest
+    → level join m f p ≡ parsed t rest → Joins f g join m s t rest
 unfolding joined
 joins f g join m s t rest failed e h = let z : _≡_ {A = ℕ} 0 1 = cc in absurd (omega arith)
 joins f g join m s t rest (parsed l r) e h = go (pastMark m r) refl h
@@ -46,60 +43,91 @@ joins f g join m s t rest (parsed l r) e h = go (pastMark m r) refl h
         let end : w ≡ rest = cc in
         more l u r v e d (e′ ∙ ap (parsed u) end) (sym same)
 
-    go : (o : Option Bytes) → pastMark m r ≡ o
-        → elim o as (λ q. Parsed) [ none ↦ parsed l r | some v ↦ joined join l (f v) ] ≡ parsed t rest → Joins f g join m s t rest
+    go : (o : Option Bytes) → pastMark m r ≡ o → after join f l r o ≡ parsed t rest → Joins f g join m s t rest
     go none d h = let end : r ≡ rest = cc in alone (e ∙ h) (ap (pastMark m) (sym end) ∙ d)
     go (some v) d h = right v d (f v) refl h
 
-some-same : (v w : Bytes) → some v ≡ some w → v ≡ w
+pub some-same : (v w : Bytes) → some v ≡ some w → v ≡ w
 some-same v w e = cc
 
-never : {A : Type 0} (o : Option Bytes) (v : Bytes) → o ≡ none → o ≡ some v → A
+pub never : {A : Type 0} (o : Option Bytes) (v : Bytes) → o ≡ none → o ≡ some v → A
 never o v d e = let z : _≡_ {A = ℕ} 0 1 = cc in absurd (omega arith)
 
-module _ (f g : ℕ → Bytes → Parsed) (join : Tree → Tree → Tree) (m rank : ℕ)
-    (step : (n : ℕ) (s : Bytes) (t : Tree) (rest : Bytes) → f (suc n) s ≡ parsed t rest → Joins (f n) (g n) join m s t rest)
-    (labels : List Bytes)
-    (sizes : (l u : Tree) → size (numbered labels (join l u)) ≡ size (numbered labels l) + size (numbered labels u))
-    (s : Bytes) (at k : ℕ) (follow enter : List ℕ) (p : Part) (f₁ e₁ : List ℕ)
-    (left : Builds g rank labels s at k follow enter p f₁ e₁) where
-  joined-size : (t l u : Tree) → t ≡ join l u → size (numbered labels t) ≡ size (numbered labels l) + size (numbered labels u)
-  joined-size t l u e = ap (λ x. size (numbered labels x)) e ∙ sizes l u
+-- f reads parts joined by the mark m, which neither opens nor closes; g reads one part.
+record Chain (f g : ℕ → Bytes → Parsed) (join : Tree → Tree → Tree) (m : ℕ) : Type 0 where
+  pub levels : (n : ℕ) (s : Bytes) → f (suc n) s ≡ level join m (f n) (g n s)
+  pub sums : (l u : Tree) → leaves (join l u) ≡ leaves l ++ leaves u
+  pub keeps : (n : ℕ) → balance n m ≡ n
 
-  room-left : (t l u : Tree) → t ≡ join l u → Room (numbered labels t) k follow → Room (numbered labels l) k follow
+module _ (f g : ℕ → Bytes → Parsed) (join : Tree → Tree → Tree) (m rank : ℕ) (chain : Chain f g join m) (labels : List Bytes) (s : Bytes)
+    (at k d : ℕ) (follow enter : List ℕ) (p : Part) (f₁ e₁ : List ℕ) (left : Builds g rank labels s at k d follow enter p f₁ e₁) where
+  joined-length : (t l u : Tree) → t ≡ join l u → length (leaves t) ≡ length (leaves l) + length (leaves u)
+  joined-length t l u e = ap (λ x. length (leaves x)) e ∙ ap length (chain .sums l u) ∙ length-append (leaves l) (leaves u)
+
+  joined-known : (t l u : Tree) → t ≡ join l u → known labels (leaves t) ≡ true
+      → (known labels (leaves l) ≡ true) × (known labels (leaves u) ≡ true)
+  joined-known t l u e h = known-both labels (leaves l) (leaves u) .0 (rw (e, chain .sums l u) at h)
+
+  room-left : (t l u : Tree) → t ≡ join l u → Room labels t k follow → Room labels l k follow
   room-left t l u e room =
-      let n = joined-size t l u e in
-      record { few = omega (arith, room .few); long = omega (arith, room .long) }
+      let n = joined-length t l u e in
+      record { names = joined-known t l u e (room .names) .0; few = omega (arith, room .few); long = omega (arith, room .long) }
 
-  -- No mark comes after the first part: it is the whole.
-  way-alone : pastMark m (drop (p .at) s) ≡ none → Builds f (suc rank) labels s at k follow enter p f₁ e₁
-  way-alone no-mark =
+  joined-cases : (n : ℕ) (t : Tree) (rest : Bytes) → f (suc n) (drop at s) ≡ parsed t rest → Joins (f n) (g n) join m (drop at s) t rest
+  joined-cases n t rest e =
+      joins (f n) (g n) join m (drop at s) t rest (g n (drop at s)) refl (sym (chain .levels n (drop at s)) ∙ e)
+
+  -- The first part is the whole, unless a mark comes after it.
+  way-left : ((l : Tree) (w v : Bytes) → Room labels l k follow → Read labels s k d l w follow enter p f₁ e₁ → pastMark m w ≡ some v → ⊥)
+      → (p .next ≤ 64 → Sure f (suc rank) labels s at k d p) → Builds f (suc rank) labels s at k d follow enter p f₁ e₁
+  way-left no-more sure =
       record {
         onward = left .onward;
         counts = left .counts;
         same-follow = left .same-follow;
         same-enter = left .same-enter;
         reads = reads;
+        sure = sure;
       }
     where
-      cases : (n : ℕ) (t : Tree) (rest : Bytes) → 3 * (length s - at) + rank < n → Room (numbered labels t) k follow
-          → Joins (f n) (g n) join m (drop at s) t rest → (drop (p .at) s ≡ rest) × Built k (numbered labels t) follow enter p f₁ e₁
-      cases n t rest enough room (alone e d) = left .reads n t rest enough e room
-      cases n t rest enough room (more l u r v e d h same) =
-          let done = left .reads n l r enough e (room-left t l u same room) in
-          never (pastMark m (drop (p .at) s)) v no-mark (ap (pastMark m) (done .0) ∙ d)
+      cases : (n : ℕ) (t : Tree) (rest : Bytes) → 3 * (length s - at) + rank < n → Room labels t k follow → nesting d (drop at s) ≤ mostNesting
+          → Joins (f n) (g n) join m (drop at s) t rest → Read labels s k d t rest follow enter p f₁ e₁
+      cases n t rest enough room shallow (alone e none-after) = left .reads n t rest enough e room shallow
+      cases n t rest enough room shallow (more l u w v e mark h same) =
+          let small = room-left t l u same room in
+          absurd (no-more l w v small (left .reads n l w enough e small shallow) mark)
 
-      reads : (n : ℕ) (t : Tree) (rest : Bytes) → 3 * (length s - at) + suc rank < n → f n (drop at s) ≡ parsed t rest
-          → Room (numbered labels t) k follow → (drop (p .at) s ≡ rest) × Built k (numbered labels t) follow enter p f₁ e₁
-      reads zero t rest enough e room = absurd (omega arith)
-      reads (suc n) t rest enough e room = cases n t rest (omega arith) room (step n (drop at s) t rest e)
+      reads : Reads f (suc rank) labels s at k d follow enter p f₁ e₁
+      reads zero t rest enough e room shallow = absurd (omega arith)
+      reads (suc n) t rest enough e room shallow = cases n t rest (omega arith) room shallow (joined-cases n t rest e)
 
-  -- A mark comes after the first part, and f reads what comes after it.
+  -- No mark comes after it.
+  way-alone : pastMark m (drop (p .at) s) ≡ none → Builds f (suc rank) labels s at k d follow enter p f₁ e₁
+  way-alone no-mark =
+      way-left (λ l w v room done mark. never (pastMark m (drop (p .at) s)) v no-mark (ap (pastMark m) (done .left) ∙ mark))
+      (λ h. sure (left .sure h))
+    where
+      sure : Sure g rank labels s at k d p → Sure f (suc rank) labels s at k d p
+      sure x = record { tree = x .tree; read = read; names = x .names; next = x .next; shallow = x .shallow }
+        where
+          read : (n : ℕ) → 3 * (length s - at) + suc rank < n → f n (drop at s) ≡ parsed (x .tree) (drop (p .at) s)
+          read zero enough = absurd (omega arith)
+          read (suc n) enough =
+              chain .levels n (drop at s) ∙ ap (level join m (f n)) (x .read n (omega arith))
+              ∙ ap (after join (f n) (x .tree) (drop (p .at) s)) no-mark
+
+  -- It is a fault.
+  way-fault : 64 < p .next → Builds f (suc rank) labels s at k d follow enter p f₁ e₁
+  way-fault many =
+      way-left (λ l w v room done mark. omega (arith, room .few, done .built .next, leaves-size labels l)) (λ h. absurd (omega arith))
+
+  -- A mark comes after it, and f reads what comes after the mark.
   way-more : (c : Cursor) (q r : Part) (f₂ e₂ f₃ : List ℕ) → Past m s (p .at) c
-      → Builds f (suc rank) labels s (c .at) (p .next) f₁ e₁ q f₂ e₂
+      → Builds f (suc rank) labels s (c .at) (p .next) d f₁ e₁ q f₂ e₂
       → ((l u : Tree) → k + size (numbered labels l) ≤ length follow → Built k (numbered labels l) follow enter p f₁ e₁
       → Built (p .next) (numbered labels u) f₁ e₁ q f₂ e₂ → Built k (numbered labels (join l u)) follow enter r f₃ e₂)
-      → r .at ≡ q .at → r .next ≡ q .next → length f₃ ≡ length f₂ → Builds f (suc rank) labels s at k follow enter r f₃ e₂
+      → r .at ≡ q .at → r .next ≡ q .next → length f₃ ≡ length f₂ → Builds f (suc rank) labels s at k d follow enter r f₃ e₂
+  unfolding joined
   way-more c q r f₂ e₂ f₃ mark right build same-at same-next same-length =
       record {
         onward = omega (arith, left .onward, right .onward, mark .next);
@@ -107,249 +135,99 @@ module _ (f g : ℕ → Bytes → Parsed) (join : Tree → Tree → Tree) (m ran
         same-follow = same-length ∙ right .same-follow ∙ left .same-follow;
         same-enter = right .same-enter ∙ left .same-enter;
         reads = reads;
+        sure = λ h. sure (left .sure (omega (arith, right .counts))) (right .sure (omega arith));
       }
     where
-      cases : (n : ℕ) (t : Tree) (rest : Bytes) → 3 * (length s - at) + rank < n → Room (numbered labels t) k follow
-          → Joins (f n) (g n) join m (drop at s) t rest → (drop (r .at) s ≡ rest) × Built k (numbered labels t) follow enter r f₃ e₂
-      cases n t rest enough room (alone e d) =
-          let done = left .reads n t rest enough e room in
-          never (pastMark m (drop (p .at) s)) (drop (c .at) s) (ap (pastMark m) (done .0) ∙ d) (mark .past)
-      cases n t rest enough room (more l u w v e d h same) =
-          let first = room-left t l u same room in
-          let done = left .reads n l w enough e first in
-          let from : v ≡ drop (c .at) s = some-same v (drop (c .at) s) (sym d ∙ ap (pastMark m) (sym (done .0)) ∙ mark .past) in
-          let all = joined-size t l u same in
-          let rest-room : Room (numbered labels u) (p .next) f₁ =
-          record { few = omega (arith, room .few, done .1 .next); long = omega (arith, room .long, done .1 .next, left .same-follow) } in
-          let then = right .reads n u rest (omega (arith, mark .inside, mark .next, left .onward)) (ap (f n) (sym from) ∙ h) rest-room in
-          (ap (λ a. drop a s) same-at ∙ then .0, rw same (build l u (first .long) (done .1) (then .1)))
+      nests : nesting d (drop (p .at) s) ≡ nesting d (drop (c .at) s)
+      nests = past-level m s (p .at) c mark d (chain .keeps d)
 
-      reads : (n : ℕ) (t : Tree) (rest : Bytes) → 3 * (length s - at) + suc rank < n → f n (drop at s) ≡ parsed t rest
-          → Room (numbered labels t) k follow → (drop (r .at) s ≡ rest) × Built k (numbered labels t) follow enter r f₃ e₂
-      reads zero t rest enough e room = absurd (omega arith)
-      reads (suc n) t rest enough e room = cases n t rest (omega arith) room (step n (drop at s) t rest e)
+      cases : (n : ℕ) (t : Tree) (rest : Bytes) → 3 * (length s - at) + rank < n → Room labels t k follow → nesting d (drop at s) ≤ mostNesting
+          → Joins (f n) (g n) join m (drop at s) t rest → Read labels s k d t rest follow enter r f₃ e₂
+      cases n t rest enough room shallow (alone e none-after) =
+          let done = left .reads n t rest enough e room shallow in
+          never (pastMark m (drop (p .at) s)) (drop (c .at) s) (ap (pastMark m) (done .left) ∙ none-after) (mark .past)
+      cases n t rest enough room shallow (more l u w v e there h same) =
+          let small = room-left t l u same room in
+          let done = left .reads n l w enough e small shallow in
+          let from : v ≡ drop (c .at) s = some-same v (drop (c .at) s) (sym there ∙ ap (pastMark m) (sym (done .left)) ∙ mark .past) in
+          let all = joined-length t l u same in
+          let size-left = leaves-size labels l in
+          let rest-room : Room labels u (p .next) f₁ =
+          record {
+            names = joined-known t l u same (room .names) .1;
+            few = omega (arith, room .few, done .built .next);
+            long = omega (arith, room .long, done .built .next, left .same-follow);
+          } in
+          let then = right .reads n u rest (omega (arith, mark .inside, mark .next, left .onward)) (ap (f n) (sym from) ∙ h) rest-room
+          (omega (arith, done .shallow, ap (nesting d) (done .left), nests)) in
+          record {
+            left = ap (λ a. drop a s) same-at ∙ then .left;
+            shallow = then .shallow;
+            built = rw same (build l u (omega (arith, small .long)) (done .built) (then .built));
+          }
 
-alternatives-step : (n : ℕ) (s : Bytes) (t : Tree) (rest : Bytes) → alternatives (suc n) s ≡ parsed t rest
-    → Joins (alternatives n) (sequences n) alternative bar s t rest
-unfolding alternatives
-alternatives-step n s t rest e = joins (alternatives n) (sequences n) alternative bar s t rest (sequences n s) refl e
+      reads : Reads f (suc rank) labels s at k d follow enter r f₃ e₂
+      reads zero t rest enough e room shallow = absurd (omega arith)
+      reads (suc n) t rest enough e room shallow = cases n t rest (omega arith) room shallow (joined-cases n t rest e)
 
-sequences-step : (n : ℕ) (s : Bytes) (t : Tree) (rest : Bytes) → sequences (suc n) s ≡ parsed t rest
-    → Joins (sequences n) (factors n) sequence dot s t rest
-unfolding sequences
-sequences-step n s t rest e = joins (sequences n) (factors n) sequence dot s t rest (factors n s) refl e
-
-alternative-sizes : (labels : List Bytes) (l u : Tree)
-    → size (numbered labels (alternative l u)) ≡ size (numbered labels l) + size (numbered labels u)
-unfolding numbered
-alternative-sizes labels l u = refl
-
-sequence-sizes : (labels : List Bytes) (l u : Tree)
-    → size (numbered labels (sequence l u)) ≡ size (numbered labels l) + size (numbered labels u)
-unfolding numbered
-sequence-sizes labels l u = refl
-
-module _ (labels : List Bytes) (s : Bytes) (at k : ℕ) (follow enter : List ℕ) (p : Part) (f₁ e₁ : List ℕ) where
-  pub alternative-alone : Builds sequences 2 labels s at k follow enter p f₁ e₁ → pastMark bar (drop (p .at) s) ≡ none
-      → Builds alternatives 3 labels s at k follow enter p f₁ e₁
-  alternative-alone =
-      way-alone alternatives sequences alternative bar 2 alternatives-step labels (alternative-sizes labels) s at k follow enter p f₁ e₁
-
-  pub alternative-more : (c : Cursor) (q : Part) (f₂ e₂ : List ℕ) → Builds sequences 2 labels s at k follow enter p f₁ e₁
-      → Past bar s (p .at) c → Builds alternatives 3 labels s (c .at) (p .next) f₁ e₁ q f₂ e₂
-      → Builds alternatives 3 labels s at k follow enter (either p q) f₂ e₂
-  unfolding numbered
-  alternative-more c q f₂ e₂ left mark right =
-      way-more alternatives sequences alternative bar 2 alternatives-step labels (alternative-sizes labels) s at k follow enter p f₁ e₁ left c q
-      (either p q) f₂ e₂ f₂ mark right
-      (λ l u room a b. built-alternative k (numbered labels l) (numbered labels u) follow enter p q f₁ e₁ f₂ e₂ room a b) refl refl refl
-
-  pub sequence-alone : Builds factors 1 labels s at k follow enter p f₁ e₁ → pastMark dot (drop (p .at) s) ≡ none
-      → Builds sequences 2 labels s at k follow enter p f₁ e₁
-  sequence-alone = way-alone sequences factors sequence dot 1 sequences-step labels (sequence-sizes labels) s at k follow enter p f₁ e₁
-
-  pub sequence-more : (c : Cursor) (q : Part) (f₂ e₂ : List ℕ) → Builds factors 1 labels s at k follow enter p f₁ e₁
-      → Past dot s (p .at) c → Builds sequences 2 labels s (c .at) (p .next) f₁ e₁ q f₂ e₂
-      → Builds sequences 2 labels s at k follow enter (both p q) (link (p .last .0) (q .first .0) 0 f₂) e₂
-  unfolding numbered
-  sequence-more c q f₂ e₂ left mark right =
-      way-more sequences factors sequence dot 1 sequences-step labels (sequence-sizes labels) s at k follow enter p f₁ e₁ left c q
-      (both p q) f₂ e₂ (link (p .last .0) (q .first .0) 0 f₂) mark right
-      (λ l u room a b. built-sequence k (numbered labels l) (numbered labels u) follow enter p q f₁ e₁ f₂ e₂ room a b) refl refl
-      (length-link (p .last .0) (q .first .0) 0 f₂)
-
--- The marks after a factor leave the number of its occurrences.
-suffixes-size : (labels : List Bytes) (s : Bytes) (u t : Tree) (rest : Bytes) → suffixes u s ≡ parsed t rest
-    → size (numbered labels u) ≡ size (numbered labels t)
-unfolding suffixes numbered
-suffixes-size labels [] u t rest e = let same : u ≡ t = cc in ap (λ x. size (numbered labels x)) same
-suffixes-size labels (b ∷ s) u t rest e =
-    go (eqb b asterisk) (eqb b question) e (suffixes-size labels s (star u) t rest) (suffixes-size labels s (optional u) t rest)
-  where
-    go : (x y : Bool)
-        → elim x as (λ q. Parsed) [ true ↦ suffixes (star u) s | false ↦ elim y [ true ↦ suffixes (optional u) s | false ↦ parsed u (b ∷ s) ] ]
-        ≡ parsed t rest
-        → (suffixes (star u) s ≡ parsed t rest → size (numbered labels u) ≡ size (numbered labels t))
-        → (suffixes (optional u) s ≡ parsed t rest → size (numbered labels u) ≡ size (numbered labels t))
-        → size (numbered labels u) ≡ size (numbered labels t)
-    go true y e f g = f e
-    go false true e f g = g e
-    go false false e f g = let same : u ≡ t = cc in ap (λ x. size (numbered labels x)) same
-
--- A factor without its marks, and then with them.
-with-marks : (labels : List Bytes) (s : Bytes) (k : ℕ) (follow enter : List ℕ) (u t : Tree) (w rest : Bytes) (p r : Part) (f₁ f₂ e₁ : List ℕ)
-    → Suffixed s p f₁ r f₂ → suffixes u w ≡ parsed t rest → Room (numbered labels t) k follow
-    → (Room (numbered labels u) k follow → (drop (p .at) s ≡ w) × Built k (numbered labels u) follow enter p f₁ e₁)
-    → (drop (r .at) s ≡ rest) × Built k (numbered labels t) follow enter r f₂ e₁
-with-marks labels s k follow enter u t w rest p r f₁ f₂ e₁ marks e room read =
-    let n = suffixes-size labels w u t rest e in
-    let done = read (record { few = omega (arith, room .few); long = omega (arith, room .long) }) in
-    let m : Marked = marked (p .last .0) (p .first .0) (drop (p .at) s) (p .nullable) f₁ in
-    let all = built-suffixes labels k (r .at) (drop (p .at) s) u t rest follow enter p f₁ e₁ (omega (arith, room .long)) (done .1)
-    (ap (suffixes u) (done .0) ∙ e) in (
-      sym (ap (λ (x : Marked). x .rest) (marks .marks)) ∙ all .0,
-      subst (λ (x : Part). Built k (numbered labels t) follow enter x f₂ e₁) (sym (marks .same))
-          (subst (λ (x : Marked). Built k (numbered labels t) follow enter (ended (r .at) (x .nullable) p) (x .follow) e₁) (marks .marks)
-          (all .1)),
-    )
-
-suffixed-cases : (q : Parsed) (t : Tree) (rest : Bytes) → suffixed q ≡ parsed t rest
-    → (u : Tree) × (w : Bytes) × (q ≡ parsed u w) × (suffixes u w ≡ parsed t rest)
-unfolding suffixed
-suffixed-cases failed t rest e = let z : _≡_ {A = ℕ} 0 1 = cc in absurd (omega arith)
-suffixed-cases (parsed u w) t rest e = (u, w, refl, e)
-
-closed-cases : (q : Parsed) (t : Tree) (rest : Bytes) → closed q ≡ parsed t rest
-    → (w : Bytes) × (q ≡ parsed t w) × (pastMark closing w ≡ some rest)
-unfolding closed
-closed-cases failed t rest e = let z : _≡_ {A = ℕ} 0 1 = cc in absurd (omega arith)
-closed-cases (parsed u w) t rest e = go (pastMark closing w) refl e
-  where
-    go : (o : Option Bytes) → pastMark closing w ≡ o → elim o as (λ q. Parsed) [ none ↦ failed | some r ↦ parsed u r ] ≡ parsed t rest
-        → (v : Bytes) × (parsed u w ≡ parsed t v) × (pastMark closing v ≡ some rest)
-    go none d e = let z : _≡_ {A = ℕ} 0 1 = cc in absurd (omega arith)
-    go (some r) d e =
-        let same : u ≡ t = cc in
-        let end : r ≡ rest = cc in
-        (w, ap (λ x. parsed x w) same, d ∙ ap some end)
-
--- What the parser of factors does, by what the text begins with.
-
-grouped : ℕ → Bytes → Option Bytes → Parsed
-grouped n v o = elim o [ none ↦ suffixed (closed (alternatives n v)) | some r ↦ suffixes empty r ]
-
-opened : ℕ → Bytes → Option Bytes → Parsed
-opened n s o = elim o [ none ↦ suffixed (named s) | some v ↦ grouped n v (pastMark closing v) ]
-
-factors-named : (n : ℕ) (s : Bytes) → pastMark opening s ≡ none → factors (suc n) s ≡ suffixed (named s)
-unfolding factors opened grouped
-factors-named n s e = ap (opened n s) e
-
-factors-unit : (n : ℕ) (s v w : Bytes) → pastMark opening s ≡ some v → pastMark closing v ≡ some w → factors (suc n) s ≡ suffixes empty w
-unfolding factors opened grouped
-factors-unit n s v w e d = ap (opened n s) e ∙ ap (grouped n v) d
-
-factors-group : (n : ℕ) (s v : Bytes) → pastMark opening s ≡ some v → pastMark closing v ≡ none
-    → factors (suc n) s ≡ suffixed (closed (alternatives n v))
-unfolding factors opened grouped
-factors-group n s v e d = ap (opened n s) e ∙ ap (grouped n v) d
-
-module _ (labels : List Bytes) (s : Bytes) (at k : ℕ) (follow enter : List ℕ) where
-  next-after : (p r : Part) (f₁ f₂ : List ℕ) → Suffixed s p f₁ r f₂ → r .next ≡ p .next
-  next-after p r f₁ f₂ marks = ap (λ (x : Part). x .next) (marks .same)
-
-  -- A name, and the marks after it.
-  pub factor-name : (p r : Part) (f₁ e₁ f₂ : List ℕ) → pastMark opening (drop at s) ≡ none
-      → Builds (λ n. named) 0 labels s at k follow enter p f₁ e₁ → Suffixed s p f₁ r f₂ → Builds factors 1 labels s at k follow enter r f₂ e₁
-  factor-name p r f₁ e₁ f₂ none-open name marks =
-      record {
-        onward = omega (arith, name .onward, marks .onward);
-        counts = omega (arith, name .counts, next-after p r f₁ f₂ marks);
-        same-follow = marks .same-follow ∙ name .same-follow;
-        same-enter = name .same-enter;
-        reads = reads;
-      }
-    where
-      reads : (n : ℕ) (t : Tree) (rest : Bytes) → 3 * (length s - at) + 1 < n → factors n (drop at s) ≡ parsed t rest
-          → Room (numbered labels t) k follow → (drop (r .at) s ≡ rest) × Built k (numbered labels t) follow enter r f₂ e₁
-      reads zero t rest enough e room = absurd (omega arith)
-      reads (suc n) t rest enough e room =
-          let (u, w, d, h) = suffixed-cases (named (drop at s)) t rest (sym (factors-named n (drop at s) none-open) ∙ e) in
-          with-marks labels s k follow enter u t w rest p r f₁ f₂ e₁ marks h room (name .reads (suc n) u w (omega arith) d)
-
-  -- `()`, and the marks after it.
-  pub factor-unit : (c d : Cursor) (r : Part) (f₂ : List ℕ) → Past opening s at c → Past closing s (c .at) d
-      → Suffixed s (unit (d .at) k) follow r f₂ → Builds factors 1 labels s at k follow enter r f₂ enter
-  unfolding numbered
-  factor-unit c d r f₂ opened shut marks =
-      record {
-        onward = omega (arith, opened .next, shut .next, marks .onward);
-        counts = omega (arith, next-after (unit (d .at) k) r follow f₂ marks);
-        same-follow = marks .same-follow;
-        same-enter = refl;
-        reads = reads;
-      }
-    where
-      reads : (n : ℕ) (t : Tree) (rest : Bytes) → 3 * (length s - at) + 1 < n → factors n (drop at s) ≡ parsed t rest
-          → Room (numbered labels t) k follow → (drop (r .at) s ≡ rest) × Built k (numbered labels t) follow enter r f₂ enter
-      reads zero t rest enough e room = absurd (omega arith)
-      reads (suc n) t rest enough e room =
-          with-marks labels s k follow enter empty t (drop (d .at) s) rest (unit (d .at) k) r follow f₂ enter marks
-          (sym (factors-unit n (drop at s) (drop (c .at) s) (drop (d .at) s) (opened .past) (shut .past)) ∙ e) room
-          (λ small. (refl, built-empty k (d .at) follow enter))
-
-  -- An alternative in parentheses, and the marks after it.
-  pub factor-group : (c d : Cursor) (p r : Part) (f₁ e₁ f₂ : List ℕ) → Past opening s at c → pastMark closing (drop (c .at) s) ≡ none
-      → Builds alternatives 3 labels s (c .at) k follow enter p f₁ e₁ → Past closing s (p .at) d
-      → Suffixed s (ended (d .at) (p .nullable) p) f₁ r f₂ → Builds factors 1 labels s at k follow enter r f₂ e₁
-  factor-group c d p r f₁ e₁ f₂ opened not-unit inner shut marks =
-      record {
-        onward = omega (arith, opened .next, inner .onward, shut .next, marks .onward);
-        counts = omega (arith, inner .counts, next-after (ended (d .at) (p .nullable) p) r f₁ f₂ marks);
-        same-follow = marks .same-follow ∙ inner .same-follow;
-        same-enter = inner .same-enter;
-        reads = reads;
-      }
-    where
-      reads : (n : ℕ) (t : Tree) (rest : Bytes) → 3 * (length s - at) + 1 < n → factors n (drop at s) ≡ parsed t rest
-          → Room (numbered labels t) k follow → (drop (r .at) s ≡ rest) × Built k (numbered labels t) follow enter r f₂ e₁
-      reads zero t rest enough e room = absurd (omega arith)
-      reads (suc n) t rest enough e room =
-          let group = factors-group n (drop at s) (drop (c .at) s) (opened .past) not-unit in
-          let (u, w, q, h) = suffixed-cases (closed (alternatives n (drop (c .at) s))) t rest (sym group ∙ e) in
-          let (v, a, m) = closed-cases (alternatives n (drop (c .at) s)) u w q in
-          with-marks labels s k follow enter u t w rest (ended (d .at) (p .nullable) p) r f₁ f₂ e₁ marks h room
-          (λ small. part u v w a m (inner .reads n u v (omega (arith, opened .inside, opened .next)) a small))
+      sure : Sure g rank labels s at k d p → Sure f (suc rank) labels s (c .at) (p .next) d q → Sure f (suc rank) labels s at k d r
+      sure x y =
+          record {
+            tree = join (x .tree) (y .tree);
+            read = read;
+            names = rw (chain .sums (x .tree) (y .tree)) (known-both labels (leaves (x .tree)) (leaves (y .tree)) .1 (x .names, y .names));
+            next = omega (arith, x .next, y .next, joined-length (join (x .tree) (y .tree)) (x .tree) (y .tree) refl);
+            shallow = omega (arith, x .shallow, y .shallow, nests, ap (λ a. nesting d (drop a s)) same-at);
+          }
         where
-          part : (u : Tree) (v w : Bytes) → alternatives n (drop (c .at) s) ≡ parsed u v → pastMark closing v ≡ some w
-              → (drop (p .at) s ≡ v) × Built k (numbered labels u) follow enter p f₁ e₁
-              → (drop (d .at) s ≡ w) × Built k (numbered labels u) follow enter (ended (d .at) (p .nullable) p) f₁ e₁
-          part u v w a m done = (
-            some-same (drop (d .at) s) w (sym (shut .past) ∙ ap (pastMark closing) (done .0) ∙ m),
-            built-ended k (numbered labels u) (d .at) follow enter p f₁ e₁ (done .1),
-          )
+          read : (n : ℕ) → 3 * (length s - at) + suc rank < n → f n (drop at s) ≡ parsed (join (x .tree) (y .tree)) (drop (r .at) s)
+          read zero enough = absurd (omega arith)
+          read (suc n) enough =
+              chain .levels n (drop at s) ∙ ap (level join m (f n)) (x .read n (omega arith))
+              ∙ ap (after join (f n) (x .tree) (drop (p .at) s)) (mark .past)
+              ∙ ap (joined join (x .tree)) (y .read n (omega (arith, mark .inside, mark .next, left .onward)))
+              ∙ ap (λ a. parsed (join (x .tree) (y .tree)) (drop a s)) (sym same-at)
 
-  -- An alternative whose parenthesis is not closed is no factor.
-  pub factor-open : (c : Cursor) (p : Part) (f₁ e₁ : List ℕ) → Past opening s at c → pastMark closing (drop (c .at) s) ≡ none
-      → Builds alternatives 3 labels s (c .at) k follow enter p f₁ e₁ → pastMark closing (drop (p .at) s) ≡ none
-      → Builds factors 1 labels s at k follow enter p f₁ e₁
-  factor-open c p f₁ e₁ opened not-unit inner not-closed =
-      record {
-        onward = omega (arith, opened .next, inner .onward);
-        counts = inner .counts;
-        same-follow = inner .same-follow;
-        same-enter = inner .same-enter;
-        reads = reads;
-      }
-    where
-      reads : (n : ℕ) (t : Tree) (rest : Bytes) → 3 * (length s - at) + 1 < n → factors n (drop at s) ≡ parsed t rest
-          → Room (numbered labels t) k follow → (drop (p .at) s ≡ rest) × Built k (numbered labels t) follow enter p f₁ e₁
-      reads zero t rest enough e room = absurd (omega arith)
-      reads (suc n) t rest enough e room =
-          let group = factors-group n (drop at s) (drop (c .at) s) (opened .past) not-unit in
-          let (u, w, q, h) = suffixed-cases (closed (alternatives n (drop (c .at) s))) t rest (sym group ∙ e) in
-          let (v, a, m) = closed-cases (alternatives n (drop (c .at) s)) u w q in
-          let z = suffixes-size labels w u t rest h in
-          let small : Room (numbered labels u) k follow = record { few = omega (arith, room .few); long = omega (arith, room .long) } in
-          let done = inner .reads n u v (omega (arith, opened .inside, opened .next)) a small in
-          never (pastMark closing (drop (p .at) s)) w not-closed (ap (pastMark closing) (done .0) ∙ m)
+alternatives-chain : Chain alternatives sequences alternative bar
+unfolding leaves balance
+alternatives-chain = record { levels = alternatives-level; sums = λ l u. refl; keeps = λ n. refl }
+
+sequences-chain : Chain sequences factors sequence dot
+unfolding leaves balance
+sequences-chain = record { levels = sequences-level; sums = λ l u. refl; keeps = λ n. refl }
+
+module _ (labels : List Bytes) (s : Bytes) (at k d : ℕ) (follow enter : List ℕ) (p : Part) (f₁ e₁ : List ℕ) where
+  module _ (left : Builds sequences 2 labels s at k d follow enter p f₁ e₁) where
+    pub alternative-fault : 64 < p .next → Builds alternatives 3 labels s at k d follow enter p f₁ e₁
+    alternative-fault =
+        way-fault alternatives sequences alternative bar 2 alternatives-chain labels s at k d follow enter p f₁ e₁ left
+
+    pub alternative-alone : pastMark bar (drop (p .at) s) ≡ none → Builds alternatives 3 labels s at k d follow enter p f₁ e₁
+    alternative-alone =
+        way-alone alternatives sequences alternative bar 2 alternatives-chain labels s at k d follow enter p f₁ e₁ left
+
+    pub alternative-more : (c : Cursor) (q : Part) (f₂ e₂ : List ℕ) → Past bar s (p .at) c
+        → Builds alternatives 3 labels s (c .at) (p .next) d f₁ e₁ q f₂ e₂
+        → Builds alternatives 3 labels s at k d follow enter (either p q) f₂ e₂
+    unfolding numbered
+    alternative-more c q f₂ e₂ mark right =
+        way-more alternatives sequences alternative bar 2 alternatives-chain labels s at k d follow enter p f₁ e₁ left c q
+        (either p q) f₂ e₂ f₂ mark right
+        (λ l u room a b. built-alternative k (numbered labels l) (numbered labels u) follow enter p q f₁ e₁ f₂ e₂ room a b) refl refl refl
+
+  module _ (left : Builds factors 1 labels s at k d follow enter p f₁ e₁) where
+    pub sequence-fault : 64 < p .next → Builds sequences 2 labels s at k d follow enter p f₁ e₁
+    sequence-fault = way-fault sequences factors sequence dot 1 sequences-chain labels s at k d follow enter p f₁ e₁ left
+
+    pub sequence-alone : pastMark dot (drop (p .at) s) ≡ none → Builds sequences 2 labels s at k d follow enter p f₁ e₁
+    sequence-alone = way-alone sequences factors sequence dot 1 sequences-chain labels s at k d follow enter p f₁ e₁ left
+
+    pub sequence-more : (c : Cursor) (q : Part) (f₂ e₂ : List ℕ) → Past dot s (p .at) c
+        → Builds sequences 2 labels s (c .at) (p .next) d f₁ e₁ q f₂ e₂
+        → Builds sequences 2 labels s at k d follow enter (both p q) (link (p .last .0) (q .first .0) 0 f₂) e₂
+    unfolding numbered
+    sequence-more c q f₂ e₂ mark right =
+        way-more sequences factors sequence dot 1 sequences-chain labels s at k d follow enter p f₁ e₁ left c q
+        (both p q) f₂ e₂ (link (p .last .0) (q .first .0) 0 f₂) mark right
+        (λ l u room a b. built-sequence k (numbered labels l) (numbered labels u) follow enter p q f₁ e₁ f₂ e₂ room a b) refl refl
+        (length-link (p .last .0) (q .first .0) 0 f₂)

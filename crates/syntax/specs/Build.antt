@@ -1,6 +1,6 @@
--- What building Glushkov's automaton from an expression's text promises. The text is one that the grammar check has passed; of any other
--- text nothing is said but that reading ends and goes on from where it began.
-use Prim.Native.Nat.{ℕ, suc, _+_, _*_, _-_, _≤_, _<_}
+-- What building Glushkov's automaton from an expression's text promises. Building finds on its way whether the text is fine: what is read
+-- without fault is in the grammar and within the limits, and a text that is both is read without fault.
+use Prim.Native.Nat.{ℕ, suc, max, _+_, _*_, _-_, _≤_, _<_}
 use mathlib.Core.Bool.{Bool, true, false}
 use mathlib.Core.List.{List, [], _∷_, _++_}
 use mathlib.Core.Path.{_≡_}
@@ -15,8 +15,10 @@ use Rattle.syntax.specs.Part.{ended}
 use Rattle.syntax.specs.Byte.{Bytes, asterisk, question}
 use Rattle.syntax.specs.Grammar.{Tree}
 use Rattle.syntax.specs.Parser.{Parsed, parsed}
+use Rattle.syntax.specs.Limits.{mostNesting, nesting, leaves}
 use Rattle.syntax.specs.Check.{check, fine}
-use Rattle.syntax.specs.Resolve.{numbered}
+use Rattle.syntax.specs.Verdict.{isFine}
+use Rattle.syntax.specs.Resolve.{numbered, known}
 use Rattle.syntax.specs.Splice.{splice}
 use Rattle.syntax.specs.Entered.{entered}
 
@@ -30,21 +32,45 @@ pub record Built (k : ℕ) (e : Expression) (follow enter : List ℕ) (p : Part)
   pub follow-sets : follow′ ≡ splice k (follows k e) follow
   pub enter-sets : enter′ ≡ entered k e 0 enter
 
--- The occurrences of e, numbered from k on, are below 64 and the follow table has room for them.
-pub record Room (e : Expression) (k : ℕ) (follow : List ℕ) : Type 0 where
-  pub few : k + size e ≤ 64
-  pub long : k + size e ≤ length follow
+-- The occurrences of the tree t, numbered from k on, are of known labels and below 64, and the follow table has room for them.
+pub record Room (labels : List Bytes) (t : Tree) (k : ℕ) (follow : List ℕ) : Type 0 where
+  pub names : known labels (leaves t) ≡ true
+  pub few : k + length (leaves t) ≤ 64
+  pub long : k + length (leaves t) ≤ length follow
 
--- What each of the three reading functions promises, for the parser f of its level: for any number of calls that is enough, it builds
--- what f reads and ends where f stops. It never goes back, in the text or in the numbers of places.
-pub record Builds (f : ℕ → Bytes → Parsed) (rank : ℕ) (labels : List Bytes) (s : Bytes) (at k : ℕ) (follow enter : List ℕ) (r : Part)
+-- The tree t has been read and built, which leaves `rest`; behind it, where d parentheses are open, no parenthesis is too deep.
+pub record Read (labels : List Bytes) (s : Bytes) (k d : ℕ) (t : Tree) (rest : Bytes) (follow enter : List ℕ) (r : Part)
+    (follow′ enter′ : List ℕ) : Type 0 where
+  pub left : drop (r .at) s ≡ rest
+  pub shallow : nesting d rest ≤ mostNesting
+  pub built : Built k (numbered labels t) follow enter r follow′ enter′
+
+-- For any number of calls that is enough, what the parser f reads is read and built, where there is room and nothing is too deep.
+abbrev pub Reads : (f : ℕ → Bytes → Parsed) (rank : ℕ) (labels : List Bytes) (s : Bytes) (at k d : ℕ) (follow enter : List ℕ) (r : Part)
+    (follow′ enter′ : List ℕ) → Type 0
+Reads f rank labels s at k d follow enter r follow′ enter′ =
+    (n : ℕ) (t : Tree) (rest : Bytes) → 3 * (length s - at) + rank < n → f n (drop at s) ≡ parsed t rest → Room labels t k follow
+    → nesting d (drop at s) ≤ mostNesting → Read labels s k d t rest follow enter r follow′ enter′
+
+-- What a part that is no fault tells: the parser f reads a tree up to where the part ends, whose labels are known, and no parenthesis is
+-- too deep before that end.
+pub record Sure (f : ℕ → Bytes → Parsed) (rank : ℕ) (labels : List Bytes) (s : Bytes) (at k d : ℕ) (r : Part) : Type 0 where
+  pub tree : Tree
+  pub read : (n : ℕ) → 3 * (length s - at) + rank < n → f n (drop at s) ≡ parsed tree (drop (r .at) s)
+  pub names : known labels (leaves tree) ≡ true
+  pub next : r .next ≡ k + length (leaves tree)
+  pub shallow : nesting d (drop at s) ≤ max mostNesting (nesting d (drop (r .at) s))
+
+-- What each of the three reading functions promises, for the parser f of its level, d parentheses being open around what it reads: it
+-- builds what f reads, and a part that is no fault is one that f reads. It never goes back, in the text or in the numbers of places.
+pub record Builds (f : ℕ → Bytes → Parsed) (rank : ℕ) (labels : List Bytes) (s : Bytes) (at k d : ℕ) (follow enter : List ℕ) (r : Part)
     (follow′ enter′ : List ℕ) : Type 0 where
   pub onward : at ≤ r .at
   pub counts : k ≤ r .next
   pub same-follow : length follow′ ≡ length follow
   pub same-enter : length enter′ ≡ length enter
-  pub reads : (n : ℕ) (t : Tree) (rest : Bytes) → 3 * (length s - at) + rank < n → f n (drop at s) ≡ parsed t rest
-      → Room (numbered labels t) k follow → (drop (r .at) s ≡ rest) × Built k (numbered labels t) follow enter r follow′ enter′
+  pub reads : Reads f rank labels s at k d follow enter r follow′ enter′
+  pub sure : r .next ≤ 64 → Sure f rank labels s at k d r
 
 -- The marks after a part with the given last and first places: whether the part has the empty path, the follow table, and what is left
 -- of the text.
@@ -78,8 +104,9 @@ pub record Made (e : Expression) (follow enter : List ℕ) (r : Answer) (follow�
   pub enter-sets : enter′ ≡ entered 1 e 0 enter
 
 -- What building the automaton of the text s promises: the tables stay as long as they are, and where the check finds no fault in the text
--- and the follow table has room, they become the automaton's.
+-- and the follow table has room, they become the automaton's; with room for all places, the answer tells whether the text is fine.
 pub record Makes (labels : List Bytes) (s : Bytes) (follow enter : List ℕ) (r : Answer) (follow′ enter′ : List ℕ) : Type 0 where
   pub same-follow : length follow′ ≡ length follow
   pub same-enter : length enter′ ≡ length enter
   pub makes : (e : Expression) → check labels s ≡ fine e → size e < length follow → Made e follow enter r follow′ enter′
+  pub told : 64 ≤ length follow → r .fine ≡ isFine (check labels s)

@@ -1,12 +1,12 @@
 -- Glushkov's construction, part by part: what is built of an expression from what is built of its parts.
-use Prim.Native.Nat.{ℕ, _+_, _≤_, _<_}
+use Prim.Native.Nat.{ℕ, _+_, _*_, _-_, _≤_, _<_}
 use mathlib.Core.Bool.{Bool, true, false, _||_, _&&_}
 use mathlib.Core.List.{List, [], _∷_, _++_, append-nil}
 use mathlib.Core.Path.{_≡_, refl, sym, ap, ap₂, _∙_}
 use native.Mathlib.Nat.{add-zero, zero-add}
 use native.Mathlib.Omega.{arith}
 use lib.Dec.{eqb}
-use lib.ListN.{length, getD, set}
+use lib.ListN.{length, drop, getD, set}
 use Rattle.theory.specs.Expression.{Expression, empty, label, alternative, sequence, star, optional}
 use Rattle.theory.specs.Standing.{size}
 use Rattle.theory.specs.Places.{Member, one, union, when}
@@ -15,14 +15,31 @@ use Rattle.theory.specs.Automaton.{nullable, first, last, link, follows, labell
 use Rattle.theory.specs.AutomatonLaws.{length-follows, member-last}
 use Rattle.places.specs.declared.Places.{Places}
 use Rattle.syntax.specs.declared.parts.Part.{Part}
-use Rattle.syntax.specs.Part.{unit, single, either, both, ended}
+use Rattle.syntax.specs.Part.{nowhere, unit, fault, single, either, both, ended}
 use Rattle.syntax.specs.Byte.{Bytes, asterisk, question}
 use Rattle.syntax.specs.Grammar.{Tree}
 use Rattle.syntax.specs.Parser.{Parsed, parsed, suffixes}
+use Rattle.syntax.specs.Limits.{mostNesting, nesting}
 use Rattle.syntax.specs.Resolve.{numbered}
 use Rattle.syntax.specs.Splice.{splice, splice-none, splice-one, splice-splice, splice-link}
 use Rattle.syntax.specs.Entered.{entered, entered-nothing, entered-same, entered-label, entered-both}
-use Rattle.syntax.specs.Build.{Built, Marked, marked}
+use Rattle.syntax.specs.Build.{Built, Room, Builds, Marked, marked}
+
+-- A fault is told where nothing is to be built.
+pub builds-fault : (f : ℕ → Bytes → Parsed) (rank : ℕ) (labels : List Bytes) (s : Bytes) (at k d end : ℕ) (follow enter f₁ e₁ : List ℕ)
+    → at ≤ end → k ≤ nowhere → length f₁ ≡ length follow → length e₁ ≡ length enter
+    → ((n : ℕ) (t : Tree) (rest : Bytes) → 3 * (length s - at) + rank < n → f n (drop at s) ≡ parsed t rest → Room labels t k follow
+    → nesting d (drop at s) ≤ mostNesting → ⊥)
+    → Builds f rank labels s at k d follow enter (fault end) f₁ e₁
+builds-fault f rank labels s at k d end follow enter f₁ e₁ onward counts same-follow same-enter none =
+    record {
+      onward = onward;
+      counts = counts;
+      same-follow = same-follow;
+      same-enter = same-enter;
+      reads = λ n t rest enough e room shallow. absurd (none n t rest enough e room shallow);
+      sure = λ h. absurd (omega arith);
+    }
 
 pub built-empty : (k at : ℕ) (follow enter : List ℕ) → Built k empty follow enter (unit at k) follow enter
 unfolding nullable first last follows labelled

@@ -7,7 +7,7 @@ use mathlib.Core.Path.{_≡_, refl, ap}
 use native.Mathlib.Omega.{arith}
 use lib.Dec.{leb}
 use lib.ListN.{length}
-use borrow.Author.Tests.{leb-true}
+use borrow.Author.Tests.{le-leb, leb-true}
 use Rattle.theory.specs.Expression.{Expression}
 use Rattle.theory.specs.Standing.{size}
 use Rattle.syntax.specs.declared.refusal.Refusal.the-variants.{NotInGrammar, UnknownLabel, ExpressionTooLong, TooDeep, TooManyOccurrences}
@@ -19,20 +19,29 @@ use Rattle.syntax.specs.LimitsLaws.{leaves-size}
 use Rattle.syntax.specs.Resolve.{numbered, known}
 use Rattle.syntax.specs.Check.{Checked, fine, faulty, check, checkTree}
 
--- The parser reads the whole text, and the expression, which has few occurrences, is that of the parser's tree.
+-- The parser reads the whole text, which is not too deep, and the expression, which has few occurrences, is that of the parser's tree, whose
+-- labels are known.
 pub record Fine (labels : List Bytes) (s : Bytes) (e : Expression) : Type 0 where
+  pub short : length s ≤ mostBytes
   pub tree : Tree
   pub whole : alternatives (calls (length s)) s ≡ parsed tree []
+  pub shallow : nesting 0 s ≤ mostNesting
+  pub names : known labels (leaves tree) ≡ true
   pub expression : numbered labels tree ≡ e
   pub few : size e ≤ mostOccurrences
 
-fine-tree : (labels : List Bytes) (s : Bytes) (t : Tree) (e : Expression) → checkTree labels s t ≡ fine e
-    → (numbered labels t ≡ e) × (length (leaves t) ≤ mostOccurrences)
+record FineTree (labels : List Bytes) (s : Bytes) (t : Tree) (e : Expression) : Type 0 where
+  pub shallow : nesting 0 s ≤ mostNesting
+  pub names : known labels (leaves t) ≡ true
+  pub expression : numbered labels t ≡ e
+  pub few : length (leaves t) ≤ mostOccurrences
+
+fine-tree : (labels : List Bytes) (s : Bytes) (t : Tree) (e : Expression) → checkTree labels s t ≡ fine e → FineTree labels s t e
 unfolding checkTree
 fine-tree labels s t e h =
-    shallow (leb (nesting 0 s) mostNesting) (known labels (leaves t)) (leb (length (leaves t)) mostOccurrences) refl h
+    go (leb (nesting 0 s) mostNesting) (known labels (leaves t)) (leb (length (leaves t)) mostOccurrences) refl refl refl h
   where
-    shallow : (x y z : Bool) → leb (length (leaves t)) mostOccurrences ≡ z
+    go : (x y z : Bool) → leb (nesting 0 s) mostNesting ≡ x → known labels (leaves t) ≡ y → leb (length (leaves t)) mostOccurrences ≡ z
         → elim x as (λ b. Checked) [
           | false ↦ faulty TooDeep
           | true ↦ elim y [
@@ -40,11 +49,17 @@ fine-tree labels s t e h =
             | true ↦ elim z [ false ↦ faulty TooManyOccurrences | true ↦ fine (numbered labels t) ]
           ]
         ] ≡ fine e
-        → (numbered labels t ≡ e) × (length (leaves t) ≤ mostOccurrences)
-    shallow false y z d h = let n : _≡_ {A = ℕ} 0 1 = cc in absurd (omega arith)
-    shallow true false z d h = let n : _≡_ {A = ℕ} 0 1 = cc in absurd (omega arith)
-    shallow true true false d h = let n : _≡_ {A = ℕ} 0 1 = cc in absurd (omega arith)
-    shallow true true true d h = (cc, leb-true (length (leaves t)) mostOccurrences d)
+        → FineTree labels s t e
+    go false y z p q d h = let n : _≡_ {A = ℕ} 0 1 = cc in absurd (omega arith)
+    go true false z p q d h = let n : _≡_ {A = ℕ} 0 1 = cc in absurd (omega arith)
+    go true true false p q d h = let n : _≡_ {A = ℕ} 0 1 = cc in absurd (omega arith)
+    go true true true p q d h =
+        record {
+          shallow = leb-true (nesting 0 s) mostNesting p;
+          names = q;
+          expression = cc;
+          few = leb-true (length (leaves t)) mostOccurrences d;
+        }
 
 parse-whole : (s : Bytes) (t : Tree) → parse s ≡ some t → alternatives (calls (length s)) s ≡ parsed t []
 unfolding parse
@@ -58,21 +73,37 @@ parse-whole s t h = go (alternatives (calls (length s)) s) h
 
 pub fine-cases : (labels : List Bytes) (s : Bytes) (e : Expression) → check labels s ≡ fine e → Fine labels s e
 unfolding check
-fine-cases labels s e h = short (leb (length s) mostBytes) (parse s) refl h
+fine-cases labels s e h = go (leb (length s) mostBytes) (parse s) refl refl h
   where
-    short : (x : Bool) (o : Option Tree) → parse s ≡ o
+    go : (x : Bool) (o : Option Tree) → leb (length s) mostBytes ≡ x → parse s ≡ o
         → elim x as (λ b. Checked) [
           | false ↦ faulty ExpressionTooLong
           | true ↦ elim o [ none ↦ faulty NotInGrammar | some t ↦ checkTree labels s t ]
         ] ≡ fine e
         → Fine labels s e
-    short false o d h = let n : _≡_ {A = ℕ} 0 1 = cc in absurd (omega arith)
-    short true none d h = let n : _≡_ {A = ℕ} 0 1 = cc in absurd (omega arith)
-    short true (some t) d h =
+    go false o p d h = let n : _≡_ {A = ℕ} 0 1 = cc in absurd (omega arith)
+    go true none p d h = let n : _≡_ {A = ℕ} 0 1 = cc in absurd (omega arith)
+    go true (some t) p d h =
         let r = fine-tree labels s t e h in
         record {
+          short = leb-true (length s) mostBytes p;
           tree = t;
           whole = parse-whole s t d;
-          expression = r .0;
-          few = omega (arith, r .1, leaves-size labels t, ap size (r .0));
+          shallow = r .shallow;
+          names = r .names;
+          expression = r .expression;
+          few = omega (arith, leaves-size labels t, ap size (r .expression));
         }
+
+-- And what tells that it finds none.
+module _ (labels : List Bytes) (s : Bytes) (t : Tree) (short : length s ≤ mostBytes) (shallow : nesting 0 s ≤ mostNesting)
+    (names : known labels (leaves t) ≡ true) (few : length (leaves t) ≤ mostOccurrences) where
+  pub parse-fine : parse s ≡ some t → check labels s ≡ fine (numbered labels t)
+  unfolding check checkTree
+  parse-fine p =
+      rw (le-leb (length s) mostBytes short, check, p, le-leb (nesting 0 s) mostNesting shallow, checkTree, names)
+      (rw (le-leb (length (leaves t)) mostOccurrences few))
+
+  pub whole-fine : alternatives (calls (length s)) s ≡ parsed t [] → check labels s ≡ fine (numbered labels t)
+  unfolding parse
+  whole-fine w = parse-fine (rw (w, parse))

@@ -92,7 +92,7 @@ known-append labels (a ∷ m) n = go (ltb (find a 0 labels) (length labels)) (kn
     go true e = e
     go false e = refl
 
-known-both : (labels m n : List Bytes) → (known labels (m ++ n) ≡ true) ↔ ((known labels m ≡ true) × (known labels n ≡ true))
+pub known-both : (labels m n : List Bytes) → (known labels (m ++ n) ≡ true) ↔ ((known labels m ≡ true) × (known labels n ≡ true))
 known-both labels m n = rw (known-append labels m n) (and-eq-true-iff (known labels m) (known labels n))
 
 pub known-resolves : (labels : List Bytes) (t : Tree) → known labels (leaves t) ≡ true → Resolves labels t (numbered labels t)

@@ -1,15 +1,16 @@
--- Laws of nesting: in a text of the grammar every parenthesis is closed, so that they nest no deeper than half its bytes.
-use Prim.Native.Nat.{ℕ, zero, suc, pred, max, _+_, _≤_, _<_}
+-- Laws of nesting: what a byte does to it, and that in a text of the grammar every parenthesis is closed, so that they nest no deeper than
+-- half its bytes.
+use Prim.Native.Nat.{ℕ, suc, pred, max, _+_, _≤_}
 use mathlib.Core.Bool.{Bool, true, false}
-use mathlib.Core.List.{List, [], _∷_, _++_, append-assoc, append-nil}
-use mathlib.Core.Path.{_≡_, refl, sym, ap}
+use mathlib.Core.List.{[], _∷_, _++_, append-assoc, append-nil}
+use mathlib.Core.Path.{_≡_, refl, ap, _∙_}
 use native.Mathlib.Omega.{arith}
-use lib.Dec.{eqb}
 use lib.ListN.{length, length-append}
-use borrow.Author.Tests.{ne-eqb}
-use Rattle.syntax.specs.Byte.{Bytes, kind, NameByte, dot, bar, asterisk, question, opening, closing}
+use borrow.Author.Tests.{ne-eqb, leb-true}
+use Rattle.syntax.specs.Byte.{Bytes, kind, hyphen, NameByte, nameByte, dot, bar, asterisk, question, opening, closing}
 use Rattle.syntax.specs.Name.{NameBytes, nothing, next, IsName}
 use Rattle.syntax.specs.Grammar.{Tree, Level, alternatives, Derives, one-sequence, more-sequences, one-factor, more-factors, name, unit, group, starred, optioned}
+use Rattle.syntax.specs.Parser.{pastRun}
 use Rattle.syntax.specs.Limits.{balance, nesting}
 
 -- What one byte does to the number of open parentheses.
@@ -26,6 +27,17 @@ module _ (n b : ℕ) where
   unfolding balance
   keeps f g = rw (ne-eqb b opening f, balance, ne-eqb b closing g, balance)
 
+-- What is open before a text counts in it.
+pub deeper : (n : ℕ) (s : Bytes) → n ≤ nesting n s
+unfolding nesting
+deeper n [] = omega arith
+deeper n (b ∷ s) = omega arith
+
+-- A byte that neither opens nor closes changes nothing.
+pub level : (n b : ℕ) (s : Bytes) → balance n b ≡ n → nesting n (b ∷ s) ≡ nesting n s
+unfolding nesting
+level n b s e = rw e (omega (arith, deeper n s))
+
 -- A part that closes what it opens, and nests no deeper than half its bytes.
 record Balanced (u : Bytes) : Type 0 where
   pub deep : ℕ
@@ -36,10 +48,19 @@ name-keeps : (n b : ℕ) → NameByte b → balance n b ≡ n
 unfolding kind
 name-keeps n b h = keeps n b (λ e. omega (arith, ap kind e)) (λ e. omega (arith, ap kind e))
 
-names-nest : {u : Bytes} → NameBytes u → (n : ℕ) (rest : Bytes) → nesting n (u ++ rest) ≤ max n (nesting n rest)
-unfolding nesting
-names-nest nothing n rest = omega arith
-names-nest (next {b} {s} h r) n rest = rw (name-keeps n b h) (omega (arith, names-nest r n rest))
+names-nest : {u : Bytes} → NameBytes u → (n : ℕ) (rest : Bytes) → nesting n (u ++ rest) ≡ nesting n rest
+names-nest nothing n rest = refl
+names-nest (next {b} {s} h r) n rest = level n b (s ++ rest) (name-keeps n b h) ∙ names-nest r n rest
+
+-- So does a run of name bytes.
+pub run-nests : (n : ℕ) (s : Bytes) → nesting n s ≡ nesting n (pastRun s)
+unfolding pastRun
+run-nests n [] = refl
+run-nests n (b ∷ s) = go (nameByte b) refl (run-nests n s)
+  where
+    go : (t : Bool) → nameByte b ≡ t → nesting n s ≡ nesting n (pastRun s) → nesting n (b ∷ s) ≡ nesting n (pastRun (b ∷ s))
+    go true e h = rw (e, pastRun) (level n b s (name-keeps n b (leb-true (kind b) hyphen e)) ∙ h)
+    go false e h = rw (e, pastRun) refl
 
 nothing-balanced : Balanced []
 nothing-balanced = record { deep = 0; half = omega arith; nests = λ n rest. omega arith }

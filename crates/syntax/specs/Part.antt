@@ -13,6 +13,14 @@ places s = record { 0 = s }
 abbrev pub unit : ℕ → ℕ → Part
 unit at next = record { at = at; next = next; nullable = true; first = places none; last = places none }
 
+-- A number beyond all places.
+abbrev pub nowhere : ℕ
+nowhere = 18446744073709551615
+
+-- What is no part, at the byte `at`: the number of its next place is beyond all places.
+abbrev pub fault : ℕ → Part
+fault at = unit at nowhere
+
 -- One occurrence of a label.
 abbrev pub single : ℕ → ℕ → Places → Part
 single at next place = record { at = at; next = next; nullable = false; first = place; last = place }

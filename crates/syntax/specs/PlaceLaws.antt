@@ -1,5 +1,5 @@
 -- What it tells of the text that a cursor has moved past a mark, or has not.
-use Prim.Native.Nat.{ℕ, suc, _-_, _<_}
+use Prim.Native.Nat.{ℕ, suc, max, _+_, _-_, _<_}
 use mathlib.Core.Bool.{Bool, true, false}
 use mathlib.Core.List.{[], _∷_}
 use mathlib.Core.Option.{Option, some, none}
@@ -11,8 +11,11 @@ use lib.ListN.{length, drop, length-drop}
 use lib.Seq.{drop-drop}
 use Rattle.syntax.specs.declared.cursor.Cursor.{Cursor}
 use Rattle.syntax.specs.declared.cursor.Moved.the-variants.{To, Failed}
-use Rattle.syntax.specs.Byte.{Bytes}
+use Rattle.syntax.specs.Byte.{Bytes, opening, closing}
 use Rattle.syntax.specs.Parser.{pastMark}
+use Rattle.syntax.specs.ParserShapes.{past-mark}
+use Rattle.syntax.specs.Limits.{balance, nesting}
+use Rattle.syntax.specs.NestingLaws.{deeper, level}
 use Rattle.syntax.specs.Place.{cursorAt, moved}
 
 -- The mark m stands at the place `at` of s, and the place c comes after it.
@@ -52,3 +55,20 @@ mark-failed m s at e = go (pastMark m (drop at s)) refl e
     go : (x : Option Bytes) → pastMark m (drop at s) ≡ x → Failed ≡ moved s x → pastMark m (drop at s) ≡ none
     go none d e = d
     go (some v) d e = let z : _≡_ {A = ℕ} 0 1 = cc in absurd (omega arith)
+
+-- What the mark does to the nesting.
+module _ (m : ℕ) (s : Bytes) (at : ℕ) (c : Cursor) (mark : Past m s at c) (n : ℕ) where
+  there : drop at s ≡ m ∷ drop (c .at) s
+  there = past-mark m (drop at s) (drop (c .at) s) (mark .past)
+
+  pub past-level : balance n m ≡ n → nesting n (drop at s) ≡ nesting n (drop (c .at) s)
+  past-level e = ap (nesting n) there ∙ level n m (drop (c .at) s) e
+
+module _ (s : Bytes) (at : ℕ) (c : Cursor) (n : ℕ) where
+  pub past-opening : Past opening s at c → nesting n (drop at s) ≡ nesting (n + 1) (drop (c .at) s)
+  unfolding nesting balance
+  past-opening mark = rw (add-one, there opening s at c mark n) (omega (arith, deeper (suc n) (drop (c .at) s)))
+
+  pub past-closing : Past closing s at c → nesting (n + 1) (drop at s) ≡ max (n + 1) (nesting n (drop (c .at) s))
+  unfolding nesting balance
+  past-closing mark = rw (add-one, there closing s at c mark n)

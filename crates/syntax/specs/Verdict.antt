@@ -9,6 +9,11 @@ abbrev pub verdict : Checked → Check
 verdict (fine e) = Fine
 verdict (faulty r) = Faulty r
 
+-- Whether the check finds no fault.
+abbrev pub isFine : Checked → Bool
+isFine (fine e) = true
+isFine (faulty r) = false
+
 -- What one check says.
 abbrev pub unless : Bool → Refusal → Check
 unless true r = Fine

@@ -8,7 +8,7 @@ use mathlib.Core.Path.{_≡_, refl, sym, ap, _∙_}
 use native.Mathlib.Omega.{arith}
 use lib.Dec.{leb}
 use lib.ListN.{length}
-use borrow.Author.Tests.{le-leb, leb-true, leb-false}
+use borrow.Author.Tests.{leb-true, leb-false}
 use Rattle.syntax.specs.declared.checks.Check.the-variants.{Fine, Faulty}
 use Rattle.syntax.specs.declared.refusal.Refusal.the-variants.{NotInGrammar, UnknownLabel, ExpressionTooLong, TooDeep, TooManyOccurrences}
 use Rattle.theory.specs.Expression.{Expression}
@@ -22,10 +22,11 @@ use Rattle.syntax.specs.ParserLaws.{parse-sound, parse-none}
 use Rattle.syntax.specs.Limits.{mostBytes, mostNesting, mostOccurrences, nesting, leaves, runs}
 use Rattle.syntax.specs.LimitsLaws.{runs-leaves, leaves-size, known-resolves, resolves-known}
 use Rattle.syntax.specs.Resolve.{Resolves, known, numbered}
-use Rattle.syntax.specs.Check.{long, ungrammatical, deep, unknown, many, check, checkTree}
+use Rattle.syntax.specs.Check.{long, ungrammatical, deep, unknown, many, Checked, fine, faulty, check}
 use Rattle.syntax.specs.CheckLaws.{check-faulty}
+use Rattle.syntax.specs.FineLaws.{parse-fine}
 use Rattle.syntax.specs.Told.{Told}
-use Rattle.syntax.specs.Verdict.{verdict, unless, first}
+use Rattle.syntax.specs.Verdict.{verdict, isFine, unless, first}
 
 -- How many occurrences are told of matters only where each is a known name.
 pub labels-told : (labels : List Bytes) (s : Bytes) (r : Labels) → Told labels s r
@@ -38,6 +39,10 @@ labels-told labels s r h = rw (sym (h .names)) (go (r .known) (h .number))
         ≡ first (unless k UnknownLabel) (unless (leb (length (runs false s)) mostOccurrences) TooManyOccurrences)
     go true n = rw (n refl)
     go false n = refl
+
+pub fine-verdict : (c : Checked) → isFine c ≡ true → Fine ≡ verdict c
+fine-verdict (fine e) h = refl
+fine-verdict (faulty r) h = absurd (false≢true h)
 
 no-tree : (o : Option Tree) → isSome o ≡ false → o ≡ none
 no-tree none g = refl
@@ -90,12 +95,7 @@ module _ (labels : List Bytes) (s : Bytes) (h : length s ≤ mostBytes) (g : isS
           sym (ap verdict (check-faulty labels s TooManyOccurrences .1 (many h derives n resolves over)))
 
       all-fine : length (runs false s) ≤ mostOccurrences → Fine ≡ verdict (check labels s)
-      unfolding check checkTree
-      all-fine m =
-          let l : known labels (leaves tree) ≡ true = rw names at k in
-          let few : length (leaves tree) ≤ mostOccurrences = omega (arith, ap length names) in
-          rw (le-leb (length s) mostBytes h, check, parses, le-leb (nesting 0 s) mostNesting n, checkTree, l)
-          (rw (le-leb (length (leaves tree)) mostOccurrences few))
+      all-fine m = sym (ap verdict (parse-fine labels s tree h n (rw names at k) (omega (arith, ap length names)) parses))
 
 -- The outcome is the first fault of the checks' answers.
 module _ (labels : List Bytes) (s : Bytes) (h : length s ≤ mostBytes) where

@@ -1,5 +1,8 @@
 // Glushkov's automaton of an expression, built from its text in lent tables: three functions read an alternative, a sequence and a factor
-// and call each other. The text is one that the grammar check has passed.
+// and call each other. The text is checked on the way: a part that is none, or has a label unknown, a place too many or a parenthesis too deep,
+// is a fault, and so is all that is made of it.
+use super::checks::MOST_BYTES;
+use super::checks::MOST_NESTING;
 use super::cursor::Cursor;
 use super::cursor::Moved;
 use super::kind::KINDS;
@@ -16,10 +19,12 @@ ghost use Rattle.syntax.specs.Parser.{alternatives, sequences, factors};
 ghost use Rattle.syntax.specs.Resolve.{namesAt};
 ghost use Rattle.syntax.specs.Build.{Builds, Makes};
 
-// The automaton of an expression but for its tables: the number of its places after the start, and the accepting places.
+// The automaton of an expression but for its tables: the number of its places after the start, and the accepting places; and whether the
+// text is an expression.
 pub struct Automaton {
     pub size: u64,
     pub accepting: Places,
+    pub fine: bool,
 }
 
 // Builds the automaton of the expression s in the lent tables: the follow set of each place, and for each label the places that it may
@@ -34,8 +39,25 @@ pub fn build(
     ensures { λ r. ⌜ Makes (namesAt (now (text .entry)) (now (names .entry))) (now (s .entry)) (now (follow .entry)) (now (enter .entry)) r
         (now (follow .exit)) (now (enter .exit)) ⌝ }
 {
+    if MOST_BYTES < s.len() {
+        return Automaton {
+            size: 0,
+            accepting: Places::EMPTY,
+            fine: false,
+        };
+    }
     let kinds = KINDS;
-    let whole = alternative(s, text, names, follow, enter, Cursor { at: 0 }, 1, &kinds);
+    let whole = alternative(
+        s,
+        text,
+        names,
+        follow,
+        enter,
+        Cursor { at: 0 },
+        1,
+        0,
+        &kinds,
+    );
     let first = whole.first;
     let last = whole.last;
     put(follow, 0, first);
@@ -43,6 +65,7 @@ pub fn build(
     Automaton {
         size: whole.next - 1,
         accepting: accepting,
+        fine: whole.next <= 64 && s.len() <= whole.at,
     }
 }
 
@@ -54,18 +77,22 @@ fn alternative(
     enter: &mut [u64],
     c: Cursor,
     k: u64,
+    open: u64,
     kinds: &[u8; 256],
 ) -> Part
     requires { ⌜ now kinds ≡ kindTable ⌝ }
-    ensures { λ r. ⌜ Builds alternatives 3 (namesAt (now (text .entry)) (now (names .entry))) (now (s .entry)) (c .at) k
+    ensures { λ r. ⌜ Builds alternatives 3 (namesAt (now (text .entry)) (now (names .entry))) (now (s .entry)) (c .at) k «open»
         (now (follow .entry)) (now (enter .entry)) r (now (follow .exit)) (now (enter .exit)) ⌝ }
 {
-    let left = sequence(s, text, names, follow, enter, c, k, kinds);
+    let left = sequence(s, text, names, follow, enter, c, k, open, kinds);
+    if 64 < left.next {
+        return left;
+    }
     let end = Cursor { at: left.at };
     let moved = end.mark(s, b'|');
     match moved {
         Moved::To(next) => {
-            let right = alternative(s, text, names, follow, enter, next, left.next, kinds);
+            let right = alternative(s, text, names, follow, enter, next, left.next, open, kinds);
             left.either(right)
         }
         Moved::Failed => left,
@@ -80,18 +107,22 @@ fn sequence(
     enter: &mut [u64],
     c: Cursor,
     k: u64,
+    open: u64,
     kinds: &[u8; 256],
 ) -> Part
     requires { ⌜ now kinds ≡ kindTable ⌝ }
-    ensures { λ r. ⌜ Builds sequences 2 (namesAt (now (text .entry)) (now (names .entry))) (now (s .entry)) (c .at) k
+    ensures { λ r. ⌜ Builds sequences 2 (namesAt (now (text .entry)) (now (names .entry))) (now (s .entry)) (c .at) k «open»
         (now (follow .entry)) (now (enter .entry)) r (now (follow .exit)) (now (enter .exit)) ⌝ }
 {
-    let left = factor(s, text, names, follow, enter, c, k, kinds);
+    let left = factor(s, text, names, follow, enter, c, k, open, kinds);
+    if 64 < left.next {
+        return left;
+    }
     let end = Cursor { at: left.at };
     let moved = end.mark(s, b'.');
     match moved {
         Moved::To(next) => {
-            let right = sequence(s, text, names, follow, enter, next, left.next, kinds);
+            let right = sequence(s, text, names, follow, enter, next, left.next, open, kinds);
             let lasts = left.last;
             let firsts = right.first;
             link(follow, lasts, firsts);
@@ -109,25 +140,39 @@ fn factor(
     enter: &mut [u64],
     c: Cursor,
     k: u64,
+    open: u64,
     kinds: &[u8; 256],
 ) -> Part
     requires { ⌜ now kinds ≡ kindTable ⌝ }
-    ensures { λ r. ⌜ Builds factors 1 (namesAt (now (text .entry)) (now (names .entry))) (now (s .entry)) (c .at) k
+    ensures { λ r. ⌜ Builds factors 1 (namesAt (now (text .entry)) (now (names .entry))) (now (s .entry)) (c .at) k «open»
         (now (follow .entry)) (now (enter .entry)) r (now (follow .exit)) (now (enter .exit)) ⌝ }
 {
     let opened = c.mark(s, b'(');
     match opened {
         Moved::To(inner) => {
+            if MOST_NESTING <= open {
+                return Part::fault(inner.at);
+            }
             let closed = inner.mark(s, b')');
             match closed {
                 Moved::To(after) => suffixes(s, follow, Part::unit(after.at, k)),
                 Moved::Failed => {
-                    let group = alternative(s, text, names, follow, enter, inner, k, kinds);
+                    let group = alternative(
+                        s,
+                        text,
+                        names,
+                        follow,
+                        enter,
+                        inner,
+                        k,
+                        open + 1,
+                        kinds,
+                    );
                     let end = Cursor { at: group.at };
                     let shut = end.mark(s, b')');
                     match shut {
                         Moved::To(after) => suffixes(s, follow, group.ending(after.at)),
-                        Moved::Failed => group,
+                        Moved::Failed => Part::fault(group.at),
                     }
                 }
             }

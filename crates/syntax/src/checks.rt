@@ -9,9 +9,9 @@ ghost use Rattle.syntax.specs.Check.{check};
 ghost use Rattle.syntax.specs.Resolve.{namesAt};
 ghost use Rattle.syntax.specs.Verdict.{first, unless, verdict};
 
-const MOST_BYTES: usize = 512;
+pub const MOST_BYTES: usize = 512;
 
-const MOST_NESTING: u64 = 16;
+pub const MOST_NESTING: u64 = 16;
 
 const MOST_OCCURRENCES: u64 = 63;
 

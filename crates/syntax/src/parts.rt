@@ -2,7 +2,7 @@
 use places::Places;
 ghost use mathlib.Core.Path.{_≡_};
 ghost use Rattle.theory.specs.Places.{when};
-ghost use Rattle.syntax.specs.Part.{unit, single, either, both, ended};
+ghost use Rattle.syntax.specs.Part.{unit, fault, single, either, both, ended};
 
 // What reading a part of an expression gives: where it ends in the text, the number of the next place, whether it has the empty path,
 // and the places that can be read first and last in it.
@@ -21,7 +21,17 @@ pub fn when(holds: bool, places: Places) -> Places
     if holds { places } else { Places::EMPTY }
 }
 
+// The number of the next place where there is no part.
+const NOWHERE: u64 = 18446744073709551615;
+
 impl Part {
+    // What is read where no part stands, or one with a place too many: the number of its next place is beyond all places.
+    pub fn fault(at: usize) -> Part
+        ensures { λ r. ⌜ r ≡ fault at ⌝ }
+    {
+        Part::unit(at, NOWHERE)
+    }
+
     // `()`, which has no place.
     pub fn unit(at: usize, next: u64) -> Part
         ensures { λ r. ⌜ r ≡ unit at next ⌝ }

@@ -1,20 +1,10 @@
--- `expression` meets its contract: a fine expression is built in the rows x, and of a faulty one nothing is stored.
-use Prim.Native.Nat.{_<_}
-use mathlib.Core.Path.{_≡_, sym, _∙_}
-use Rattle.reading.specs.FillingLaws.{reads-fine, reads-faulty}
+-- `expression` meets its contract: the expression is built in the rows x, and where building does not find it fine, the check tells its
+-- first fault.
+use Rattle.reading.specs.FillingLaws.{reads-fine, reads-told}
 use native.Mathlib.Omega.{arith}
 use borrow.Author.Needs.{needs}
 use Rattle.reading.proofs.row.expression.Statement.{statement}
 use Rattle.reading.proofs.row.expression.Tie as tie
-
-check-expression-requires : tie.Need-check-expression-requires
-check-expression-requires c κs = search needs
-
-enum-known-told : tie.Need-enum-known-told
-enum-known-told c = search needs
-
-enum-told : tie.Need-enum-told
-enum-told c = search needs
 
 fill-requires : tie.Need-fill-requires
 fill-requires c κs = search needs
@@ -27,28 +17,31 @@ put-requires-2 c κs = search needs
 
 returns : tie.Need-returns
 returns c =
-    let a = c .before .before .before .before .before .before .before .args in
-    reads-faulty _ (a .s .now) (a .x) (a .follow .now) (a .enter .now) (a .sizes .now) (a .accepting .now) _
-    (sym (c .before .told .given .1) ∙ c .before .before .before .check-expression .ensures)
+    let accepted = c .before in
+    let sized = accepted .before .before in
+    let filled = sized .before .before .before in
+    let start = filled .before .before .before .before .before .before in
+    let a = start .args in
+    rw (accepted .put2 .ensures, sized .put .ensures)
+    (reads-fine _ (a .s .now) (a .x) (a .follow .now) (a .enter .now) (filled .fill .result) _ _ (filled .fill .ensures) (a .sizes .now)
+    (a .accepting .now) (omega (arith, filled .before .fill-arg2, start .pre)) (omega (arith, sized .before .put-arg, start .pre))
+    (omega (arith, accepted .before .put-arg2, start .pre)) (c .if1 .taken))
+
+check-expression-requires : tie.Need-check-expression-requires
+check-expression-requires c κs = search needs
 
 returns-2 : tie.Need-returns-2
 returns-2 c =
-    let a = c .before .before .before .before .before .before .before .before .before .before .before .before .before .before .args in
-    let x : a .x < 17 = c .before .before .before .before .before .before .before .before .before .before .before .before .before .before .pre in
-    rw (c .put2 .ensures, c .before .before .put .ensures)
-    (reads-fine _ (a .s .now) (a .x) (a .follow .now) (a .enter .now) (c .before .before .before .before .before .fill .result) _ _ (c .before .before .before .before .before .fill .ensures) (a .sizes .now)
-    (a .accepting .now) (omega (arith, c .before .before .before .before .before .before .fill-arg2)) (omega (arith, c .before .before .before .put-arg)) (omega (arith, c .before .put-arg2))
-    (sym (c .before .before .before .before .before .before .before .before .enum-told .given .1) ∙ c .before .before .before .before .before .before .before .before .before .before .check-expression .ensures))
+    let accepted = c .before .before in
+    let sized = accepted .before .before in
+    let filled = sized .before .before .before in
+    let start = filled .before .before .before .before .before .before in
+    let a = start .args in
+    rw (accepted .put2 .ensures, sized .put .ensures)
+    (reads-told _ (a .s .now) (a .x) (a .follow .now) (a .enter .now) (filled .fill .result) _ _ (filled .fill .ensures) (a .sizes .now)
+    (a .accepting .now) (omega (arith, filled .before .fill-arg2, start .pre)) (omega (arith, sized .before .put-arg, start .pre))
+    (omega (arith, accepted .before .put-arg2, start .pre)) _ (c .check-expression .ensures))
 
 pub expression-spec : {M : Type 1} → statement M
 expression-spec =
-    tie.close
-    (tie.spec
-    check-expression-requires
-    enum-known-told
-    enum-told
-    fill-requires
-    put-requires
-    put-requires-2
-    returns
-    returns-2)
+    tie.close (tie.spec fill-requires put-requires put-requires-2 returns check-expression-requires returns-2)

@@ -1,12 +1,12 @@
 -- The three reading functions meet their contracts. Three times the number of unread bytes, with the rank of the level, falls with each
--- call; each way through the code is one lemma (Ways).
+-- call; each way through the code is one lemma (Ways, FactorWays).
 use native.Mathlib.Omega.{arith}
 use mathlib.Core.Path.{sym, _∙_}
 use Rattle.syntax.specs.Byte.{dot, bar, opening, closing}
 use Rattle.syntax.specs.Resolve.{namesAt}
 use Rattle.syntax.specs.PlaceLaws.{mark-to, mark-failed}
-use Rattle.syntax.proofs.Ways.{alternative-alone, alternative-more, sequence-alone, sequence-more}
-use Rattle.syntax.proofs.Ways.{factor-name, factor-unit, factor-group, factor-open}
+use Rattle.syntax.proofs.Ways.{alternative-fault, alternative-alone, alternative-more, sequence-fault, sequence-alone, sequence-more}
+use Rattle.syntax.proofs.FactorWays.{factor-name, factor-deep, factor-unit, factor-group, factor-open}
 use borrow.Author.Needs.{needs}
 use Prim.Native.Nat.{ℕ, _+_, _*_, _-_, _<_}
 use lib.ListN.{length}
@@ -27,6 +27,7 @@ use Rattle.syntax.proofs.leaf.suffixes.Reads as suffixes-reads
 use Rattle.syntax.proofs.parts.Part.both.Reads as both-reads
 use Rattle.syntax.proofs.parts.Part.either.Reads as either-reads
 use Rattle.syntax.proofs.parts.Part.ending.Reads as ending-reads
+use Rattle.syntax.proofs.parts.Part.fault.Reads as fault-reads
 use Rattle.syntax.proofs.parts.Part.unit.Reads as unit-reads
 use Rattle.syntax.proofs.sets.link.Reads as link-reads
 use Rattle.syntax.proofs.build.+alternative+factor+sequence.{statement}
@@ -79,6 +80,8 @@ abbrev factor-calls : ℕ → factor-lts.Claims
 factor-calls t = (
   mark-reads.Asked,
   mark-reads.Learnt,
+  fault-reads.Asked,
+  fault-reads.Learnt,
   unit-reads.Asked,
   unit-reads.Learnt,
   suffixes-reads.Asked,
@@ -108,6 +111,21 @@ sequence-calls t = (
 alternative-sequence-requires : (t : ℕ) → alternative-lts.Need-sequence-requires (alternative-calls t) (alternative-at t) alternative.Post
 alternative-sequence-requires t c κs = search needs
 
+alternative-same-length : (t : ℕ) → alternative-lts.Need-same-length (alternative-calls t) (alternative-at t) alternative.Post
+alternative-same-length t c = search needs
+
+alternative-same-length-2 : (t : ℕ) → alternative-lts.Need-same-length-2 (alternative-calls t) (alternative-at t) alternative.Post
+alternative-same-length-2 t c = search needs
+
+alternative-returns : (t : ℕ) → alternative-lts.Need-returns (alternative-calls t) (alternative-at t) alternative.Post
+alternative-returns t c =
+    let before = c .before .before .before .before .before .before in
+    let start = before .before .before .before .before .before .before .before .before in
+    let a = start .args in
+    let left = before .sequence in
+    alternative-fault (namesAt (a .text .now) (a .names .now)) (a .s .now) (a .c .at) (a .k) (a .«open») (a .follow .now) (a .enter .now)
+    (left .result) (left .last .1 .1 .1 .0) (left .last .1 .1 .1 .1 .0) (left .ensures) (c .if1 .taken)
+
 alternative-mark-requires : (t : ℕ) → alternative-lts.Need-mark-requires (alternative-calls t) (alternative-at t) alternative.Post
 alternative-mark-requires t c κs = search needs
 
@@ -118,7 +136,7 @@ alternative-alternative-requires : (t : ℕ) → alternative-lts.Need-alternativ
 alternative-alternative-requires t c κs =
     let moved = c .before .before .before in
     let marked = moved .before .before in
-    let left = marked .before .before .before .before .before in
+    let left = marked .before .before .before .before .before .before .before in
     let start = left .before .before .before .before .before .before .before .before in
     let to = moved .moved .given in
     let at = left .sequence .result .at in
@@ -131,21 +149,24 @@ alternative-either-requires t c κs = search needs
 alternative-enum-told : (t : ℕ) → alternative-lts.Need-enum-told (alternative-calls t) (alternative-at t) alternative.Post
 alternative-enum-told t c = search needs
 
-alternative-same-length : (t : ℕ) → alternative-lts.Need-same-length (alternative-calls t) (alternative-at t) alternative.Post
-alternative-same-length t c =
+alternative-same-length-3 : (t : ℕ) → alternative-lts.Need-same-length-3 (alternative-calls t) (alternative-at t) alternative.Post
+alternative-same-length-3 t c =
     let read = c .before .before .before .before .before in
-    let before = read .before .before .before .before .before .before .before .before .before .before .before in
+    let before = read .before .before .before .before .before .before .before .before .before .before .before .before .before in
     read .alternative .kept .1 .1 .1 .0 ∙ before .sequence .kept .1 .1 .1 .0
 
-alternative-same-length-2 : (t : ℕ) → alternative-lts.Need-same-length-2 (alternative-calls t) (alternative-at t) alternative.Post
-alternative-same-length-2 t c = search needs
+alternative-same-length-4 : (t : ℕ) → alternative-lts.Need-same-length-4 (alternative-calls t) (alternative-at t) alternative.Post
+alternative-same-length-4 t c =
+    let read = c .before .before .before .before .before in
+    let before = read .before .before .before .before .before .before .before .before .before .before .before .before .before in
+    read .alternative .kept .1 .1 .1 .1 .0 ∙ before .sequence .kept .1 .1 .1 .1 .0
 
-alternative-returns : (t : ℕ) → alternative-lts.Need-returns (alternative-calls t) (alternative-at t) alternative.Post
-alternative-returns t c =
+alternative-returns-2 : (t : ℕ) → alternative-lts.Need-returns-2 (alternative-calls t) (alternative-at t) alternative.Post
+alternative-returns-2 t c =
     let read = c .before .before .before .before .before in
     let moved = read .before .before .before .before in
     let marked = moved .before .before in
-    let before = marked .before .before .before .before .before in
+    let before = marked .before .before .before .before .before .before .before in
     let start = before .before .before .before .before .before .before .before .before in
     let a = start .args in
     let left = before .sequence in
@@ -153,24 +174,24 @@ alternative-returns t c =
     let to = moved .moved .given in
     let past = mark-to bar (a .s .now) (left .result .at) (to .0 .0) (sym (to .1) ∙ marked .mark .ensures) in
     rw (c .either .ensures)
-    (alternative-more (namesAt (a .text .now) (a .names .now)) (a .s .now) (a .c .at) (a .k) (a .follow .now) (a .enter .now)
-    (left .result) (left .last .1 .1 .1 .0) (left .last .1 .1 .1 .1 .0) (to .0 .0) (right .result) (right .last .1 .1 .1 .0)
-    (right .last .1 .1 .1 .1 .0) (left .ensures) past (right .ensures))
+    (alternative-more (namesAt (a .text .now) (a .names .now)) (a .s .now) (a .c .at) (a .k) (a .«open») (a .follow .now) (a .enter .now)
+    (left .result) (left .last .1 .1 .1 .0) (left .last .1 .1 .1 .1 .0) (left .ensures) (to .0 .0) (right .result) (right .last .1 .1 .1 .0)
+    (right .last .1 .1 .1 .1 .0) past (right .ensures))
 
-alternative-same-length-3 : (t : ℕ) → alternative-lts.Need-same-length-3 (alternative-calls t) (alternative-at t) alternative.Post
-alternative-same-length-3 t c = search needs
+alternative-same-length-5 : (t : ℕ) → alternative-lts.Need-same-length-5 (alternative-calls t) (alternative-at t) alternative.Post
+alternative-same-length-5 t c = search needs
 
-alternative-same-length-4 : (t : ℕ) → alternative-lts.Need-same-length-4 (alternative-calls t) (alternative-at t) alternative.Post
-alternative-same-length-4 t c = search needs
+alternative-same-length-6 : (t : ℕ) → alternative-lts.Need-same-length-6 (alternative-calls t) (alternative-at t) alternative.Post
+alternative-same-length-6 t c = search needs
 
-alternative-returns-2 : (t : ℕ) → alternative-lts.Need-returns-2 (alternative-calls t) (alternative-at t) alternative.Post
-alternative-returns-2 t c =
+alternative-returns-3 : (t : ℕ) → alternative-lts.Need-returns-3 (alternative-calls t) (alternative-at t) alternative.Post
+alternative-returns-3 t c =
     let marked = c .before .before in
-    let before = marked .before .before .before .before .before in
+    let before = marked .before .before .before .before .before .before .before in
     let start = before .before .before .before .before .before .before .before .before in
     let a = start .args in
     let left = before .sequence in
-    alternative-alone (namesAt (a .text .now) (a .names .now)) (a .s .now) (a .c .at) (a .k) (a .follow .now) (a .enter .now)
+    alternative-alone (namesAt (a .text .now) (a .names .now)) (a .s .now) (a .c .at) (a .k) (a .«open») (a .follow .now) (a .enter .now)
     (left .result) (left .last .1 .1 .1 .0) (left .last .1 .1 .1 .1 .0) (left .ensures)
     (mark-failed bar (a .s .now) (left .result .at) (sym (c .enum-told .given .1) ∙ marked .mark .ensures))
 
@@ -179,6 +200,22 @@ factor-mark-requires t c κs = search needs
 
 factor-enum-known-opened : (t : ℕ) → factor-lts.Need-enum-known-opened (factor-calls t) (factor-at t) factor.Post
 factor-enum-known-opened t c = search needs
+
+factor-fault-requires : (t : ℕ) → factor-lts.Need-fault-requires (factor-calls t) (factor-at t) factor.Post
+factor-fault-requires t c κs = search needs
+
+factor-returns : (t : ℕ) → factor-lts.Need-returns (factor-calls t) (factor-at t) factor.Post
+factor-returns t c =
+    let deep = c .before in
+    let opened = deep .before .before in
+    let marked = opened .before .before in
+    let start = marked .before .before .before .before .before .before in
+    let a = start .args in
+    let inner = opened .opened .given in
+    let past = mark-to opening (a .s .now) (a .c .at) (inner .0 .0) (sym (inner .1) ∙ marked .mark .ensures) in
+    rw (c .fault .ensures)
+    (factor-deep (namesAt (a .text .now) (a .names .now)) (a .s .now) (a .c .at) (a .k) (a .«open») (a .follow .now) (a .enter .now)
+    (inner .0 .0) past (deep .if1 .taken) (omega (arith, start .fits .k)))
 
 factor-mark-requires-2 : (t : ℕ) → factor-lts.Need-mark-requires-2 (factor-calls t) (factor-at t) factor.Post
 factor-mark-requires-2 t c κs = search needs
@@ -195,9 +232,12 @@ factor-suffixes-requires t c κs = search needs
 factor-enum-told : (t : ℕ) → factor-lts.Need-enum-told (factor-calls t) (factor-at t) factor.Post
 factor-enum-told t c = search needs
 
+factor-add-alternative : (t : ℕ) → factor-lts.Need-add-alternative (factor-calls t) (factor-at t) factor.Post
+factor-add-alternative t c = search needs
+
 factor-alternative-requires : (t : ℕ) → factor-lts.Need-alternative-requires (factor-calls t) (factor-at t) factor.Post
 factor-alternative-requires t c κs =
-    let opened = c .before .before .before .before .before .before in
+    let opened = c .before .before .before .before .before .before .before in
     let marked = opened .before .before in
     let start = marked .before .before .before .before .before .before in
     let inner = opened .opened .given in
@@ -220,6 +260,9 @@ factor-suffixes-requires-2 t c κs = search needs
 factor-enum-told-2 : (t : ℕ) → factor-lts.Need-enum-told-2 (factor-calls t) (factor-at t) factor.Post
 factor-enum-told-2 t c = search needs
 
+factor-fault-requires-2 : (t : ℕ) → factor-lts.Need-fault-requires-2 (factor-calls t) (factor-at t) factor.Post
+factor-fault-requires-2 t c κs = search needs
+
 factor-enum-told-3 : (t : ℕ) → factor-lts.Need-enum-told-3 (factor-calls t) (factor-at t) factor.Post
 factor-enum-told-3 t c = search needs
 
@@ -232,13 +275,14 @@ factor-suffixes-requires-3 t c κs = search needs
 factor-same-length : (t : ℕ) → factor-lts.Need-same-length (factor-calls t) (factor-at t) factor.Post
 factor-same-length t c = search needs
 
-factor-returns : (t : ℕ) → factor-lts.Need-returns (factor-calls t) (factor-at t) factor.Post
-factor-returns t c =
+factor-returns-2 : (t : ℕ) → factor-lts.Need-returns-2 (factor-calls t) (factor-at t) factor.Post
+factor-returns-2 t c =
     let ended = c .before .before in
     let made = ended .before in
     let shut = made .before .before .before in
     let marked-2 = shut .before .before in
-    let opened = marked-2 .before .before in
+    let free = marked-2 .before in
+    let opened = free .before .before in
     let marked = opened .before .before in
     let start = marked .before .before .before .before .before .before in
     let a = start .args in
@@ -246,8 +290,8 @@ factor-returns t c =
     let after = shut .closed .given in
     let past = mark-to opening (a .s .now) (a .c .at) (inner .0 .0) (sym (inner .1) ∙ marked .mark .ensures) in
     let end = mark-to closing (a .s .now) (inner .0 .0 .at) (after .0 .0) (sym (after .1) ∙ marked-2 .mark2 .ensures) in
-    factor-unit (namesAt (a .text .now) (a .names .now)) (a .s .now) (a .c .at) (a .k) (a .follow .now) (a .enter .now)
-    (inner .0 .0) (after .0 .0) (ended .suffixes .result) (ended .suffixes .last .1 .0) past end
+    factor-unit (namesAt (a .text .now) (a .names .now)) (a .s .now) (a .c .at) (a .k) (a .«open») (a .follow .now) (a .enter .now)
+    (inner .0 .0) past (omega (arith, free .if1 .left)) (after .0 .0) (ended .suffixes .result) (ended .suffixes .last .1 .0) end
     (rw (made .unit .ensures) at (ended .suffixes .ensures))
 
 factor-same-length-2 : (t : ℕ) → factor-lts.Need-same-length-2 (factor-calls t) (factor-at t) factor.Post
@@ -256,8 +300,8 @@ factor-same-length-2 t c = search needs
 factor-same-length-3 : (t : ℕ) → factor-lts.Need-same-length-3 (factor-calls t) (factor-at t) factor.Post
 factor-same-length-3 t c = search needs
 
-factor-returns-2 : (t : ℕ) → factor-lts.Need-returns-2 (factor-calls t) (factor-at t) factor.Post
-factor-returns-2 t c =
+factor-returns-3 : (t : ℕ) → factor-lts.Need-returns-3 (factor-calls t) (factor-at t) factor.Post
+factor-returns-3 t c =
     let ended = c .before .before in
     let made = ended .before in
     let shut = made .before .before .before in
@@ -265,7 +309,8 @@ factor-returns-2 t c =
     let read = marked-3 .before .before .before .before .before in
     let told = read .before .before .before in
     let marked-2 = told .before .before in
-    let opened = marked-2 .before .before in
+    let free = marked-2 .before in
+    let opened = free .before .before in
     let marked = opened .before .before in
     let start = marked .before .before .before .before .before .before in
     let a = start .args in
@@ -275,9 +320,10 @@ factor-returns-2 t c =
     let past = mark-to opening (a .s .now) (a .c .at) (inner .0 .0) (sym (inner .1) ∙ marked .mark .ensures) in
     let none = mark-failed closing (a .s .now) (inner .0 .0 .at) (sym (told .enum-told .given .1) ∙ marked-2 .mark2 .ensures) in
     let end = mark-to closing (a .s .now) (group .result .at) (after .0 .0) (sym (after .1) ∙ marked-3 .mark3 .ensures) in
-    factor-group (namesAt (a .text .now) (a .names .now)) (a .s .now) (a .c .at) (a .k) (a .follow .now) (a .enter .now)
-    (inner .0 .0) (after .0 .0) (group .result) (ended .suffixes2 .result) (group .last .1 .1 .1 .0) (group .last .1 .1 .1 .1 .0)
-    (ended .suffixes2 .last .1 .0) past none (group .ensures) end (rw (made .ending .ensures) at (ended .suffixes2 .ensures))
+    factor-group (namesAt (a .text .now) (a .names .now)) (a .s .now) (a .c .at) (a .k) (a .«open») (a .follow .now) (a .enter .now)
+    (inner .0 .0) past none (group .result) (group .last .1 .1 .1 .0) (group .last .1 .1 .1 .1 .0) (group .ensures)
+    (omega (arith, free .if1 .left))
+    (after .0 .0) (ended .suffixes2 .result) (ended .suffixes2 .last .1 .0) end (rw (made .ending .ensures) at (ended .suffixes2 .ensures))
 
 factor-same-length-4 : (t : ℕ) → factor-lts.Need-same-length-4 (factor-calls t) (factor-at t) factor.Post
 factor-same-length-4 t c = search needs
@@ -285,13 +331,14 @@ factor-same-length-4 t c = search needs
 factor-same-length-5 : (t : ℕ) → factor-lts.Need-same-length-5 (factor-calls t) (factor-at t) factor.Post
 factor-same-length-5 t c = search needs
 
-factor-returns-3 : (t : ℕ) → factor-lts.Need-returns-3 (factor-calls t) (factor-at t) factor.Post
-factor-returns-3 t c =
-    let marked-3 = c .before .before in
+factor-returns-4 : (t : ℕ) → factor-lts.Need-returns-4 (factor-calls t) (factor-at t) factor.Post
+factor-returns-4 t c =
+    let open-told = c .before in
+    let marked-3 = open-told .before .before in
     let read = marked-3 .before .before .before .before .before in
     let told = read .before .before .before in
     let marked-2 = told .before .before in
-    let opened = marked-2 .before .before in
+    let opened = marked-2 .before .before .before in
     let marked = opened .before .before in
     let start = marked .before .before .before .before .before .before in
     let a = start .args in
@@ -299,9 +346,11 @@ factor-returns-3 t c =
     let group = read .alternative in
     let past = mark-to opening (a .s .now) (a .c .at) (inner .0 .0) (sym (inner .1) ∙ marked .mark .ensures) in
     let none = mark-failed closing (a .s .now) (inner .0 .0 .at) (sym (told .enum-told .given .1) ∙ marked-2 .mark2 .ensures) in
-    let end = mark-failed closing (a .s .now) (group .result .at) (sym (c .enum-told2 .given .1) ∙ marked-3 .mark3 .ensures) in
-    factor-open (namesAt (a .text .now) (a .names .now)) (a .s .now) (a .c .at) (a .k) (a .follow .now) (a .enter .now)
-    (inner .0 .0) (group .result) (group .last .1 .1 .1 .0) (group .last .1 .1 .1 .1 .0) past none (group .ensures) end
+    let end = mark-failed closing (a .s .now) (group .result .at) (sym (open-told .enum-told2 .given .1) ∙ marked-3 .mark3 .ensures) in
+    rw (c .fault2 .ensures)
+    (factor-open (namesAt (a .text .now) (a .names .now)) (a .s .now) (a .c .at) (a .k) (a .«open») (a .follow .now) (a .enter .now)
+    (inner .0 .0) past none (group .result) (group .last .1 .1 .1 .0) (group .last .1 .1 .1 .1 .0) (group .ensures)
+    (omega (arith, start .fits .k)) end)
 
 factor-same-length-6 : (t : ℕ) → factor-lts.Need-same-length-6 (factor-calls t) (factor-at t) factor.Post
 factor-same-length-6 t c = search needs
@@ -309,8 +358,8 @@ factor-same-length-6 t c = search needs
 factor-same-length-7 : (t : ℕ) → factor-lts.Need-same-length-7 (factor-calls t) (factor-at t) factor.Post
 factor-same-length-7 t c = search needs
 
-factor-returns-4 : (t : ℕ) → factor-lts.Need-returns-4 (factor-calls t) (factor-at t) factor.Post
-factor-returns-4 t c =
+factor-returns-5 : (t : ℕ) → factor-lts.Need-returns-5 (factor-calls t) (factor-at t) factor.Post
+factor-returns-5 t c =
     let ended = c .before .before in
     let read = ended .before .before .before .before .before .before in
     let told = read .before .before .before in
@@ -319,12 +368,27 @@ factor-returns-4 t c =
     let a = start .args in
     let name = read .occurrence in
     let none = mark-failed opening (a .s .now) (a .c .at) (sym (told .enum-told3 .given .1) ∙ marked .mark .ensures) in
-    factor-name (namesAt (a .text .now) (a .names .now)) (a .s .now) (a .c .at) (a .k) (a .follow .now) (a .enter .now)
+    factor-name (namesAt (a .text .now) (a .names .now)) (a .s .now) (a .c .at) (a .k) (a .«open») (a .follow .now) (a .enter .now)
     (name .result) (ended .suffixes3 .result) (name .last .1 .1 .1 .0) (name .last .1 .1 .1 .1 .0) (ended .suffixes3 .last .1 .0) none
-    (name .ensures) (ended .suffixes3 .ensures)
+    (name .ensures (a .«open»)) (ended .suffixes3 .ensures)
 
 sequence-factor-requires : (t : ℕ) → sequence-lts.Need-factor-requires (sequence-calls t) (sequence-at t) sequence.Post
 sequence-factor-requires t c κs = search needs
+
+sequence-same-length : (t : ℕ) → sequence-lts.Need-same-length (sequence-calls t) (sequence-at t) sequence.Post
+sequence-same-length t c = search needs
+
+sequence-same-length-2 : (t : ℕ) → sequence-lts.Need-same-length-2 (sequence-calls t) (sequence-at t) sequence.Post
+sequence-same-length-2 t c = search needs
+
+sequence-returns : (t : ℕ) → sequence-lts.Need-returns (sequence-calls t) (sequence-at t) sequence.Post
+sequence-returns t c =
+    let before = c .before .before .before .before .before .before in
+    let start = before .before .before .before .before .before .before .before .before in
+    let a = start .args in
+    let left = before .factor in
+    sequence-fault (namesAt (a .text .now) (a .names .now)) (a .s .now) (a .c .at) (a .k) (a .«open») (a .follow .now) (a .enter .now)
+    (left .result) (left .last .1 .1 .1 .0) (left .last .1 .1 .1 .1 .0) (left .ensures) (c .if1 .taken)
 
 sequence-mark-requires : (t : ℕ) → sequence-lts.Need-mark-requires (sequence-calls t) (sequence-at t) sequence.Post
 sequence-mark-requires t c κs = search needs
@@ -336,7 +400,7 @@ sequence-sequence-requires : (t : ℕ) → sequence-lts.Need-sequence-requires (
 sequence-sequence-requires t c κs =
     let moved = c .before .before .before in
     let marked = moved .before .before in
-    let left = marked .before .before .before .before .before in
+    let left = marked .before .before .before .before .before .before .before in
     let start = left .before .before .before .before .before .before .before .before in
     let to = moved .moved .given in
     let at = left .factor .result .at in
@@ -352,26 +416,26 @@ sequence-both-requires t c κs = search needs
 sequence-enum-told : (t : ℕ) → sequence-lts.Need-enum-told (sequence-calls t) (sequence-at t) sequence.Post
 sequence-enum-told t c = search needs
 
-sequence-same-length : (t : ℕ) → sequence-lts.Need-same-length (sequence-calls t) (sequence-at t) sequence.Post
-sequence-same-length t c =
+sequence-same-length-3 : (t : ℕ) → sequence-lts.Need-same-length-3 (sequence-calls t) (sequence-at t) sequence.Post
+sequence-same-length-3 t c =
     let linked = c .before .before .before in
     let read = linked .before .before .before .before .before .before .before .before in
-    let before = read .before .before .before .before .before .before .before .before .before .before .before in
+    let before = read .before .before .before .before .before .before .before .before .before .before .before .before .before in
     linked .link .kept .0 ∙ read .sequence .kept .1 .1 .1 .0 ∙ before .factor .kept .1 .1 .1 .0
 
-sequence-same-length-2 : (t : ℕ) → sequence-lts.Need-same-length-2 (sequence-calls t) (sequence-at t) sequence.Post
-sequence-same-length-2 t c =
+sequence-same-length-4 : (t : ℕ) → sequence-lts.Need-same-length-4 (sequence-calls t) (sequence-at t) sequence.Post
+sequence-same-length-4 t c =
     let read = c .before .before .before .before .before .before .before .before .before .before .before in
-    let before = read .before .before .before .before .before .before .before .before .before .before .before in
+    let before = read .before .before .before .before .before .before .before .before .before .before .before .before .before in
     read .sequence .kept .1 .1 .1 .1 .0 ∙ before .factor .kept .1 .1 .1 .1 .0
 
-sequence-returns : (t : ℕ) → sequence-lts.Need-returns (sequence-calls t) (sequence-at t) sequence.Post
-sequence-returns t c =
+sequence-returns-2 : (t : ℕ) → sequence-lts.Need-returns-2 (sequence-calls t) (sequence-at t) sequence.Post
+sequence-returns-2 t c =
     let linked = c .before .before .before in
     let read = linked .before .before .before .before .before .before .before .before in
     let moved = read .before .before .before .before in
     let marked = moved .before .before in
-    let before = marked .before .before .before .before .before in
+    let before = marked .before .before .before .before .before .before .before in
     let start = before .before .before .before .before .before .before .before .before in
     let a = start .args in
     let left = before .factor in
@@ -379,24 +443,24 @@ sequence-returns t c =
     let to = moved .moved .given in
     let past = mark-to dot (a .s .now) (left .result .at) (to .0 .0) (sym (to .1) ∙ marked .mark .ensures) in
     rw (c .both .ensures, linked .link .ensures)
-    (sequence-more (namesAt (a .text .now) (a .names .now)) (a .s .now) (a .c .at) (a .k) (a .follow .now) (a .enter .now)
-    (left .result) (left .last .1 .1 .1 .0) (left .last .1 .1 .1 .1 .0) (to .0 .0) (right .result) (right .last .1 .1 .1 .0)
-    (right .last .1 .1 .1 .1 .0) (left .ensures) past (right .ensures))
+    (sequence-more (namesAt (a .text .now) (a .names .now)) (a .s .now) (a .c .at) (a .k) (a .«open») (a .follow .now) (a .enter .now)
+    (left .result) (left .last .1 .1 .1 .0) (left .last .1 .1 .1 .1 .0) (left .ensures) (to .0 .0) (right .result) (right .last .1 .1 .1 .0)
+    (right .last .1 .1 .1 .1 .0) past (right .ensures))
 
-sequence-same-length-3 : (t : ℕ) → sequence-lts.Need-same-length-3 (sequence-calls t) (sequence-at t) sequence.Post
-sequence-same-length-3 t c = search needs
+sequence-same-length-5 : (t : ℕ) → sequence-lts.Need-same-length-5 (sequence-calls t) (sequence-at t) sequence.Post
+sequence-same-length-5 t c = search needs
 
-sequence-same-length-4 : (t : ℕ) → sequence-lts.Need-same-length-4 (sequence-calls t) (sequence-at t) sequence.Post
-sequence-same-length-4 t c = search needs
+sequence-same-length-6 : (t : ℕ) → sequence-lts.Need-same-length-6 (sequence-calls t) (sequence-at t) sequence.Post
+sequence-same-length-6 t c = search needs
 
-sequence-returns-2 : (t : ℕ) → sequence-lts.Need-returns-2 (sequence-calls t) (sequence-at t) sequence.Post
-sequence-returns-2 t c =
+sequence-returns-3 : (t : ℕ) → sequence-lts.Need-returns-3 (sequence-calls t) (sequence-at t) sequence.Post
+sequence-returns-3 t c =
     let marked = c .before .before in
-    let before = marked .before .before .before .before .before in
+    let before = marked .before .before .before .before .before .before .before in
     let start = before .before .before .before .before .before .before .before .before in
     let a = start .args in
     let left = before .factor in
-    sequence-alone (namesAt (a .text .now) (a .names .now)) (a .s .now) (a .c .at) (a .k) (a .follow .now) (a .enter .now)
+    sequence-alone (namesAt (a .text .now) (a .names .now)) (a .s .now) (a .c .at) (a .k) (a .«open») (a .follow .now) (a .enter .now)
     (left .result) (left .last .1 .1 .1 .0) (left .last .1 .1 .1 .1 .0) (left .ensures)
     (mark-failed dot (a .s .now) (left .result .at) (sym (c .enum-told .given .1) ∙ marked .mark .ensures))
 
@@ -406,60 +470,70 @@ pub +alternative+factor+sequence-spec : {M : Type 1} → statement M
     (alternative-at t)
     alternative.Post
     (alternative-sequence-requires t)
+    (alternative-same-length t)
+    (alternative-same-length-2 t)
+    (alternative-returns t)
     (alternative-mark-requires t)
     (alternative-enum-known-moved t)
     (alternative-alternative-requires t)
     (alternative-either-requires t)
     (alternative-enum-told t)
-    (alternative-same-length t)
-    (alternative-same-length-2 t)
-    (alternative-returns t)
     (alternative-same-length-3 t)
     (alternative-same-length-4 t)
-    (alternative-returns-2 t))
+    (alternative-returns-2 t)
+    (alternative-same-length-5 t)
+    (alternative-same-length-6 t)
+    (alternative-returns-3 t))
     (λ t. factor-lts.spec (factor-calls t)
     (factor-at t)
     factor.Post
     (factor-mark-requires t)
     (factor-enum-known-opened t)
+    (factor-fault-requires t)
+    (factor-returns t)
     (factor-mark-requires-2 t)
     (factor-enum-known-closed t)
     (factor-unit-requires t)
     (factor-suffixes-requires t)
     (factor-enum-told t)
+    (factor-add-alternative t)
     (factor-alternative-requires t)
     (factor-mark-requires-3 t)
     (factor-enum-known-shut t)
     (factor-ending-requires t)
     (factor-suffixes-requires-2 t)
     (factor-enum-told-2 t)
+    (factor-fault-requires-2 t)
     (factor-enum-told-3 t)
     (factor-occurrence-requires t)
     (factor-suffixes-requires-3 t)
     (factor-same-length t)
-    (factor-returns t)
+    (factor-returns-2 t)
     (factor-same-length-2 t)
     (factor-same-length-3 t)
-    (factor-returns-2 t)
+    (factor-returns-3 t)
     (factor-same-length-4 t)
     (factor-same-length-5 t)
-    (factor-returns-3 t)
+    (factor-returns-4 t)
     (factor-same-length-6 t)
     (factor-same-length-7 t)
-    (factor-returns-4 t))
+    (factor-returns-5 t))
     λ t. sequence-lts.spec (sequence-calls t)
     (sequence-at t)
     sequence.Post
     (sequence-factor-requires t)
+    (sequence-same-length t)
+    (sequence-same-length-2 t)
+    (sequence-returns t)
     (sequence-mark-requires t)
     (sequence-enum-known-moved t)
     (sequence-sequence-requires t)
     (sequence-link-requires t)
     (sequence-both-requires t)
     (sequence-enum-told t)
-    (sequence-same-length t)
-    (sequence-same-length-2 t)
-    (sequence-returns t)
     (sequence-same-length-3 t)
     (sequence-same-length-4 t)
     (sequence-returns-2 t)
+    (sequence-same-length-5 t)
+    (sequence-same-length-6 t)
+    (sequence-returns-3 t)

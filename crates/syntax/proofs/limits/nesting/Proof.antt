@@ -1,9 +1,8 @@
 -- `nesting` meets its contract. The loop's invariant: what has been found, or what is left if it is deeper, is how deep the whole is.
-use Prim.Native.Nat.{ℕ, suc, pred, max, _+_, _-_, _<_, _≤_}
+use Prim.Native.Nat.{ℕ, suc, max, _+_, _-_, _<_, _≤_}
 use mathlib.Core.Bool.{Bool, true, false}
-use mathlib.Core.List.{[], _∷_}
 use mathlib.Core.Logic.{⊎-elim}
-use mathlib.Core.Path.{_≡_, refl, ap}
+use mathlib.Core.Path.{_≡_, refl}
 use native.Mathlib.Numerals.{add-one}
 use native.Mathlib.Omega.{arith}
 use lib.Dec.{eqb}
@@ -12,7 +11,7 @@ use lib.Seq.{drop-cons}
 use borrow.Author.Needs.{needs}
 use Rattle.syntax.specs.Byte.{Bytes, opening, closing}
 use Rattle.syntax.specs.Limits.{nesting, balance}
-use Rattle.syntax.specs.NestingLaws.{opens, closes, keeps}
+use Rattle.syntax.specs.NestingLaws.{opens, closes, keeps, deeper}
 use Rattle.syntax.proofs.limits.nesting.Statement.{statement}
 use Rattle.syntax.proofs.limits.nesting.Tie as tie
 
@@ -25,11 +24,6 @@ module _ (n b : ℕ) where
       go true e y f = rw (e, balance) (omega arith)
       go false e true f = rw (e, balance, f, balance) (omega arith)
       go false e false f = rw (e, balance, f, balance) (omega arith)
-
-deeper : (n : ℕ) (s : Bytes) → n ≤ nesting n s
-unfolding nesting
-deeper n [] = omega arith
-deeper n (b ∷ s) = omega arith
 
 abbrev Inv-loop : tie.InvT-loop
 Inv-loop s open₀ most₀ i₀ n most i = (max most (nesting n (drop i s)) ≡ nesting 0 s) × (n ≤ most) × (n ≤ i)

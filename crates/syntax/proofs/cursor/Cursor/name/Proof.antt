@@ -1,59 +1,38 @@
 -- `Cursor::name` meets its contract: the run's length and its first byte decide whether it is a name.
 use Prim.Native.Nat.{ℕ, _-_, _<_, _≤_}
-use mathlib.Core.Bool.{true, false, _&&_, and-false}
-use mathlib.Core.List.{[], _∷_}
+use mathlib.Core.Bool.{true, false}
 use mathlib.Core.Logic.{⊎-elim}
-use mathlib.Core.Path.{_≡_, refl, sym, ap, _∙_}
-use native.Mathlib.Nat.{add-zero}
+use mathlib.Core.Path.{_≡_, sym, ap, _∙_}
 use native.Mathlib.Omega.{arith}
-use lib.Dec.{eqb, leb}
-use lib.ListN.{length, drop, getD, length-drop}
-use lib.Seq.{getD-drop}
+use lib.Dec.{eqb}
+use lib.ListN.{length, drop, getD}
 use borrow.Author.Needs.{needs}
-use borrow.Author.Tests.{le-leb, lt-leb}
 use Rattle.syntax.specs.declared.cursor.Cursor.{Cursor}
 use Rattle.syntax.specs.declared.cursor.Moved.{Moved}
 use Rattle.syntax.specs.declared.cursor.Moved.the-variants.{To, Failed}
 use Rattle.syntax.specs.Byte.{Bytes, kind, letter}
 use Rattle.syntax.specs.KindTable.{kind-at}
-use Rattle.syntax.specs.Name.{isName}
-use Rattle.syntax.specs.Parser.{run, pastRun, named}
+use Rattle.syntax.specs.Parser.{pastRun, named}
 use Rattle.syntax.specs.Place.{cursorAt, parsedTo}
-use Rattle.syntax.proofs.Run.{run-lengths}
-use Rattle.syntax.proofs.RunName.{run-name}
+use Rattle.syntax.proofs.Named.{name-there, name-long, name-other, name-nothing}
 use Rattle.syntax.proofs.cursor.Cursor.name.Statement.{statement}
 use Rattle.syntax.proofs.cursor.Cursor.name.Tie as tie
 
-no-name : (u : Bytes) → length u ≡ 0 → isName u ≡ false
-unfolding isName
-no-name [] e = refl
-no-name (b ∷ u) e = absurd (omega arith)
-
 module _ (s : Bytes) (at : ℕ) (past : Cursor) (h : past ≡ cursorAt s (pastRun (drop at s))) where
-  size : length (run (drop at s)) ≡ past .at - at
-  size = omega (arith, ap (λ (c : Cursor). c .at) h, length-drop at s, run-lengths (drop at s))
-
-  decided : at < past .at → isName (run (drop at s)) ≡ (eqb (kind (getD s at 0)) letter && leb (past .at - at) 16)
-  decided l =
-      let first : getD (drop at s) 0 0 ≡ getD s at 0 = getD-drop at s 0 0 ∙ ap (λ n. getD s n 0) (add-zero at) in
-      rw (run-name (drop at s) (omega (arith, size)), first, size)
+  ends : past .at ≡ length s - length (pastRun (drop at s))
+  ends = ap (λ (c : Cursor). c .at) h
 
   found : at < past .at → past .at - at ≤ 16 → eqb (kind (getD s at 0)) letter ≡ true → To past ≡ parsedTo s (named (drop at s))
-  unfolding named
-  found l m k =
-      rw (decided l, k, le-leb (past .at - at) 16 m, named) (ap {B = Moved} To h)
+  found l m k = rw (name-there s at (past .at) ends l m k) (ap {B = Moved} To h)
 
   long : at < past .at → 16 < past .at - at → Failed ≡ parsedTo s (named (drop at s))
-  unfolding named
-  long l m = rw (decided l, lt-leb (past .at - at) 16 m, and-false (eqb (kind (getD s at 0)) letter), named)
+  long l m = rw (name-long s at (past .at) ends l m)
 
   no-letter : at < past .at → eqb (kind (getD s at 0)) letter ≡ false → Failed ≡ parsedTo s (named (drop at s))
-  unfolding named
-  no-letter l k = rw (decided l, k, named)
+  no-letter l k = rw (name-other s at (past .at) ends l k)
 
   nothing : past .at ≤ at → Failed ≡ parsedTo s (named (drop at s))
-  unfolding named
-  nothing l = rw (no-name (run (drop at s)) (omega (arith, size)), named)
+  nothing l = rw (name-nothing s at (past .at) ends l)
 
 past-run-requires : tie.Need-past-run-requires
 past-run-requires c κs = search needs
