@@ -11,6 +11,8 @@ pub mod ReadLaws
 pub mod Tables
 pub mod Answering
 pub mod Scan
+pub mod RowRoom
+pub mod OneList
 pub mod NamesLaws
 pub mod Loading
 pub mod LabelLaws

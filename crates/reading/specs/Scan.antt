@@ -13,7 +13,7 @@ use lib.Seq.{drop-cons}
 use borrow.Author.Tests.{eq-eqb, ne-eqb}
 use Rattle.syntax.specs.Byte.{Bytes}
 use Rattle.syntax.specs.Some.{isSome}
-use Rattle.reading.specs.Read.{Cut, cut, uncut, cutAt, after}
+use Rattle.reading.specs.Read.{cut, uncut, cutAt, after}
 use Rattle.reading.specs.CutLaws.{cut-here, cut-later, onward, after-same, after-other}
 
 -- The number of bytes before the first b; the length where there is none.
@@ -21,11 +21,11 @@ unfoldable pub before : ℕ → Bytes → ℕ
 before b [] = 0
 before b (c ∷ s) = elim (eqb c b) [ true ↦ 0 | false ↦ suc (before b s) ]
 
-before-here : (b c : ℕ) (s : Bytes) → c ≡ b → before b (c ∷ s) ≡ 0
+pub before-here : (b c : ℕ) (s : Bytes) → c ≡ b → before b (c ∷ s) ≡ 0
 unfolding before
 before-here b c s e = rw (eq-eqb c b e, before)
 
-before-later : (b c : ℕ) (s : Bytes) → c ≢ b → before b (c ∷ s) ≡ suc (before b s)
+pub before-later : (b c : ℕ) (s : Bytes) → c ≢ b → before b (c ∷ s) ≡ suc (before b s)
 unfolding before
 before-later b c s n = rw (ne-eqb c b n, before)
 

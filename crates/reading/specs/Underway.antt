@@ -1,7 +1,7 @@
 -- Reading underway: the lines before the byte `at` are read, n is the next line, and what is left of the text gives what the whole gives.
 use Prim.Native.Nat.{ℕ, zero, suc, _+_, _-_, _<_, _≤_}
-use mathlib.Core.Bool.{Bool, true, false, true≢false, false≢true}
-use mathlib.Core.List.{List, [], _∷_}
+use mathlib.Core.Bool.{true, false, true≢false, false≢true}
+use mathlib.Core.List.{List}
 use mathlib.Core.Option.{Option, some, none, Option·none-ne-some}
 use mathlib.Core.Path.{_≡_, refl, sym, ap, ap₂, _∙_}
 use native.Mathlib.Numerals.{add-one}
@@ -14,7 +14,6 @@ use Rattle.syntax.specs.declared.refusal.Refusal.the-variants.{TextTooLong, Bad
 use Rattle.syntax.specs.Byte.{Bytes}
 use Rattle.syntax.specs.Some.{isSome}
 use Rattle.syntax.specs.Resolve.{namesAt}
-use Rattle.reading.specs.declared.answer.Answer.{Answer}
 use Rattle.reading.specs.declared.answer.Answer.the-variants.{Job, Refused}
 use Rattle.reading.specs.declared.progress.Progress.{Progress as Numbers}
 use Rattle.reading.specs.declared.progress.Given.{Given as Told}
@@ -22,7 +21,7 @@ use Rattle.reading.specs.declared.progress.Given.the-variants.{Good, Bad
 use Rattle.reading.specs.Text.{newline, mostText}
 use Rattle.reading.specs.JobText.{NamedJob}
 use Rattle.reading.specs.Refusing.{Progress, beginning}
-use Rattle.reading.specs.Read.{Given, good, bad, given, cut, cutAt, Reading, job, refused, ended, readLines, read}
+use Rattle.reading.specs.Read.{Given, good, bad, given, cut, cutAt, job, refused, ended, readLines, read}
 use Rattle.reading.specs.ReadLaws.{read-on, read-fault, read-unclosed, read-end, ended-early, ended-late, whole, read-short, read-long}
 use Rattle.reading.specs.Answering.{answerOf}
 use Rattle.reading.specs.Tables.{Tables, HoldsSoFar, Holds}
@@ -30,6 +29,8 @@ use Rattle.reading.specs.Loading.{Held, Tells, Gives, Loaded}
 use Rattle.reading.specs.LabelLaws.{labels-held}
 use Rattle.reading.specs.ListLaws.{lists-held}
 use Rattle.reading.specs.Scan.{before, cut-before, uncut-before}
+use Rattle.reading.specs.RowRoom.{newlines, HasRows, Roomy, roomy-job, newlines-cut}
+use Rattle.reading.specs.OneList.{given-one}
 
 pub record Underway (text : Bytes) (at n : ℕ) (p : Numbers) (T : Tables) : Type 0 where
   pub progress : Progress
@@ -38,6 +39,8 @@ pub record Underway (text : Bytes) (at n : ℕ) (p : Numbers) (T : Tables) : Typ
   pub calls : ℕ
   pub enough : length text - at ≤ calls
   pub left : readLines (suc calls) progress n (drop at text) ≡ read text
+  -- Each list has taken a line.
+  pub room : p .lists + newlines (drop at text) ≤ newlines text
 
 -- At the beginning.
 held-nothing : (text : Bytes) (T : Tables) → Held text beginning (record { labels = 0; lists = 0; query = false }) T
@@ -60,7 +63,14 @@ held-nothing text T = record {
 pub underway-first : (text : Bytes) (T : Tables) → length text ≤ mostText
     → Underway text 0 1 (record { labels = 0; lists = 0; query = false }) T
 underway-first text T short =
-    record { progress = beginning; held = held-nothing text T; calls = length text; enough = omega arith; left = sym (read-short text short) }
+    record {
+      progress = beginning;
+      held = held-nothing text T;
+      calls = length text;
+      enough = omega arith;
+      left = sym (read-short text short);
+      room = omega arith;
+    }
 
 -- What a line told.
 tells-good : {text : Bytes} {T : Tables} {g : Given} {r : Told} (q : Numbers) → Tells text T g r → r ≡ Good q
@@ -117,6 +127,11 @@ module _ (text : Bytes) (at n : ℕ) (p : Numbers) (T : Tables) (u : Underway te
             holds = λ K f. let same : J ≡ K = cc in rw (sym same) (holds-whole text P y T e (u .held .holds));
           }
 
+  -- The rows of the lists read so far are in the tables.
+  pub roomy-lists : {follow enter : List ℕ} → HasRows (newlines text) follow enter → Roomy (Job (p .labels) (p .lists)) follow enter
+  roomy-lists r =
+      roomy-job (p .labels) (p .lists) (newlines text) (omega (arith, u .room)) (omega (arith, lists-held (u .held), u .held .few-lists)) r
+
   module _ (inside : at < length text) (size : ℕ) (found : size ≡ before newline (drop at text)) where
     pub loaded-unclosed : (T′ : Tables) → length text - at ≤ size → Loaded text (Refused BadLine n) T′
     loaded-unclosed T′ h =
@@ -131,6 +146,17 @@ module _ (text : Bytes) (at n : ℕ) (p : Numbers) (T : Tables) (u : Underway te
         cut-before newline (drop at text) (omega (arith, length-drop at text))
         ∙ ap₂ cut (ap (λ k. take k (drop at text)) (sym found))
         (ap (λ k. drop (suc k) (drop at text)) (sym found) ∙ drop-drop (suc size) at text ∙ ap (λ k. drop k text) i)
+
+    lines-left : size < length text - at → newlines (drop at text) ≡ suc (newlines (drop (at + size + 1) text))
+    lines-left h =
+        let i : at + suc size ≡ at + size + 1 = omega arith in
+        newlines-cut (drop at text) (omega (arith, length-drop at text))
+        ∙ ap (λ k. suc (newlines (drop (suc k) (drop at text)))) (sym found)
+        ∙ ap suc (ap newlines (drop-drop (suc size) at text ∙ ap (λ k. drop k text) i))
+
+    -- The list that the line may give has a line of its own.
+    pub list-within : size < length text - at → p .lists + 1 ≤ newlines text
+    list-within h = omega (arith, lines-left h, u .room)
 
     pub loaded-fault : size < length text - at → {r : Told} {T′ : Tables} → Gives text (λ P. given P (take size (drop at text))) p T r T′
         → (f : Refusal) → r ≡ Bad f → Loaded text (Refused f n) T′
@@ -155,4 +181,13 @@ module _ (text : Bytes) (at n : ℕ) (p : Numbers) (T : Tables) (u : Underway te
           left =
               ap (λ m. readLines (suc k) (d .0) m (drop (at + size + 1) text)) (add-one n)
               ∙ sym (read-on (suc k) (u .progress) (d .0) n (drop at text) _ _ (line-cut h) (d .1)) ∙ c;
+          room =
+              omega (
+                arith,
+                lines-left h,
+                u .room,
+                lists-held (u .held),
+                lists-held (d .2),
+                given-one (u .progress) (d .0) (take size (drop at text)) (d .1),
+              );
         }

@@ -18,6 +18,7 @@ ghost use Rattle.syntax.specs.Byte.{Bytes};
 ghost use Rattle.reading.specs.Text.{space};
 ghost use Rattle.reading.specs.Read.{cut, cutAt, givenQuery, givenList, early, late, given};
 ghost use Rattle.reading.specs.Loading.{tables, Gives};
+ghost use Rattle.reading.specs.RowRoom.{HasRows};
 
 // The query's expression.
 fn query(
@@ -26,12 +27,12 @@ fn query(
     start: u64,
     size: u64,
     names: &[u64; 96],
-    follow: &mut [u64; 1088],
-    enter: &mut [u64; 544],
+    follow: &mut [u64],
+    enter: &mut [u64],
     sizes: &mut [u64; 17],
     accepting: &mut [u64; 17],
 ) -> Given
-    requires { ⌜ p .labels ≤ 32 ⌝ }
+    requires { ⌜ (p .labels ≤ 32) × HasRows (p .lists + 1) (now follow) (now enter) ⌝ }
     ensures { λ r.
         ⌜ Gives (now (text .entry)) (λ P. givenQuery P (take size (drop start (now (text .entry))))) p
         (tables (now (names .entry)) (now (follow .entry)) (now (enter .entry)) (now (sizes .entry)) (now (accepting .entry))) r
@@ -71,12 +72,12 @@ fn listed(
     at: u64,
     rest: u64,
     names: &mut [u64; 96],
-    follow: &mut [u64; 1088],
-    enter: &mut [u64; 544],
+    follow: &mut [u64],
+    enter: &mut [u64],
     sizes: &mut [u64; 17],
     accepting: &mut [u64; 17],
 ) -> Given
-    requires { ⌜ p .labels ≤ 32 ⌝ }
+    requires { ⌜ (p .labels ≤ 32) × HasRows (p .lists + 1) (now follow) (now enter) ⌝ }
     ensures { λ r.
         ⌜ ((s : Bytes) → cutAt space s ≡ cut (take size (drop start (now (text .entry)))) (take rest (drop at (now (text .entry))))
         → Gives (now (text .entry)) (λ P. givenList P s) p
@@ -122,12 +123,12 @@ fn list(
     start: u64,
     size: u64,
     names: &mut [u64; 96],
-    follow: &mut [u64; 1088],
-    enter: &mut [u64; 544],
+    follow: &mut [u64],
+    enter: &mut [u64],
     sizes: &mut [u64; 17],
     accepting: &mut [u64; 17],
 ) -> Given
-    requires { ⌜ (p .labels ≤ 32) × (start + size ≤ length (now text)) ⌝ }
+    requires { ⌜ (p .labels ≤ 32) × (start + size ≤ length (now text)) × HasRows (p .lists + 1) (now follow) (now enter) ⌝ }
     ensures { λ r.
         ⌜ Gives (now (text .entry)) (λ P. givenList P (take size (drop start (now (text .entry))))) p
         (tables (now (names .entry)) (now (follow .entry)) (now (enter .entry)) (now (sizes .entry)) (now (accepting .entry))) r
@@ -159,12 +160,12 @@ fn early(
     start: u64,
     size: u64,
     names: &mut [u64; 96],
-    follow: &mut [u64; 1088],
-    enter: &mut [u64; 544],
+    follow: &mut [u64],
+    enter: &mut [u64],
     sizes: &mut [u64; 17],
     accepting: &mut [u64; 17],
 ) -> Given
-    requires { ⌜ (p .labels ≤ 32) × (start + size ≤ length (now text)) ⌝ }
+    requires { ⌜ (p .labels ≤ 32) × (start + size ≤ length (now text)) × HasRows (p .lists + 1) (now follow) (now enter) ⌝ }
     ensures { λ r.
         ⌜ Gives (now (text .entry)) (λ P. early P (take size (drop start (now (text .entry))))) p
         (tables (now (names .entry)) (now (follow .entry)) (now (enter .entry)) (now (sizes .entry)) (now (accepting .entry))) r
@@ -197,12 +198,12 @@ fn late(
     start: u64,
     size: u64,
     names: &mut [u64; 96],
-    follow: &mut [u64; 1088],
-    enter: &mut [u64; 544],
+    follow: &mut [u64],
+    enter: &mut [u64],
     sizes: &mut [u64; 17],
     accepting: &mut [u64; 17],
 ) -> Given
-    requires { ⌜ (p .labels ≤ 32) × (start + size ≤ length (now text)) ⌝ }
+    requires { ⌜ (p .labels ≤ 32) × (start + size ≤ length (now text)) × HasRows (p .lists + 1) (now follow) (now enter) ⌝ }
     ensures { λ r.
         ⌜ Gives (now (text .entry)) (λ P. late P (take size (drop start (now (text .entry))))) p
         (tables (now (names .entry)) (now (follow .entry)) (now (enter .entry)) (now (sizes .entry)) (now (accepting .entry))) r
@@ -231,12 +232,12 @@ pub fn line(
     start: u64,
     size: u64,
     names: &mut [u64; 96],
-    follow: &mut [u64; 1088],
-    enter: &mut [u64; 544],
+    follow: &mut [u64],
+    enter: &mut [u64],
     sizes: &mut [u64; 17],
     accepting: &mut [u64; 17],
 ) -> Given
-    requires { ⌜ (p .labels ≤ 32) × (start + size ≤ length (now text)) ⌝ }
+    requires { ⌜ (p .labels ≤ 32) × (start + size ≤ length (now text)) × HasRows (p .lists + 1) (now follow) (now enter) ⌝ }
     ensures { λ r.
         ⌜ Gives (now (text .entry)) (λ P. given P (take size (drop start (now (text .entry))))) p
         (tables (now (names .entry)) (now (follow .entry)) (now (enter .entry)) (now (sizes .entry)) (now (accepting .entry))) r

@@ -73,12 +73,12 @@ pub fn expression(
     text: &[u8],
     labels: &[u64],
     x: usize,
-    follow: &mut [u64; 1088],
-    enter: &mut [u64; 544],
+    follow: &mut [u64],
+    enter: &mut [u64],
     sizes: &mut [u64; 17],
     accepting: &mut [u64; 17],
 ) -> Check
-    requires { ⌜ x < 17 ⌝ }
+    requires { ⌜ (x < 17) × (64 * x + 64 ≤ length (now follow)) × (32 * x + 32 ≤ length (now enter)) ⌝ }
     ensures { λ r.
         ⌜ ReadsRow (namesAt (now (text .entry)) (now (labels .entry))) (now (s .entry)) x (now (follow .entry)) (now (enter .entry))
         (now (sizes .entry)) (now (accepting .entry)) r (now (follow .exit)) (now (enter .exit)) (now (sizes .exit)) (now (accepting .exit)) ⌝ }

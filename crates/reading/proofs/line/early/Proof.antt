@@ -11,11 +11,11 @@ use Rattle.reading.proofs.line.early.Tie as tie
 
 -- Whether the line begins with the one word, and with the other.
 told : (c : tie.After-begins)
-    → let a = c .before .before .before .before .args in c .begins .result ≡ begins labelWord (part (a .text .now) (a .start) (a .size))
+    → let a = c .before .before .before .before .before .before .args in c .begins .result ≡ begins labelWord (part (a .text .now) (a .start) (a .size))
 told c = c .begins .ensures ∙ ap (begins labelWord) (c .before .before .part .ensures)
 
 told2 : (c : tie.After-begins2)
-    → let a = c .before .before .before .before .before .before .before .args in c .begins2 .result ≡ begins queryWord (part (a .text .now) (a .start) (a .size))
+    → let a = c .before .before .before .before .before .before .before .before .before .args in c .begins2 .result ≡ begins queryWord (part (a .text .now) (a .start) (a .size))
 told2 c = c .begins2 .ensures ∙ ap (begins queryWord) (c .before .before .before .before .before .part .ensures)
 
 part-requires : tie.Need-part-requires
@@ -32,15 +32,15 @@ add-label c = search needs
 
 sub-label : tie.Need-sub-label
 sub-label c =
-    let a = c .before .before .before .before .before .args in
-    omega (arith, begins-within (a .text .now) (a .start) (a .size) (c .before .before .before .before .before .pre .1) labelWord (sym (told (c .before)) ∙ c .if1 .taken))
+    let a = c .before .before .before .before .before .before .before .args in
+    omega (arith, begins-within (a .text .now) (a .start) (a .size) (c .before .before .before .before .before .before .before .pre .1) labelWord (sym (told (c .before)) ∙ c .if1 .taken))
 
 label-requires : tie.Need-label-requires
 label-requires c κs = search needs
 
 returns : tie.Need-returns
 returns c =
-    let a = c .before .before .before .before .before .before .before .args in
+    let a = c .before .before .before .before .before .before .before .before .before .args in
     early-told-label (a .start) (a .size) (sym (told (c .before .before .before)) ∙ c .before .before .if1 .taken)
     (c .label .ensures .gives (a .follow .now) (a .enter .now) (a .sizes .now) (a .accepting .now))
 
@@ -55,20 +55,26 @@ add-query c = search needs
 
 sub-query : tie.Need-sub-query
 sub-query c =
-    let a = c .before .before .before .before .before .before .before .before .args in
-    omega (arith, begins-within (a .text .now) (a .start) (a .size) (c .before .before .before .before .before .before .before .before .pre .1) queryWord (sym (told2 (c .before)) ∙ c .if2 .taken))
+    let a = c .before .before .before .before .before .before .before .before .before .before .args in
+    omega (arith, begins-within (a .text .now) (a .start) (a .size) (c .before .before .before .before .before .before .before .before .before .before .pre .1) queryWord (sym (told2 (c .before)) ∙ c .if2 .taken))
 
 query-requires : tie.Need-query-requires
 query-requires c κs = search needs
 
+same-length : tie.Need-same-length
+same-length c = search needs
+
+same-length-2 : tie.Need-same-length-2
+same-length-2 c = search needs
+
 returns-2 : tie.Need-returns-2
 returns-2 c =
-    let a = c .before .before .before .before .before .before .before .before .before .before .before .before .before .before .args in
-    early-told-query (a .start) (a .size) (sym (told2 (c .before .before .before .before .before .before .before)) ∙ c .before .before .before .before .before .before .if2 .taken) (c .query .ensures)
+    let a = c .before .before .before .before .before .before .before .before .before .before .before .before .before .before .before .before .before .before .before .before .args in
+    early-told-query (a .start) (a .size) (sym (told2 (c .before .before .before .before .before .before .before .before .before .before .before)) ∙ c .before .before .before .before .before .before .before .before .before .before .if2 .taken) (c .before .before .before .before .query .ensures)
 
 returns-3 : tie.Need-returns-3
 returns-3 c =
-    let a = c .before .before .before .before .before .before .before .before .args in
+    let a = c .before .before .before .before .before .before .before .before .before .before .args in
     early-told-neither (a .text .now) _ (a .p) _ _ (sym (told (c .before .before .before .before)) ∙ c .before .before .before .if1 .left) (sym (told2 (c .before)) ∙ c .if2 .left)
 
 pub early-spec : {M : Type 1} → statement M
@@ -87,5 +93,7 @@ early-spec =
     add-query
     sub-query
     query-requires
+    same-length
+    same-length-2
     returns-2
     returns-3)

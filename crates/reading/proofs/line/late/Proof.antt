@@ -8,55 +8,50 @@ use native.Mathlib.Omega.{arith}
 use borrow.Author.Needs.{needs}
 use Rattle.reading.proofs.line.late.Statement.{statement}
 use Rattle.reading.proofs.line.late.Tie as tie
-use Rattle.reading.proofs.line.late.Reads as reads
-use Rattle.reading.proofs.line.late.Lts as lts
-use Rattle.reading.proofs.line.list.Reads as list-reads
-use Rattle.reading.proofs.scan.begins.Reads as begins-reads
-use Rattle.syntax.proofs.table.part.Reads as part-reads
 
 -- Whether the line begins with the word.
 told : (c : tie.After-begins)
-    → let a = c .before .before .before .before .args in c .begins .result ≡ begins listWord (part (a .text .now) (a .start) (a .size))
+    → let a = c .before .before .before .before .before .before .args in c .begins .result ≡ begins listWord (part (a .text .now) (a .start) (a .size))
 told c = c .begins .ensures ∙ ap (begins listWord) (c .before .before .part .ensures)
 
--- src/line.rt:174:9
 part-requires : tie.Need-part-requires
 part-requires c κs = search needs
 
--- src/line.rt:175:21
 slice-aggregate-begins : tie.Need-slice-aggregate-begins
 slice-aggregate-begins c = search needs
 
--- src/line.rt:175:8
 begins-requires : tie.Need-begins-requires
 begins-requires c κs = search needs
 
--- src/line.rt:176:30
 add-list : tie.Need-add-list
 add-list c = search needs
 
--- src/line.rt:176:41
 sub-list : tie.Need-sub-list
 sub-list c =
-    let a = c .before .before .before .before .before .args in
-    omega (arith, begins-within (a .text .now) (a .start) (a .size) (c .before .before .before .before .before .pre .1) listWord (sym (told (c .before)) ∙ c .if1 .taken))
+    let a = c .before .before .before .before .before .before .before .args in
+    omega (arith, begins-within (a .text .now) (a .start) (a .size) (c .before .before .before .before .before .before .before .pre .1) listWord (sym (told (c .before)) ∙ c .if1 .taken))
 
--- src/line.rt:176:9
 list-requires : tie.Need-list-requires
 list-requires c κs =
-    let a = c .before .before .before .before .before .before .before .before .before .before .args in
-    omega (arith, c .before .before .before .before .before .before .before .before .before .before .pre, begins-within (a .text .now) (a .start) (a .size) (c .before .before .before .before .before .before .before .before .before .before .pre .1) listWord (sym (told (c .before .before .before .before .before .before)) ∙ c .before .before .before .before .before .if1 .taken))
+    let start = c .before .before .before .before .before .before .before .before .before .before .before .before in
+    let a = start .args in
+    let b = begins-within (a .text .now) (a .start) (a .size) (start .pre .1) listWord (sym (told (c .before .before .before .before .before .before)) ∙ c .before .before .before .before .before .if1 .taken) in
+    (start .pre .0, omega (arith, start .pre .1), start .pre .2)
 
--- src/line.rt:176:9
+same-length : tie.Need-same-length
+same-length c = search needs
+
+same-length-2 : tie.Need-same-length-2
+same-length-2 c = search needs
+
 returns : tie.Need-returns
 returns c =
-    let a = c .before .before .before .before .before .before .before .before .before .before .before .args in
-    late-told-list (a .start) (a .size) (sym (told (c .before .before .before .before .before .before .before)) ∙ c .before .before .before .before .before .before .if1 .taken) (c .list .ensures)
+    let a = c .before .before .before .before .before .before .before .before .before .before .before .before .before .before .before .before .before .args in
+    late-told-list (a .start) (a .size) (sym (told (c .before .before .before .before .before .before .before .before .before .before .before)) ∙ c .before .before .before .before .before .before .before .before .before .before .if1 .taken) (c .before .before .before .before .list .ensures)
 
--- src/line.rt:155:1
 returns-2 : tie.Need-returns-2
 returns-2 c =
-    let a = c .before .before .before .before .before .args in
+    let a = c .before .before .before .before .before .before .before .args in
     late-told-other (a .text .now) _ (a .p) _ _ (sym (told (c .before)) ∙ c .if1 .left)
 
 pub late-spec : {M : Type 1} → statement M
@@ -69,5 +64,7 @@ late-spec =
     add-list
     sub-list
     list-requires
+    same-length
+    same-length-2
     returns
     returns-2)

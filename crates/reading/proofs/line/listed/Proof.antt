@@ -1,6 +1,6 @@
 -- `listed` meets its contract: the name is looked up among the lists' names, the expression is read over the labels into the rows behind
 -- the other lists', and the name is stored behind theirs.
-use Prim.Native.Nat.{ℕ, _*_, _<_}
+use Prim.Native.Nat.{ℕ, _+_, _*_, _≤_}
 use mathlib.Core.List.{List}
 use mathlib.Core.Path.{_≡_, sym, ap₂, _∙_}
 use lib.ListN.{take, drop}
@@ -12,119 +12,109 @@ use native.Mathlib.Omega.{arith}
 use borrow.Author.Needs.{needs}
 use Rattle.reading.proofs.line.listed.Statement.{statement}
 use Rattle.reading.proofs.line.listed.Tie as tie
-use Rattle.reading.proofs.line.listed.Reads as reads
-use Rattle.reading.proofs.line.listed.Lts as lts
-use Rattle.reading.proofs.names.entries.Reads as entries-reads
-use Rattle.reading.proofs.names.fresh.Reads as fresh-reads
-use Rattle.reading.proofs.names.store.Reads as store-reads
-use Rattle.reading.proofs.row.expression.Reads as expression-reads
-use Rattle.syntax.proofs.table.part.Reads as part-reads
 
 -- What the search among the lists' names told.
 told : (c : tie.After-fresh)
-    → let a = c .before .before .before .before .before .before .before .args in
+    → let a = c .before .before .before .before .before .before .before .before .before .args in
     c .fresh .result ≡ fresh (take (a .size) (drop (a .start) (a .text .now)))
     (namesAt (a .text .now) (take (2 * a .p .lists) (drop 64 (a .names .now))))
 told c =
-    let a = c .before .before .before .before .before .before .before .args in
+    let a = c .before .before .before .before .before .before .before .before .before .args in
     c .fresh .ensures ∙ ap₂ (λ (n l : List ℕ). fresh n (namesAt (a .text .now) l)) (c .before .part .ensures) (c .before .before .entries .ensures)
 
--- src/line.rt:80:9
 returns : tie.Need-returns
 returns c =
-    let a = c .before .before .args in
+    let a = c .before .before .before .before .args in
     λ s split.
     list-told-many (a .text .now) (a .p) (a .start) (a .size) (a .at) (a .rest) (a .names .now) (a .follow .now) (a .enter .now)
     (a .sizes .now) (a .accepting .now) (a .follow .now) (a .enter .now) (a .sizes .now) (a .accepting .now) s split _ (c .if1 .taken)
 
--- src/line.rt:83:40
 mul-entries : tie.Need-mul-entries
 mul-entries c = search needs
 
--- src/line.rt:83:21
 entries-requires : tie.Need-entries-requires
 entries-requires c κs = search needs
 
--- src/line.rt:83:52
 part-requires : tie.Need-part-requires
 part-requires c κs = search needs
 
--- src/line.rt:83:9
 fresh-requires : tie.Need-fresh-requires
 fresh-requires c κs = search needs
 
--- src/line.rt:84:9
 returns-2 : tie.Need-returns-2
 returns-2 c =
-    let a = c .before .before .before .before .before .before .before .before .args in
+    let a = c .before .before .before .before .before .before .before .before .before .before .args in
     λ s split.
     list-told-name (a .text .now) (a .p) (a .start) (a .size) (a .at) (a .rest) (a .names .now) (a .follow .now) (a .enter .now)
     (a .sizes .now) (a .accepting .now) (a .follow .now) (a .enter .now) (a .sizes .now) (a .accepting .now) s split _ (c .before .before .before .before .before .before .if1 .left)
     (sym (told (c .before)) ∙ not-true _ (c .if2 .taken))
 
--- src/line.rt:86:18
 mul-labels : tie.Need-mul-labels
 mul-labels c = search needs
 
--- src/line.rt:87:27
 part-requires-2 : tie.Need-part-requires-2
 part-requires-2 c κs = search needs
 
--- src/line.rt:87:55
 entries-requires-2 : tie.Need-entries-requires-2
 entries-requires-2 c κs = search needs
 
--- src/line.rt:87:82
 add-expression : tie.Need-add-expression
 add-expression c = search needs
 
--- src/line.rt:87:9
 expression-requires : tie.Need-expression-requires
-expression-requires c κs = search needs
+expression-requires c κs =
+    let r = c .before .before .before .before .before .before .before .before .before .before .before .before .before .before .before .before .before .before .pre .1 in
+    let x = c .before .before .before .before .before .before .before .before .before .before .before .before .before .before .before .before .before .before .args .p .lists + 1 in
+    let h : x ≤ 16 = omega arith in
+    (omega arith, r .in-follow x (omega arith) h, r .in-enter x (omega arith) h)
 
--- src/line.rt:89:23
 enum-known-told : tie.Need-enum-known-told
 enum-known-told c = search needs
 
--- src/line.rt:91:19
 enum-told : tie.Need-enum-told
 enum-told c = search needs
 
--- src/line.rt:91:31
 mul-store : tie.Need-mul-store
 mul-store c = search needs
 
--- src/line.rt:91:26
 add-store : tie.Need-add-store
 add-store c = search needs
 
--- src/line.rt:91:13
 store-requires : tie.Need-store-requires
 store-requires c κs = search needs
 
--- src/line.rt:92:61
-add-t39 : tie.Need-add-t39
-add-t39 c = search needs
+add-t41 : tie.Need-add-t41
+add-t41 c = omega (arith, c .before .before .before .before .before .before .before .before .before .before .before .before .before .before .before .before .before .before .before .before .before .before .before .if1 .left)
 
--- src/line.rt:56:1
+same-length : tie.Need-same-length
+same-length c = search needs
+
+same-length-2 : tie.Need-same-length-2
+same-length-2 c = search needs
+
 returns-3 : tie.Need-returns-3
 returns-3 c =
-    let a = c .before .before .before .before .before .before .before .before .before .before .before .before .before .before .before .before .before .before .before .before .args in
+    let a = c .before .before .before .before .before .before .before .before .before .before .before .before .before .before .before .before .before .before .before .before .before .before .before .before .before .before .args in
     λ s split.
     list-told-faulty (a .text .now) (a .p) (a .start) (a .size) (a .at) (a .rest) (a .names .now) (a .follow .now) (a .enter .now)
-    (a .sizes .now) (a .accepting .now) _ _ _ _ s split (c .before .before .before .before .before .before .before .before .before .before .before .before .before .before .before .before .before .before .if1 .left) (sym (told (c .before .before .before .before .before .before .before .before .before .before .before .before .before)) ∙ not-false _ (c .before .before .before .before .before .before .before .before .before .before .before .before .if2 .left)) _
-    (rw (c .before .before .before .before .before .before .before .before .entries2 .ensures, c .before .before .before .before .before .before .before .before .before .before .before .part2 .ensures, c .before .told .given .1) at (c .before .before .before .expression .ensures))
+    (a .sizes .now) (a .accepting .now) _ _ _ _ s split (c .before .before .before .before .before .before .before .before .before .before .before .before .before .before .before .before .before .before .before .before .before .before .if1 .left) (sym (told (c .before .before .before .before .before .before .before .before .before .before .before .before .before .before .before .before .before)) ∙ not-false _ (c .before .before .before .before .before .before .before .before .before .before .before .before .before .before .before .before .if2 .left)) _
+    (rw (c .before .before .before .before .before .before .before .before .before .before .before .before .entries2 .ensures, c .before .before .before .before .before .before .before .before .before .before .before .before .before .before .before .part2 .ensures, c .before .told .given .1) at (c .before .before .before .before .before .before .before .expression .ensures))
 
--- src/line.rt:56:1
+same-length-3 : tie.Need-same-length-3
+same-length-3 c = search needs
+
+same-length-4 : tie.Need-same-length-4
+same-length-4 c = search needs
+
 returns-4 : tie.Need-returns-4
 returns-4 c =
-    let a = c .before .before .before .before .before .before .before .before .before .before .before .before .before .before .before .before .before .before .before .before .before .args in
+    let a = c .before .before .before .before .before .before .before .before .before .before .before .before .before .before .before .before .before .before .before .before .before .before .before .before .before .before .before .args in
     λ s split.
     rw (c .store .ensures)
     (list-told-fine (a .text .now) (a .p) (a .start) (a .size) (a .at) (a .rest) (a .names .now) (a .follow .now) (a .enter .now)
-    (a .sizes .now) (a .accepting .now) _ _ _ _ s split (c .before .before .before .before .before .before .before .before .before .before .before .before .before .before .before .before .before .before .before .if1 .left) (sym (told (c .before .before .before .before .before .before .before .before .before .before .before .before .before .before)) ∙ not-false _ (c .before .before .before .before .before .before .before .before .before .before .before .before .before .if2 .left))
-    (omega (arith, c .before .before .before .before .before .before .before .before .before .before .before .before .before .before .before .before .before .entries-arg2))
-    (rw (c .before .before .before .before .before .before .before .before .before .entries2 .ensures, c .before .before .before .before .before .before .before .before .before .before .before .before .part2 .ensures, c .before .before .enum-told .given .1) at (c .before .before .before .before .expression .ensures)))
+    (a .sizes .now) (a .accepting .now) _ _ _ _ s split (c .before .before .before .before .before .before .before .before .before .before .before .before .before .before .before .before .before .before .before .before .before .before .before .if1 .left) (sym (told (c .before .before .before .before .before .before .before .before .before .before .before .before .before .before .before .before .before .before)) ∙ not-false _ (c .before .before .before .before .before .before .before .before .before .before .before .before .before .before .before .before .before .if2 .left))
+    (omega (arith, c .before .before .before .before .before .before .before .before .before .before .before .before .before .before .before .before .before .before .before .before .before .entries-arg2))
+    (rw (c .before .before .before .before .before .before .before .before .before .before .before .before .before .entries2 .ensures, c .before .before .before .before .before .before .before .before .before .before .before .before .before .before .before .before .part2 .ensures, c .before .before .enum-told .given .1) at (c .before .before .before .before .before .before .before .before .expression .ensures)))
 
 pub listed-spec : {M : Type 1} → statement M
 listed-spec =
@@ -146,6 +136,10 @@ listed-spec =
     mul-store
     add-store
     store-requires
-    add-t39
+    add-t41
+    same-length
+    same-length-2
     returns-3
+    same-length-3
+    same-length-4
     returns-4)
