@@ -49,6 +49,7 @@ pub mod FoundSizes
 -- Find on the tables of a job.
 pub mod StoredAutomata
 pub mod StoredImages
+pub mod RowsFit
 pub mod ListRows
 pub mod Outcome
 pub mod WrittenLaws

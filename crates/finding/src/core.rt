@@ -15,6 +15,7 @@ use places::Places;
 use syntax::Refusal;
 ghost use Prim.Native.Nat.{_*_, _≤_};
 ghost use lib.ListN.{length};
+ghost use Rattle.finding.specs.RowsFit.{RowsFit};
 ghost use Rattle.finding.specs.ListRows.{jobTables};
 ghost use Rattle.finding.specs.QueryTold.{QueryTold};
 ghost use Rattle.finding.specs.FoundTold.{FoundTold};
@@ -25,12 +26,13 @@ ghost use Rattle.finding.specs.CoreTold.{CoreTold};
 fn query_standings(
     labels: u64,
     limit: u64,
-    follow: &[u64; 1088],
-    enter: &[u64; 544],
+    follow: &[u64],
+    enter: &[u64],
     sizes: &[u64; 17],
     found: &mut [u64; 64],
     moves: &mut [u8; 2048],
 ) -> Explored
+    requires { ⌜ (64 ≤ length (now follow)) × (32 ≤ length (now enter)) ⌝ }
     ensures { λ r. ⌜ QueryTold (now (follow .entry)) (now (enter .entry)) (now (sizes .entry)) labels limit r
         (now (found .exit)) (now (moves .exit)) ⌝ }
 {
@@ -38,10 +40,8 @@ fn query_standings(
     if size > 63 {
         return Explored::Over;
     }
-    let follows = &follow[..];
-    let enters = &enter[..];
     let end = size + 1;
-    standings(&follows[..end], &enters[..32], labels, limit, found, moves)
+    standings(&follow[..end], &enter[..32], labels, limit, found, moves)
 }
 
 // The flags and the first accepted word of n states.
@@ -73,8 +73,8 @@ fn states_in(
     labels: u64,
     lists: u64,
     limit: u64,
-    follow: &[u64; 1088],
-    enter: &[u64; 544],
+    follow: &[u64],
+    enter: &[u64],
     sizes: &[u64; 17],
     accepting: &[u64; 17],
     count: u64,
@@ -84,7 +84,7 @@ fn states_in(
     table: &mut [u16],
     marks: &mut [u8],
 ) -> FindAnswer
-    requires { ⌜ (lists ≤ 16 → 64 * lists ≤ length (now images)) ⌝ }
+    requires { ⌜ (lists ≤ 16 → 64 * lists ≤ length (now images)) × RowsFit lists (now follow) (now enter) ⌝ }
     ensures { λ r. ⌜ StatesPart (jobTables (now (moves .entry)) count labels (now (follow .entry)) (now (enter .entry)) (now (sizes .entry))
         (now (accepting .entry))) lists limit (now (found .entry)) (now (table .entry)) (now (marks .entry)) r
         (now (table .exit)) (now (marks .exit)) ⌝ }
@@ -139,8 +139,8 @@ fn find_states(
     labels: u64,
     lists: u64,
     limit: u64,
-    follow: &[u64; 1088],
-    enter: &[u64; 544],
+    follow: &[u64],
+    enter: &[u64],
     sizes: &[u64; 17],
     accepting: &[u64; 17],
     count: u64,
@@ -149,6 +149,7 @@ fn find_states(
     table: &mut [u16],
     marks: &mut [u8],
 ) -> FindAnswer
+    requires { ⌜ RowsFit lists (now follow) (now enter) ⌝ }
     ensures { λ r. ⌜ StatesPart (jobTables (now (moves .entry)) count labels (now (follow .entry)) (now (enter .entry)) (now (sizes .entry))
         (now (accepting .entry))) lists limit (now (found .entry)) (now (table .entry)) (now (marks .entry)) r
         (now (table .exit)) (now (marks .exit)) ⌝ }
@@ -192,11 +193,11 @@ fn find_states(
 
 // Find, with at most so many standings and states; there is room for 64 and 256. Where there are more, the named parts of the table and of
 // the flags are zeros.
-pub fn find_core(
+pub fn find_rows(
     labels: u64,
     lists: u64,
-    follow: &[u64; 1088],
-    enter: &[u64; 544],
+    follow: &[u64],
+    enter: &[u64],
     sizes: &[u64; 17],
     accepting: &[u64; 17],
     most_standings: u64,
@@ -204,6 +205,7 @@ pub fn find_core(
     table: &mut [u16],
     marks: &mut [u8],
 ) -> FindAnswer
+    requires { ⌜ RowsFit lists (now follow) (now enter) ⌝ }
     ensures { λ r. ⌜ CoreTold (now (follow .entry)) (now (enter .entry)) (now (sizes .entry)) (now (accepting .entry)) labels lists
         «most_standings» «most_states» (now (table .entry)) (now (marks .entry)) r (now (table .exit)) (now (marks .exit)) ⌝ }
 {
@@ -239,4 +241,34 @@ pub fn find_core(
             refused(Refusal::TooManyStandings, 0)
         }
     }
+}
+
+// The same on tables of 17 rows.
+pub fn find_core(
+    labels: u64,
+    lists: u64,
+    follow: &[u64; 1088],
+    enter: &[u64; 544],
+    sizes: &[u64; 17],
+    accepting: &[u64; 17],
+    most_standings: u64,
+    most_states: u64,
+    table: &mut [u16],
+    marks: &mut [u8],
+) -> FindAnswer
+    ensures { λ r. ⌜ CoreTold (now (follow .entry)) (now (enter .entry)) (now (sizes .entry)) (now (accepting .entry)) labels lists
+        «most_standings» «most_states» (now (table .entry)) (now (marks .entry)) r (now (table .exit)) (now (marks .exit)) ⌝ }
+{
+    find_rows(
+        labels,
+        lists,
+        follow,
+        enter,
+        sizes,
+        accepting,
+        most_standings,
+        most_states,
+        table,
+        marks,
+    )
 }

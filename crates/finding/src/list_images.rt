@@ -4,6 +4,7 @@ use places::Places;
 ghost use Prim.Native.Nat.{ℕ, _+_, _*_, _≤_, _<_};
 ghost use lib.ListN.{length, getD};
 ghost use Rattle.finding.specs.ImageSearch.{tables, Fitting};
+ghost use Rattle.finding.specs.RowsFit.{RowsFit};
 ghost use Rattle.finding.specs.ListRows.{jobTables, FilledRow, ListTold, Paired, ImagesOf};
 
 // The row v, from a list's automaton.
@@ -41,8 +42,8 @@ fn list_row(
     moves: &[u8; 2048],
     count: u64,
     labels: u64,
-    follow: &[u64; 1088],
-    enter: &[u64; 544],
+    follow: &[u64],
+    enter: &[u64],
     sizes: &[u64; 17],
     accepting: &[u64; 17],
     v: usize,
@@ -50,7 +51,7 @@ fn list_row(
     rows: &mut [u64],
 )
     requires { ⌜ (v < 16) × (count ≤ 64) × (labels ≤ 32) × Paired count (now sizes) v (length (now sources))
-        × (64 * v + 64 ≤ length (now rows)) ⌝ }
+        × (64 * v + 64 ≤ length (now rows)) × (64 * v + 128 ≤ length (now follow)) × (32 * v + 64 ≤ length (now enter)) ⌝ }
     ensures { λ _. ⌜ ListTold (jobTables (now (moves .entry)) count labels (now (follow .entry)) (now (enter .entry)) (now (sizes .entry))
         (now (accepting .entry))) v (now (rows .entry)) (now (rows .exit)) ⌝ }
 {
@@ -63,14 +64,12 @@ fn list_row(
     let to = from + size + 1;
     let first = 32 * x;
     let end = first + 32;
-    let follows = &follow[..];
-    let enters = &enter[..];
     fill_row(
         moves,
         count,
         labels,
-        &follows[from..to],
-        &enters[first..end],
+        &follow[from..to],
+        &enter[first..end],
         accepting[x],
         v,
         sources,
@@ -101,15 +100,16 @@ fn rows_of(
     count: u64,
     labels: u64,
     lists: usize,
-    follow: &[u64; 1088],
-    enter: &[u64; 544],
+    follow: &[u64],
+    enter: &[u64],
     sizes: &[u64; 17],
     accepting: &[u64; 17],
     sources: &mut [u64],
     rows: &mut [u64],
 )
     requires { ⌜ (count ≤ 64) × (labels ≤ 32) × (lists ≤ 16)
-        × ((v : ℕ) → v < lists → Paired count (now sizes) v (length (now sources))) × (64 * lists ≤ length (now rows)) ⌝ }
+        × ((v : ℕ) → v < lists → Paired count (now sizes) v (length (now sources))) × (64 * lists ≤ length (now rows))
+        × RowsFit lists (now follow) (now enter) ⌝ }
     ensures { λ _. ⌜ ImagesOf (jobTables (now (moves .entry)) count labels (now (follow .entry)) (now (enter .entry)) (now (sizes .entry))
         (now (accepting .entry))) lists (now (rows .exit)) ⌝ }
 {
@@ -137,14 +137,14 @@ fn rows_of_few(
     count: u64,
     labels: u64,
     lists: usize,
-    follow: &[u64; 1088],
-    enter: &[u64; 544],
+    follow: &[u64],
+    enter: &[u64],
     sizes: &[u64; 17],
     accepting: &[u64; 17],
     rows: &mut [u64],
 )
     requires { ⌜ (count ≤ 64) × (labels ≤ 32) × (lists ≤ 16) × ((v : ℕ) → v < lists → Paired count (now sizes) v 512)
-        × (64 * lists ≤ length (now rows)) ⌝ }
+        × (64 * lists ≤ length (now rows)) × RowsFit lists (now follow) (now enter) ⌝ }
     ensures { λ _. ⌜ ImagesOf (jobTables (now (moves .entry)) count labels (now (follow .entry)) (now (enter .entry)) (now (sizes .entry))
         (now (accepting .entry))) lists (now (rows .exit)) ⌝ }
 {
@@ -169,13 +169,13 @@ fn rows_of_many(
     count: u64,
     labels: u64,
     lists: usize,
-    follow: &[u64; 1088],
-    enter: &[u64; 544],
+    follow: &[u64],
+    enter: &[u64],
     sizes: &[u64; 17],
     accepting: &[u64; 17],
     rows: &mut [u64],
 )
-    requires { ⌜ (count ≤ 64) × (labels ≤ 32) × (lists ≤ 16) × (64 * lists ≤ length (now rows)) ⌝ }
+    requires { ⌜ (count ≤ 64) × (labels ≤ 32) × (lists ≤ 16) × (64 * lists ≤ length (now rows)) × RowsFit lists (now follow) (now enter) ⌝ }
     ensures { λ _. ⌜ ImagesOf (jobTables (now (moves .entry)) count labels (now (follow .entry)) (now (enter .entry)) (now (sizes .entry))
         (now (accepting .entry))) lists (now (rows .exit)) ⌝ }
 {
@@ -200,12 +200,13 @@ pub fn list_images(
     count: u64,
     labels: u64,
     lists: u64,
-    follow: &[u64; 1088],
-    enter: &[u64; 544],
+    follow: &[u64],
+    enter: &[u64],
     sizes: &[u64; 17],
     accepting: &[u64; 17],
     rows: &mut [u64],
 )
+    requires { ⌜ RowsFit lists (now follow) (now enter) ⌝ }
     ensures { λ _. ⌜ (lists ≤ 16 → 64 * lists ≤ length (now (rows .entry))
         → ImagesOf (jobTables (now (moves .entry)) count labels (now (follow .entry)) (now (enter .entry)) (now (sizes .entry))
         (now (accepting .entry))) lists (now (rows .exit))) ⌝ }

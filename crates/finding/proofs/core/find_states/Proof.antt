@@ -8,13 +8,13 @@ slice-aggregate-states-in : tie.Need-slice-aggregate-states-in
 slice-aggregate-states-in c = search needs
 
 states-in-requires : tie.Need-states-in-requires
-states-in-requires c κs = λ h. omega arith
+states-in-requires c κs = (λ h. omega arith, c .before .before .before .before .before .before .before .before .pre)
 
 slice-aggregate-states-in-2 : tie.Need-slice-aggregate-states-in-2
 slice-aggregate-states-in-2 c = search needs
 
 states-in-requires-2 : tie.Need-states-in-requires-2
-states-in-requires-2 c κs = λ h. omega arith
+states-in-requires-2 c κs = (λ h. omega arith, c .before .before .before .before .before .before .before .before .pre)
 
 same-length : tie.Need-same-length
 same-length c = search needs

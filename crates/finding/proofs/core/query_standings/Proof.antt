@@ -15,7 +15,7 @@ element-copy-out-size c = search needs
 
 returns : tie.Need-returns
 returns c =
-    let a = c .before .before .args in
+    let a = c .before .before .before .before .args in
     query-refused (a .follow .now) (a .enter .now) (a .sizes .now) (a .labels) (a .limit) (a .found .now) (a .moves .now) _ (c .if1 .taken)
 
 add-end : tie.Need-add-end

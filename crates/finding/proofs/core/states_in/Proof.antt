@@ -58,7 +58,7 @@ returns c =
     let numbers = bytes .before .before .before .before in
     let listed = numbers .before .before .before .before in
     let lent = listed .before .before in
-    let start = lent .before .before .before .before in
+    let start = lent .before .before .before .before .before .before in
     let a = start .args in
     let imaged = listed .list-images in
     let zeroed = numbers .clear-numbers in
@@ -70,8 +70,8 @@ returns c =
     let all = c .before .before .before .before .before .before .before .before .before .told .given in
     part-all T (a .lists) (a .limit) (a .found .now) (a .table .now) (a .marks .now) (imaged .last .1 .1 .1 .1 .1 .1 .1 .1 .0) (zeroed .last .0)
     (unmarked .last .0) (told .result) (told .last .1 .1 .1 .1 .0) (told .last .1 .1 .1 .1 .1 .0) (told .last .1 .1 .1 .1 .1 .1 .0)
-    (told .last .1 .1 .1 .1 .1 .1 .1 .0) (λ h. imaged .ensures h (start .pre h)) (zeroed .ensures) (unmarked .ensures)
-    (λ f h m t. told .ensures f h (omega (arith, start .pre h, imaged .kept .1 .1 .1 .1 .1 .1 .1 .1 .0)) m t) (told .kept .1 .1 .1 .1 .1 .1 .1 .0)
+    (told .last .1 .1 .1 .1 .1 .1 .1 .0) (λ h. imaged .ensures h (start .pre .0 h)) (zeroed .ensures) (unmarked .ensures)
+    (λ f h m t. told .ensures f h (omega (arith, start .pre .0 h, imaged .kept .1 .1 .1 .1 .1 .1 .1 .1 .0)) m t) (told .kept .1 .1 .1 .1 .1 .1 .1 .0)
     (zeroed .kept .0) (omega (arith, lent .stood .given .0)) (all .0 .0) (f .result)
     (f .last .1 .1 .1 .1 .1 .1 .1 .0) (all .1) (f .ensures)
 
@@ -91,7 +91,7 @@ returns-2 c =
     let numbers = bytes .before .before .before .before in
     let listed = numbers .before .before .before .before in
     let lent = listed .before .before in
-    let start = lent .before .before .before .before in
+    let start = lent .before .before .before .before .before .before in
     let a = start .args in
     let imaged = listed .list-images in
     let zeroed = numbers .clear-numbers in
@@ -102,8 +102,8 @@ returns-2 c =
     let again = c .before .before .before .clear-numbers2 in
     part-over T (a .lists) (a .limit) (a .found .now) (a .table .now) (a .marks .now) (imaged .last .1 .1 .1 .1 .1 .1 .1 .1 .0) (zeroed .last .0)
     (unmarked .last .0) (told .result) (told .last .1 .1 .1 .1 .0) (told .last .1 .1 .1 .1 .1 .0) (told .last .1 .1 .1 .1 .1 .1 .0)
-    (told .last .1 .1 .1 .1 .1 .1 .1 .0) (λ h. imaged .ensures h (start .pre h)) (zeroed .ensures) (unmarked .ensures)
-    (λ f h m t. told .ensures f h (omega (arith, start .pre h, imaged .kept .1 .1 .1 .1 .1 .1 .1 .1 .0)) m t) (told .kept .1 .1 .1 .1 .1 .1 .1 .0)
+    (told .last .1 .1 .1 .1 .1 .1 .1 .0) (λ h. imaged .ensures h (start .pre .0 h)) (zeroed .ensures) (unmarked .ensures)
+    (λ f h m t. told .ensures f h (omega (arith, start .pre .0 h, imaged .kept .1 .1 .1 .1 .1 .1 .1 .1 .0)) m t) (told .kept .1 .1 .1 .1 .1 .1 .1 .0)
     (zeroed .kept .0) (omega (arith, lent .stood .given .0))
     (again .last .0) (c .refused .result) (c .before .before .before .before .before .enum-told .given .1) (again .ensures) (c .refused .ensures)
 

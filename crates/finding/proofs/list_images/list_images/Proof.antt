@@ -30,19 +30,21 @@ add-if6 c = search needs
 
 mul-if6 : tie.Need-mul-if6
 mul-if6 c =
-    let a = c .before .before .before .before .before .before .before .args in
+    let a = c .before .before .before .before .before .before .before .before .before .args in
     let most = c .before .greatest .result in
     omega (arith, mul-le-mul-left {m = most + 1} {n = 64} (a .count) (omega arith))
 
 rows-of-few-requires : tie.Need-rows-of-few-requires
 rows-of-few-requires c κs =
-    let a = c .before .before .before .before .before .before .before .before .before .args in
+    let start = c .before .before .before .before .before .before .before .before .before .before .before in
+    let a = start .args in
     let g = c .before .before .before .greatest in (
       omega arith,
       omega arith,
       omega arith,
       λ v h. paired-most (a .count) (g .result) (a .sizes .now) v 512 (g .ensures v h) (c .before .if6 .taken),
       omega arith,
+      start .pre,
     )
 
 same-length : tie.Need-same-length

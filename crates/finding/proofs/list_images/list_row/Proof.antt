@@ -20,7 +20,7 @@ element-copy-out-size c = search needs
 
 returns : tie.Need-returns
 returns c =
-    let a = c .before .before .before .before .args in
+    let a = c .before .before .before .before .before .before .args in
     let T =
     jobTables (a .moves .now) (a .count) (a .labels) (a .follow .now) (a .enter .now) (a .sizes .now) (a .accepting .now) in
     list-refused T (a .v) (a .rows .now) (a .rows .now) (rw (← add-one (a .v)) (c .if1 .taken))
@@ -76,10 +76,10 @@ fill-row-requires c κs =
     let a = start .args in
     let p = start .pre in
     let size = getD (a .sizes .now) (a .v + 1) 0 in
-    let small = c .before .before .before .before .before .before .before .if1 .left in
-    let long = part-length (64 * (a .v + 1)) size (a .follow .now) (omega (arith, start .good, p .0, small)) in
+    let small = c .before .before .before .before .before .if1 .left in
+    let long = part-length (64 * (a .v + 1)) size (a .follow .now) (omega (arith, p .5, small)) in
     let wide : length (take (32 * (a .v + 1) + 32 - 32 * (a .v + 1)) (drop (32 * (a .v + 1)) (a .enter .now))) ≡ 32 =
-    simp (length-take, length-drop) (omega (arith, start .good, p .0)) in (
+    simp (length-take, length-drop) (omega (arith, p .6)) in (
       p .0,
       p .4,
       record { standings = p .1; row = p .2; enters = omega (arith, wide, p .2); places = omega (arith, long, small) },
@@ -102,7 +102,7 @@ returns-2 c =
     jobTables (a .moves .now) (a .count) (a .labels) (a .follow .now) (a .enter .now) (a .sizes .now) (a .accepting .now) in
     list-told T (a .v) (a .rows .now) (row .last .1 .1 .1 .1 .1 .1 .1 .1 .0) (a .v + 1)
     (64 * (a .v + 1) + getD (a .sizes .now) (a .v + 1) 0 + 1 - 64 * (a .v + 1)) (32 * (a .v + 1) + 32 - 32 * (a .v + 1)) (add-one (a .v))
-    (omega arith) (omega arith) (omega (arith, c .before .before .before .before .before .before .before .before .before .before .enters .given .0, start .pre .0)) (row .ensures)
+    (omega arith) (omega arith) (omega (arith, start .pre .6)) (row .ensures)
 
 pub list-row-spec : {M : Type 1} → statement M
 list-row-spec =

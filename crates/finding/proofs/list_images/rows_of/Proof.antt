@@ -18,14 +18,14 @@ abbrev μ-loop : tie.MeasureT-loop
 
 loop-holds : tie.Need-loop-holds Inv-loop μ-loop
 loop-holds c =
-    let a = c .before .before .args in
+    let a = c .before .before .before .before .args in
     let T =
     jobTables (a .moves .now) (a .count) (a .labels) (a .follow .now) (a .enter .now) (a .sizes .now) (a .accepting .now) in
     (omega arith, refl, refl, lists-none T (a .rows .now))
 
 list-row-requires : tie.Need-list-row-requires Inv-loop μ-loop
 list-row-requires c κs =
-    let start = c .before .before .before .before .before .before in
+    let start = c .before .before .before .before .before .before .before .before in
     let l = c .before .before .before .loop in
     let a = start .args in
     let p = start .pre in
@@ -35,6 +35,8 @@ list-row-requires c κs =
       p .1,
       subst (Paired (a .count) (a .sizes .now) (l .v)) (sym (l .inv .1)) (p .3 (l .v) h),
       omega (arith, h, l .inv .2, p .4),
+      omega (arith, h, p .5 .listsFollow (p .2)),
+      omega (arith, h, p .5 .listsEnter (p .2)),
     )
 
 add-v : tie.Need-add-v Inv-loop μ-loop
@@ -46,7 +48,7 @@ loop-less c = search needs
 loop-again : tie.Need-loop-again Inv-loop μ-loop
 loop-again c =
     let l = c .before .before .before .before .before .before .before .before .loop in
-    let a = c .before .before .before .before .before .before .before .before .before .before .before .args in
+    let a = c .before .before .before .before .before .before .before .before .before .before .before .before .before .args in
     let r = c .before .before .before .before .list-row in
     let T =
     jobTables (a .moves .now) (a .count) (a .labels) (a .follow .now) (a .enter .now) (a .sizes .now) (a .accepting .now) in (
@@ -65,7 +67,7 @@ same-length-2 c = c .before .loop .inv .2
 returns : tie.Need-returns Inv-loop μ-loop
 returns c =
     let l = c .before .loop in
-    let a = c .before .before .before .before .args in
+    let a = c .before .before .before .before .before .before .args in
     let T =
     jobTables (a .moves .now) (a .count) (a .labels) (a .follow .now) (a .enter .now) (a .sizes .now) (a .accepting .now) in
     let e : l .v ≡ a .lists = omega arith in

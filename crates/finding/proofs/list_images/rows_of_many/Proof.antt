@@ -9,9 +9,9 @@ slice-aggregate-rows-of c = search needs
 
 rows-of-requires : tie.Need-rows-of-requires
 rows-of-requires c κs =
-    let a = c .before .before .before .args in
-    let p = c .before .before .before .pre in
-    (p .0, p .1, p .2, λ v h. paired-any (a .count) (a .sizes .now) v (p .0), p .3)
+    let a = c .before .before .before .before .before .args in
+    let p = c .before .before .before .before .before .pre in
+    (p .0, p .1, p .2, λ v h. paired-any (a .count) (a .sizes .now) v (p .0), p .3, p .4)
 
 same-length : tie.Need-same-length
 same-length c = search needs
