@@ -33,7 +33,7 @@ unfolding nesting
 deeper n [] = omega arith
 deeper n (b ∷ s) = omega arith
 
--- A byte that neither opens nor closes changes nothing.
+-- A byte that neither opens nor closes does not change how deep a text nests.
 pub level : (n b : ℕ) (s : Bytes) → balance n b ≡ n → nesting n (b ∷ s) ≡ nesting n s
 unfolding nesting
 level n b s e = rw e (omega (arith, deeper n s))
@@ -52,7 +52,7 @@ names-nest : {u : Bytes} → NameBytes u → (n : ℕ) (rest : Bytes) → nestin
 names-nest nothing n rest = refl
 names-nest (next {b} {s} h r) n rest = level n b (s ++ rest) (name-keeps n b h) ∙ names-nest r n rest
 
--- So does a run of name bytes.
+-- A run of name bytes at the front of a text does not change how deep it nests.
 pub run-nests : (n : ℕ) (s : Bytes) → nesting n s ≡ nesting n (pastRun s)
 unfolding pastRun
 run-nests n [] = refl
