@@ -6,8 +6,10 @@ use mathlib.Core.Option.{Option, some, none}
 use mathlib.Core.Path.{_≡_, refl, sym, ap, _∙_, subst}
 use native.Mathlib.Nat.{add-zero}
 use native.Mathlib.Omega.{arith}
-use lib.ListN.{length, drop}
+use lib.ListN.{length, take, drop}
 use Rattle.theory.specs.Expression.{empty}
+use Rattle.theory.specs.Places.{Member}
+use Rattle.theory.specs.PlacesLaws.{member-none}
 use Rattle.syntax.specs.declared.cursor.Cursor.{Cursor}
 use Rattle.syntax.specs.declared.parts.Part.{Part}
 use Rattle.syntax.specs.Byte.{Bytes, opening, closing}
@@ -21,7 +23,7 @@ use Rattle.syntax.specs.Part.{nowhere, unit, fault, ended}
 use Rattle.syntax.specs.PlaceLaws.{Past, past-opening, past-closing}
 use Rattle.syntax.specs.Build.{Built, Room, Read, Reads, Sure, Builds, Suffixed, Marked}
 use Rattle.syntax.specs.BuildLaws.{builds-fault, built-empty, built-ended, built-suffixes}
-use Rattle.syntax.specs.MarkedLaws.{After, marked-read, suffixes-after}
+use Rattle.syntax.specs.MarkedLaws.{After, take-marked, marked-read, suffixes-after}
 use Rattle.syntax.proofs.Ways.{some-same, never}
 
 suffixed-cases : (q : Parsed) (t : Tree) (rest : Bytes) → suffixed q ≡ parsed t rest
@@ -63,6 +65,20 @@ module _ (n : ℕ) (s : Bytes) where
 module _ (labels : List Bytes) (s : Bytes) (at k d : ℕ) (follow enter : List ℕ) where
   next-after : (p r : Part) (f₁ f₂ : List ℕ) → Suffixed s p f₁ r f₂ → r .next ≡ p .next
   next-after p r f₁ f₂ marks = ap (λ (x : Part). x .next) (marks .same)
+
+  -- The part's last places are its own.
+  abbrev Own : Part → Type 0
+  Own p = (x : ℕ) → Member x (p .last .0) → (k ≤ x) × (x < p .next)
+
+  kept-after : (p r : Part) (f₁ f₂ : List ℕ) → Suffixed s p f₁ r f₂ → Own p → take k f₂ ≡ take k f₁
+  kept-after p r f₁ f₂ marks own =
+      sym (ap (λ (x : Marked). take k (x .follow)) (marks .marks))
+      ∙ take-marked (p .last .0) (p .first .0) k (drop (p .at) s) (p .nullable) f₁ (λ x m. own x m .0)
+
+  lasts-after : (p r : Part) (f₁ f₂ : List ℕ) → Suffixed s p f₁ r f₂ → Own p → Own r
+  lasts-after p r f₁ f₂ marks own x m =
+      let there = own x (subst (Member x) (ap (λ (y : Part). y .last .0) (marks .same)) m) in
+      (there .0, omega (arith, there .1, next-after p r f₁ f₂ marks))
 
   room-after : (u t : Tree) (w rest : Bytes) → suffixes u w ≡ parsed t rest → Room labels t k follow → Room labels u k follow
   room-after u t w rest e room =
@@ -118,6 +134,8 @@ module _ (labels : List Bytes) (s : Bytes) (at k d : ℕ) (follow enter : List �
         counts = omega (arith, name .counts, next-after p r f₁ f₂ marks);
         same-follow = marks .same-follow ∙ name .same-follow;
         same-enter = name .same-enter;
+        kept = kept-after p r f₁ f₂ marks (name .lasts) ∙ name .kept;
+        lasts = lasts-after p r f₁ f₂ marks (name .lasts);
         reads = reads;
         sure = λ h. sure (name .sure (omega (arith, next-after p r f₁ f₂ marks)));
       }
@@ -140,7 +158,7 @@ module _ (labels : List Bytes) (s : Bytes) (at k d : ℕ) (follow enter : List �
     -- A parenthesis too deep.
     pub factor-deep : mostNesting ≤ d → k ≤ nowhere → Builds factors 1 labels s at k d follow enter (fault (c .at)) follow enter
     factor-deep deep counts =
-        builds-fault factors 1 labels s at k d (c .at) follow enter follow enter (omega (arith, opened .next)) counts refl refl
+        builds-fault factors 1 labels s at k d (c .at) follow enter follow enter (omega (arith, opened .next)) counts refl refl refl
         (λ n t rest enough e room shallow. omega (arith, nests, deeper (d + 1) (drop (c .at) s)))
 
     -- `()`, and the marks after it.
@@ -153,6 +171,8 @@ module _ (labels : List Bytes) (s : Bytes) (at k d : ℕ) (follow enter : List �
           counts = omega (arith, next-after (unit (c′ .at) k) r follow f₂ marks);
           same-follow = marks .same-follow;
           same-enter = refl;
+          kept = kept-after (unit (c′ .at) k) r follow f₂ marks (λ x m. absurd (member-none x m));
+          lasts = lasts-after (unit (c′ .at) k) r follow f₂ marks (λ x m. absurd (member-none x m));
           reads = reads;
           sure = λ h.
               sure-marks empty (unit (c′ .at) k) r follow f₂ marks refl (sym (add-zero k)) (omega (arith, nests, closes))
@@ -185,6 +205,8 @@ module _ (labels : List Bytes) (s : Bytes) (at k d : ℕ) (follow enter : List �
             counts = omega (arith, inner .counts, next-after (ended (c′ .at) (p .nullable) p) r f₁ f₂ marks);
             same-follow = marks .same-follow ∙ inner .same-follow;
             same-enter = inner .same-enter;
+            kept = kept-after (ended (c′ .at) (p .nullable) p) r f₁ f₂ marks (inner .lasts) ∙ inner .kept;
+            lasts = lasts-after (ended (c′ .at) (p .nullable) p) r f₁ f₂ marks (inner .lasts);
             reads = reads;
             sure = λ h. sure (inner .sure (omega (arith, next-after (ended (c′ .at) (p .nullable) p) r f₁ f₂ marks)));
           }
@@ -223,7 +245,7 @@ module _ (labels : List Bytes) (s : Bytes) (at k d : ℕ) (follow enter : List �
           → Builds factors 1 labels s at k d follow enter (fault (p .at)) f₁ e₁
       factor-open counts not-closed =
           builds-fault factors 1 labels s at k d (p .at) follow enter f₁ e₁ (omega (arith, opened .next, inner .onward)) counts
-          (inner .same-follow) (inner .same-enter) none-read
+          (inner .same-follow) (inner .same-enter) (inner .kept) none-read
         where
           none-read : (n : ℕ) (t : Tree) (rest : Bytes) → 3 * (length s - at) + 1 < n → factors n (drop at s) ≡ parsed t rest
               → Room labels t k follow → nesting d (drop at s) ≤ mostNesting → ⊥

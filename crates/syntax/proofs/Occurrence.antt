@@ -2,15 +2,16 @@
 use Prim.Native.Nat.{ℕ, _+_, _-_, _≤_, _<_}
 use mathlib.Core.Bool.{Bool, true, false, _&&_, false≢true}
 use mathlib.Core.List.{List, [], _∷_}
-use mathlib.Core.Path.{_≡_, refl, sym, ap, _∙_}
+use mathlib.Core.Path.{_≡_, refl, sym, ap, _∙_, subst}
 use native.Mathlib.Nat.{zero-lt-suc}
 use native.Mathlib.Omega.{arith}
 use lib.Dec.{eqb, ltb}
 use lib.ListN.{length, take, drop, set, getD, length-set, length-drop}
-use lib.Seq.{drop-drop, drop-at}
+use lib.Seq.{drop-drop, drop-at, take-set-le}
 use borrow.Author.Tests.{lt-ltb, le-ltb}
 use Rattle.theory.specs.Expression.{label}
-use Rattle.theory.specs.Places.{none, one, union, when}
+use Rattle.theory.specs.Places.{Member, none, one, union, when}
+use Rattle.theory.specs.PlacesLaws.{member-one}
 use Rattle.places.specs.declared.Places.{Places}
 use Rattle.syntax.specs.declared.parts.Part.{Part}
 use Rattle.syntax.specs.Byte.{Bytes, kind, letter}
@@ -69,6 +70,8 @@ module _ (labels : List Bytes) (s : Bytes) (at k : ℕ) (follow : List ℕ) (end
         counts = omega (arith, ap (λ (x : Part). x .next) same);
         same-follow = ap length stored ∙ length-set follow k none;
         same-enter = ap length entered ∙ length-set enter a (union (getD enter a 0) (p .0));
+        kept = ap (take k) stored ∙ take-set-le k follow k none (omega arith);
+        lasts = lasts;
         reads = reads;
         sure = λ h. record {
           tree = label (run (drop at s));
@@ -81,6 +84,11 @@ module _ (labels : List Bytes) (s : Bytes) (at k : ℕ) (follow : List ℕ) (end
     where
       is-one : p .0 ≡ one k
       is-one = place ∙ ap (λ b. when b (one k)) (lt-ltb k 64 few)
+
+      lasts : (x : ℕ) → Member x (r .last .0) → (k ≤ x) × (x < r .next)
+      lasts x m =
+          let here : x ≡ k = member-one x k .0 (subst (Member x) (ap (λ (y : Part). y .last .0) same ∙ is-one) m) in
+          (omega arith, omega (arith, ap (λ (y : Part). y .next) same))
 
       entered-one : e₁ ≡ set enter a (union (getD enter a 0) (one k))
       entered-one = entered ∙ ap (λ x. set enter a (union (getD enter a 0) x)) is-one
@@ -109,7 +117,7 @@ module _ (labels : List Bytes) (s : Bytes) (at k : ℕ) (follow : List ℕ) (end
       → (d : ℕ) → Builds (λ n. named) 0 labels s at k d follow enter r follow enter
   occurrence-none enter r counts no-label same d =
       rw same
-      (builds-fault (λ n. named) 0 labels s at k d at follow enter follow enter (omega arith) counts refl refl
+      (builds-fault (λ n. named) 0 labels s at k d at follow enter follow enter (omega arith) counts refl refl refl
       (λ n t rest enough e room shallow. no-label t rest e room))
 
   no-name : named (drop at s) ≡ failed → NoLabel labels s at k follow

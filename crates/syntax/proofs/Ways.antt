@@ -3,12 +3,16 @@
 use Prim.Native.Nat.{ℕ, zero, suc, _+_, _*_, _-_, _≤_, _<_}
 use mathlib.Core.Bool.{true}
 use mathlib.Core.List.{List, _++_}
+use mathlib.Core.Logic.{_⊎_, inl, inr, ⊎-elim}
 use mathlib.Core.Option.{Option, some, none}
 use mathlib.Core.Path.{_≡_, refl, sym, ap, _∙_}
 use native.Mathlib.Omega.{arith}
-use lib.ListN.{length, drop, length-append}
+use lib.ListN.{length, take, drop, length-append}
+use lib.Seq.{take-take}
 use Rattle.theory.specs.Expression.{alternative, sequence}
 use Rattle.theory.specs.Standing.{size}
+use Rattle.theory.specs.Places.{Member, when}
+use Rattle.theory.specs.PlacesLaws.{member-union, member-when}
 use Rattle.theory.specs.Automaton.{link}
 use Rattle.theory.specs.AutomatonLaws.{length-link}
 use Rattle.syntax.specs.declared.cursor.Cursor.{Cursor}
@@ -21,6 +25,7 @@ use Rattle.syntax.specs.Limits.{mostNesting, balance, nesting, leaves}
 use Rattle.syntax.specs.LimitsLaws.{leaves-size, known-both}
 use Rattle.syntax.specs.Resolve.{numbered, known}
 use Rattle.syntax.specs.Part.{either, both}
+use Rattle.syntax.specs.Link.{take-link}
 use Rattle.syntax.specs.PlaceLaws.{Past, past-level}
 use Rattle.syntax.specs.Build.{Built, Room, Read, Reads, Sure, Builds}
 use Rattle.syntax.specs.BuildLaws.{built-alternative, built-sequence}
@@ -86,6 +91,8 @@ module _ (f g : ℕ → Bytes → Parsed) (join : Tree → Tree → Tree) (m ran
         counts = left .counts;
         same-follow = left .same-follow;
         same-enter = left .same-enter;
+        kept = left .kept;
+        lasts = left .lasts;
         reads = reads;
         sure = sure;
       }
@@ -126,18 +133,29 @@ module _ (f g : ℕ → Bytes → Parsed) (join : Tree → Tree → Tree) (m ran
       → Builds f (suc rank) labels s (c .at) (p .next) d f₁ e₁ q f₂ e₂
       → ((l u : Tree) → k + size (numbered labels l) ≤ length follow → Built k (numbered labels l) follow enter p f₁ e₁
       → Built (p .next) (numbered labels u) f₁ e₁ q f₂ e₂ → Built k (numbered labels (join l u)) follow enter r f₃ e₂)
-      → r .at ≡ q .at → r .next ≡ q .next → length f₃ ≡ length f₂ → Builds f (suc rank) labels s at k d follow enter r f₃ e₂
+      → r .at ≡ q .at → r .next ≡ q .next → length f₃ ≡ length f₂ → take k f₃ ≡ take k f₂
+      → ((x : ℕ) → Member x (r .last .0) → Member x (p .last .0) ⊎ Member x (q .last .0)) → Builds f (suc rank) labels s at k d follow enter r f₃ e₂
   unfolding joined
-  way-more c q r f₂ e₂ f₃ mark right build same-at same-next same-length =
+  way-more c q r f₂ e₂ f₃ mark right build same-at same-next same-length same-front same-lasts =
       record {
         onward = omega (arith, left .onward, right .onward, mark .next);
         counts = omega (arith, left .counts, right .counts);
         same-follow = same-length ∙ right .same-follow ∙ left .same-follow;
         same-enter = right .same-enter ∙ left .same-enter;
+        kept = same-front ∙ front ∙ left .kept;
+        lasts = λ x m. own x (same-lasts x m);
         reads = reads;
         sure = λ h. sure (left .sure (omega (arith, right .counts))) (right .sure (omega arith));
       }
     where
+      front : take k f₂ ≡ take k f₁
+      front =
+          sym (take-take k (p .next) f₂ (left .counts)) ∙ ap (take k) (right .kept) ∙ take-take k (p .next) f₁ (left .counts)
+
+      own : (x : ℕ) → Member x (p .last .0) ⊎ Member x (q .last .0) → (k ≤ x) × (x < r .next)
+      own x (inl m) = (left .lasts x m .0, omega (arith, left .lasts x m .1, right .counts))
+      own x (inr m) = (omega (arith, left .counts, right .lasts x m .0), omega (arith, right .lasts x m .1))
+
       nests : nesting d (drop (p .at) s) ≡ nesting d (drop (c .at) s)
       nests = past-level m s (p .at) c mark d (chain .keeps d)
 
@@ -213,7 +231,8 @@ module _ (labels : List Bytes) (s : Bytes) (at k d : ℕ) (follow enter : List �
     alternative-more c q f₂ e₂ mark right =
         way-more alternatives sequences alternative bar 2 alternatives-chain labels s at k d follow enter p f₁ e₁ left c q
         (either p q) f₂ e₂ f₂ mark right
-        (λ l u room a b. built-alternative k (numbered labels l) (numbered labels u) follow enter p q f₁ e₁ f₂ e₂ room a b) refl refl refl
+        (λ l u room a b. built-alternative k (numbered labels l) (numbered labels u) follow enter p q f₁ e₁ f₂ e₂ room a b) refl refl refl refl
+        (λ x m. member-union x (p .last .0) (q .last .0) .0 m)
 
   module _ (left : Builds factors 1 labels s at k d follow enter p f₁ e₁) where
     pub sequence-fault : 64 < p .next → Builds sequences 2 labels s at k d follow enter p f₁ e₁
@@ -231,3 +250,6 @@ module _ (labels : List Bytes) (s : Bytes) (at k d : ℕ) (follow enter : List �
         (both p q) f₂ e₂ (link (p .last .0) (q .first .0) 0 f₂) mark right
         (λ l u room a b. built-sequence k (numbered labels l) (numbered labels u) follow enter p q f₁ e₁ f₂ e₂ room a b) refl refl
         (length-link (p .last .0) (q .first .0) 0 f₂)
+        (take-link (p .last .0) (q .first .0) k f₂ (λ x m. left .lasts x m .0))
+        (λ x m. ⊎-elim (λ n. inl (member-when (q .nullable) x (p .last .0) .0 n .1)) inr
+        (member-union x (when (q .nullable) (p .last .0)) (q .last .0) .0 m))

@@ -5,9 +5,10 @@ use mathlib.Core.Bool.{Bool, true, false}
 use mathlib.Core.List.{List, [], _∷_, _++_}
 use mathlib.Core.Path.{_≡_}
 use lib.Dec.{eqb}
-use lib.ListN.{length, drop}
+use lib.ListN.{length, take, drop}
 use Rattle.theory.specs.Expression.{Expression}
 use Rattle.theory.specs.Standing.{size}
+use Rattle.theory.specs.Places.{Member}
 use Rattle.theory.specs.Automaton.{nullable, first, last, link, follows, glushkov}
 use Rattle.syntax.specs.declared.build.Automaton.{Automaton as Answer}
 use Rattle.syntax.specs.declared.parts.Part.{Part}
@@ -62,13 +63,16 @@ pub record Sure (f : ℕ → Bytes → Parsed) (rank : ℕ) (labels : List Bytes
   pub shallow : nesting d (drop at s) ≤ max mostNesting (nesting d (drop (r .at) s))
 
 -- What each of the three reading functions promises, for the parser f of its level, d parentheses being open around what it reads: it
--- builds what f reads, and a part that is no fault is one that f reads. It never goes back, in the text or in the numbers of places.
+-- builds what f reads, and a part that is no fault is one that f reads. It never goes back, in the text or in the numbers of places; the
+-- entries of places before the part's stay as they are, and the part's last places are its own.
 pub record Builds (f : ℕ → Bytes → Parsed) (rank : ℕ) (labels : List Bytes) (s : Bytes) (at k d : ℕ) (follow enter : List ℕ) (r : Part)
     (follow′ enter′ : List ℕ) : Type 0 where
   pub onward : at ≤ r .at
   pub counts : k ≤ r .next
   pub same-follow : length follow′ ≡ length follow
   pub same-enter : length enter′ ≡ length enter
+  pub kept : take k follow′ ≡ take k follow
+  pub lasts : (x : ℕ) → Member x (r .last .0) → (k ≤ x) × (x < r .next)
   pub reads : Reads f rank labels s at k d follow enter r follow′ enter′
   pub sure : r .next ≤ 64 → Sure f rank labels s at k d r
 

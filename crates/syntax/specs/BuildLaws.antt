@@ -6,10 +6,11 @@ use mathlib.Core.Path.{_≡_, refl, sym, ap, ap₂, _∙_}
 use native.Mathlib.Nat.{add-zero, zero-add}
 use native.Mathlib.Omega.{arith}
 use lib.Dec.{eqb}
-use lib.ListN.{length, drop, getD, set}
+use lib.ListN.{length, take, drop, getD, set}
 use Rattle.theory.specs.Expression.{Expression, empty, label, alternative, sequence, star, optional}
 use Rattle.theory.specs.Standing.{size}
 use Rattle.theory.specs.Places.{Member, one, union, when}
+use Rattle.theory.specs.PlacesLaws.{member-none}
 use Rattle.theory.specs.Occurrences.{last-within}
 use Rattle.theory.specs.Automaton.{nullable, first, last, link, follows, labelled}
 use Rattle.theory.specs.AutomatonLaws.{length-follows, member-last}
@@ -27,16 +28,18 @@ use Rattle.syntax.specs.Build.{Built, Room, Builds, Marked, marked}
 
 -- A fault is told where nothing is to be built.
 pub builds-fault : (f : ℕ → Bytes → Parsed) (rank : ℕ) (labels : List Bytes) (s : Bytes) (at k d end : ℕ) (follow enter f₁ e₁ : List ℕ)
-    → at ≤ end → k ≤ nowhere → length f₁ ≡ length follow → length e₁ ≡ length enter
+    → at ≤ end → k ≤ nowhere → length f₁ ≡ length follow → length e₁ ≡ length enter → take k f₁ ≡ take k follow
     → ((n : ℕ) (t : Tree) (rest : Bytes) → 3 * (length s - at) + rank < n → f n (drop at s) ≡ parsed t rest → Room labels t k follow
     → nesting d (drop at s) ≤ mostNesting → ⊥)
     → Builds f rank labels s at k d follow enter (fault end) f₁ e₁
-builds-fault f rank labels s at k d end follow enter f₁ e₁ onward counts same-follow same-enter none =
+builds-fault f rank labels s at k d end follow enter f₁ e₁ onward counts same-follow same-enter kept none =
     record {
       onward = onward;
       counts = counts;
       same-follow = same-follow;
       same-enter = same-enter;
+      kept = kept;
+      lasts = λ x m. absurd (member-none x m);
       reads = λ n t rest enough e room shallow. absurd (none n t rest enough e room shallow);
       sure = λ h. absurd (omega arith);
     }

@@ -1,6 +1,6 @@
 -- Laws of adding links to a table of follow sets (theory's `link`): over tables behind one another, where no entry's place is among the
 -- ends, and one end after the other.
-use Prim.Native.Nat.{ℕ, suc, _+_, _-_, _^_, _≤_, _<_}
+use Prim.Native.Nat.{ℕ, zero, suc, _+_, _-_, _^_, _≤_, _<_}
 use mathlib.Core.Bool.{Bool, true, false}
 use mathlib.Core.List.{List, [], _∷_, _++_}
 use mathlib.Core.Logic.{_↔_, _≢_, _⊎_, inl, inr, ⊎-elim}
@@ -10,7 +10,7 @@ use native.Mathlib.Nat.{add-zero}
 use native.Mathlib.Omega.{arith}
 use lib.Bits.{bitAnd, or-zero-r}
 use lib.Count.{trailingZeros}
-use lib.ListN.{length, getD, set, length-set}
+use lib.ListN.{length, take, getD, set, length-set}
 use lib.Seq.{getD-set-same, getD-set-other, ext-getD}
 use Rattle.theory.specs.Places.{Member, member, none, union, when}
 use Rattle.theory.specs.PlacesLaws.{member-test, member-none, member-union, equal-members}
@@ -26,17 +26,30 @@ link-append ends more k [] t = ap (λ (n : ℕ). link ends more n t) (sym (add-z
 link-append ends more k (x ∷ s) t =
     ap₂ _∷_ refl (link-append ends more (suc k) s t ∙ ap (λ (n : ℕ). link ends more (suc k) s ++ link ends more n t) (omega arith))
 
+-- An entry whose place is not among the ends.
+apart : (s more : ℕ) (b : Bool) → ¬ (b ≡ true) → union s (when b more) ≡ s
+apart s more true n = absurd (n refl)
+apart s more false n = or-zero-r s
+
 -- A table none of whose places is among the ends.
 pub link-none : (ends more k : ℕ) (t : List ℕ) → ((x : ℕ) → k ≤ x → x < k + length t → ¬ Member x ends) → link ends more k t ≡ t
 unfolding link
 link-none ends more k [] h = refl
 link-none ends more k (s ∷ t) h =
-    ap₂ _∷_ (entry (member k ends) (λ e. h k (omega arith) (omega arith) (member-test k ends .0 e)))
+    ap₂ _∷_ (apart s more (member k ends) (λ e. h k (omega arith) (omega arith) (member-test k ends .0 e)))
     (link-none ends more (suc k) t (λ x l u. h x (omega arith) (omega arith)))
-  where
-    entry : (b : Bool) → ¬ (b ≡ true) → union s (when b more) ≡ s
-    entry true n = absurd (n refl)
-    entry false n = or-zero-r s
+
+-- The entries before all of the ends.
+take-from : (ends more n k : ℕ) (t : List ℕ) → ((x : ℕ) → Member x ends → n + k ≤ x) → take k (link ends more n t) ≡ take k t
+unfolding link
+take-from ends more n zero t h = refl
+take-from ends more n (suc k) [] h = refl
+take-from ends more n (suc k) (s ∷ t) h =
+    ap₂ _∷_ (apart s more (member n ends) (λ e. omega (arith, h n (member-test n ends .0 e))))
+    (take-from ends more (suc n) k t (λ x m. omega (arith, h x m)))
+
+pub take-link : (ends more k : ℕ) (t : List ℕ) → ((x : ℕ) → Member x ends → k ≤ x) → take k (link ends more 0 t) ≡ take k t
+take-link ends more k t h = take-from ends more 0 k t (λ x m. omega (arith, h x m))
 
 -- The entries of a linked table.
 member-linked : (ends more : ℕ) (t : List ℕ) (j y : ℕ) → j < length t

@@ -5,16 +5,18 @@ use mathlib.Core.List.{List, [], _∷_}
 use mathlib.Core.Path.{_≡_, refl, sym, ap, _∙_}
 use native.Mathlib.Numerals.{add-one}
 use lib.Dec.{eqb}
-use lib.ListN.{length, drop, getD, drop-of-length-le}
+use lib.ListN.{length, take, drop, getD, drop-of-length-le}
 use lib.Seq.{drop-cons}
 use borrow.Author.Tests.{eq-eqb, ne-eqb, eqb-true}
 use Rattle.theory.specs.Expression.{star, optional}
+use Rattle.theory.specs.Places.{Member}
 use Rattle.theory.specs.Automaton.{link}
 use Rattle.syntax.specs.Byte.{Bytes, asterisk, question}
 use Rattle.syntax.specs.Grammar.{Tree}
 use Rattle.syntax.specs.Parser.{parsed, suffixes}
 use Rattle.syntax.specs.Limits.{balance, nesting, leaves}
 use Rattle.syntax.specs.NestingLaws.{level}
+use Rattle.syntax.specs.Link.{take-link}
 use Rattle.syntax.specs.Build.{marked}
 
 module _ (lasts firsts : ℕ) (s : Bytes) (at : ℕ) (n : Bool) (t : List ℕ) where
@@ -38,6 +40,24 @@ module _ (lasts firsts : ℕ) (s : Bytes) (at : ℕ) (n : Bool) (t : List ℕ) w
   pub marked-end : length s ≤ at → marked lasts firsts (drop at s) n t ≡ record { nullable = n; follow = t; rest = drop at s }
   unfolding marked
   marked-end h = rw (drop-of-length-le s h) refl
+
+-- The marks leave the entries before all of the last places as they are.
+pub take-marked : (lasts firsts k : ℕ) (w : Bytes) (n : Bool) (t : List ℕ) → ((x : ℕ) → Member x lasts → k ≤ x)
+    → take k (marked lasts firsts w n t .follow) ≡ take k t
+unfolding marked
+take-marked lasts firsts k [] n t h = refl
+take-marked lasts firsts k (b ∷ s) n t h =
+    go (eqb b asterisk) refl (eqb b question) refl
+    (take-marked lasts firsts k s true (link lasts firsts 0 t) h ∙ take-link lasts firsts k t h)
+    (take-marked lasts firsts k s true t h)
+  where
+    go : (x : Bool) → eqb b asterisk ≡ x → (y : Bool) → eqb b question ≡ y
+        → take k (marked lasts firsts s true (link lasts firsts 0 t) .follow) ≡ take k t
+        → take k (marked lasts firsts s true t .follow) ≡ take k t
+        → take k (marked lasts firsts (b ∷ s) n t .follow) ≡ take k t
+    go true e y f p q = rw (e, marked) p
+    go false e true f p q = rw (e, marked, f, marked) q
+    go false e false f p q = rw (e, marked, f, marked) refl
 
 -- The parser reads the marks in w after the tree u, which leaves `rest`: neither the leaves nor the nesting change.
 pub record After (u : Tree) (w rest : Bytes) : Type 0 where
