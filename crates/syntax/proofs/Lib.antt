@@ -5,5 +5,6 @@ pub mod Named
 pub mod Reading
 pub mod Runs
 pub mod Ways
+pub mod Turns
 pub mod FactorWays
 pub mod Occurrence

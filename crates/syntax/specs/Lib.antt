@@ -28,6 +28,7 @@ pub mod Part
 pub mod Link
 pub mod Splice
 pub mod Entered
+pub mod Joining
 pub mod Build
 pub mod BuildLaws
 pub mod FineLaws

@@ -13,6 +13,10 @@ places s = record { 0 = s }
 abbrev pub unit : ℕ → ℕ → Part
 unit at next = record { at = at; next = next; nullable = true; first = places none; last = places none }
 
+-- The part before all alternatives: it has no path.
+abbrev pub nothing : ℕ → ℕ → Part
+nothing at next = record { at = at; next = next; nullable = false; first = places none; last = places none }
+
 -- A number beyond all places.
 abbrev pub nowhere : ℕ
 nowhere = 18446744073709551615

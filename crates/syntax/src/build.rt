@@ -13,9 +13,12 @@ use super::parts::when;
 use super::sets::link;
 use super::sets::put;
 use places::Places;
+ghost use Prim.Native.Nat.{_≤_, _<_};
 ghost use mathlib.Core.Path.{_≡_};
+ghost use lib.ListN.{drop};
 ghost use Rattle.syntax.specs.KindTable.{kindTable};
-ghost use Rattle.syntax.specs.Parser.{alternatives, sequences, factors};
+ghost use Rattle.syntax.specs.Parser.{alternatives, sequences, factors, pastMark};
+ghost use Rattle.syntax.specs.Place.{moved};
 ghost use Rattle.syntax.specs.Resolve.{namesAt};
 ghost use Rattle.syntax.specs.Build.{Builds, Makes};
 
@@ -69,6 +72,18 @@ pub fn build(
     }
 }
 
+// Past the mark behind a part that is no fault.
+fn behind(s: &[u8], part: Part, mark: u8) -> Moved
+    ensures { λ r. ⌜ (part .next ≤ 64 → r ≡ moved (now (s .entry)) (pastMark mark (drop (part .at) (now (s .entry)))))
+        × (64 < part .next → r ≡ Moved.Failed) ⌝ }
+{
+    if 64 < part.next {
+        return Moved::Failed;
+    }
+    let end = Cursor { at: part.at };
+    end.mark(s, mark)
+}
+
 fn alternative(
     s: &[u8],
     text: &[u8],
@@ -84,18 +99,15 @@ fn alternative(
     ensures { λ r. ⌜ Builds alternatives 3 (namesAt (now (text .entry)) (now (names .entry))) (now (s .entry)) (c .at) k «open»
         (now (follow .entry)) (now (enter .entry)) r (now (follow .exit)) (now (enter .exit)) ⌝ }
 {
-    let left = sequence(s, text, names, follow, enter, c, k, open, kinds);
-    if 64 < left.next {
-        return left;
-    }
-    let end = Cursor { at: left.at };
-    let moved = end.mark(s, b'|');
-    match moved {
-        Moved::To(next) => {
-            let right = alternative(s, text, names, follow, enter, next, left.next, open, kinds);
-            left.either(right)
+    let mut part = Part::nothing(c.at, k);
+    let mut from = c;
+    loop {
+        let right = sequence(s, text, names, follow, enter, from, part.next, open, kinds);
+        part = part.either(right);
+        match behind(s, right, b'|') {
+            Moved::To(next) => from = next,
+            Moved::Failed => return part,
         }
-        Moved::Failed => left,
     }
 }
 

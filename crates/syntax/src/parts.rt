@@ -2,7 +2,7 @@
 use places::Places;
 ghost use mathlib.Core.Path.{_≡_};
 ghost use Rattle.theory.specs.Places.{when};
-ghost use Rattle.syntax.specs.Part.{unit, fault, single, either, both, ended};
+ghost use Rattle.syntax.specs.Part.{unit, nothing, fault, single, either, both, ended};
 
 // What reading a part of an expression gives: where it ends in the text, the number of the next place, whether it has the empty path,
 // and the places that can be read first and last in it.
@@ -40,6 +40,19 @@ impl Part {
             at: at,
             next: next,
             nullable: true,
+            first: Places::EMPTY,
+            last: Places::EMPTY,
+        }
+    }
+
+    // The part before all alternatives: it has no path.
+    pub fn nothing(at: usize, next: u64) -> Part
+        ensures { λ r. ⌜ r ≡ nothing at next ⌝ }
+    {
+        Part {
+            at: at,
+            next: next,
+            nullable: false,
             first: Places::EMPTY,
             last: Places::EMPTY,
         }

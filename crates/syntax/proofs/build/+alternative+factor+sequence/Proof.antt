@@ -5,7 +5,8 @@ use mathlib.Core.Path.{sym, _∙_}
 use Rattle.syntax.specs.Byte.{dot, bar, opening, closing}
 use Rattle.syntax.specs.Resolve.{namesAt}
 use Rattle.syntax.specs.PlaceLaws.{mark-to, mark-failed}
-use Rattle.syntax.proofs.Ways.{alternative-fault, alternative-alone, alternative-more, sequence-fault, sequence-alone, sequence-more}
+use Rattle.syntax.proofs.Turns.{behind-to, behind-failed, Choosing, choosing-start, choosing-on, choosing-end}
+use Rattle.syntax.proofs.Ways.{sequence-fault, sequence-alone, sequence-more}
 use Rattle.syntax.proofs.FactorWays.{factor-name, factor-deep, factor-unit, factor-group, factor-open}
 use borrow.Author.Needs.{needs}
 use Prim.Native.Nat.{ℕ, _+_, _*_, _-_, _<_}
@@ -21,6 +22,7 @@ use Rattle.syntax.proofs.build.+alternative+factor+sequence.Lts-factor 
 use Rattle.syntax.proofs.build.sequence.Reads as sequence
 use Rattle.syntax.proofs.build.sequence.Kinds as sequence-kinds
 use Rattle.syntax.proofs.build.+alternative+factor+sequence.Lts-sequence as sequence-lts
+use Rattle.syntax.proofs.build.behind.Reads as behind-reads
 use Rattle.syntax.proofs.cursor.Cursor.mark.Reads as mark-reads
 use Rattle.syntax.proofs.leaf.occurrence.Reads as occurrence-reads
 use Rattle.syntax.proofs.leaf.suffixes.Reads as suffixes-reads
@@ -28,6 +30,7 @@ use Rattle.syntax.proofs.parts.Part.both.Reads as both-reads
 use Rattle.syntax.proofs.parts.Part.either.Reads as either-reads
 use Rattle.syntax.proofs.parts.Part.ending.Reads as ending-reads
 use Rattle.syntax.proofs.parts.Part.fault.Reads as fault-reads
+use Rattle.syntax.proofs.parts.Part.nothing.Reads as nothing-reads
 use Rattle.syntax.proofs.parts.Part.unit.Reads as unit-reads
 use Rattle.syntax.proofs.sets.link.Reads as link-reads
 use Rattle.syntax.proofs.build.+alternative+factor+sequence.{statement}
@@ -66,15 +69,22 @@ sequence-below t =
 -- What each function may assume of those it calls.
 abbrev alternative-calls : ℕ → alternative-lts.Claims
 alternative-calls t = (
+  nothing-reads.Asked,
+  nothing-reads.Learnt,
   sequence-below t,
   sequence.Post,
-  mark-reads.Asked,
-  mark-reads.Learnt,
-  alternative-below t,
-  alternative.Post,
   either-reads.Asked,
   either-reads.Learnt,
+  behind-reads.Asked,
+  behind-reads.Learnt,
 )
+
+abbrev alternative-Inv-loop : alternative-lts.InvT-loop
+alternative-Inv-loop s text names follow₀ enter₀ k «open» kinds part₀ from₀ follow enter part from =
+    Choosing (namesAt text names) s (from₀ .at) k «open» follow₀ enter₀ part (from .at) follow enter
+
+abbrev alternative-μ-loop : alternative-lts.MeasureT-loop
+alternative-μ-loop s text names follow₀ enter₀ k «open» kinds part₀ from₀ follow enter part from = length s - from .at
 
 abbrev factor-calls : ℕ → factor-lts.Claims
 factor-calls t = (
@@ -108,92 +118,84 @@ sequence-calls t = (
   both-reads.Learnt,
 )
 
-alternative-sequence-requires : (t : ℕ) → alternative-lts.Need-sequence-requires (alternative-calls t) (alternative-at t) alternative.Post
-alternative-sequence-requires t c κs = search needs
+alternative-nothing-requires : (t : ℕ)
+    → alternative-lts.Need-nothing-requires (alternative-calls t) (alternative-at t) alternative.Post alternative-Inv-loop alternative-μ-loop
+alternative-nothing-requires t c κs = search needs
 
-alternative-same-length : (t : ℕ) → alternative-lts.Need-same-length (alternative-calls t) (alternative-at t) alternative.Post
-alternative-same-length t c = search needs
+alternative-loop-holds : (t : ℕ)
+    → alternative-lts.Need-loop-holds (alternative-calls t) (alternative-at t) alternative.Post alternative-Inv-loop alternative-μ-loop
+alternative-loop-holds t c =
+    let a = c .before .before .before .before .before .before .args in
+    choosing-start (namesAt (a .text .now) (a .names .now)) (a .s .now) (a .c .at) (a .k) (a .«open») (a .follow .now) (a .enter .now)
+    (c .nothing .result) (c .nothing .ensures)
 
-alternative-same-length-2 : (t : ℕ) → alternative-lts.Need-same-length-2 (alternative-calls t) (alternative-at t) alternative.Post
-alternative-same-length-2 t c = search needs
+alternative-sequence-requires : (t : ℕ)
+    → alternative-lts.Need-sequence-requires (alternative-calls t) (alternative-at t) alternative.Post alternative-Inv-loop alternative-μ-loop
+alternative-sequence-requires t c κs =
+    let l = c .before .before .loop in
+    let start = c .before .before .before .before .before .before .before .before .before in
+    (omega (arith, l .inv .onward, start .pre .0), start .pre .1)
 
-alternative-returns : (t : ℕ) → alternative-lts.Need-returns (alternative-calls t) (alternative-at t) alternative.Post
-alternative-returns t c =
-    let before = c .before .before .before .before .before .before in
-    let start = before .before .before .before .before .before .before .before .before in
-    let a = start .args in
-    let left = before .sequence in
-    alternative-fault (namesAt (a .text .now) (a .names .now)) (a .s .now) (a .c .at) (a .k) (a .«open») (a .follow .now) (a .enter .now)
-    (left .result) (left .last .1 .1 .1 .0) (left .last .1 .1 .1 .1 .0) (left .ensures) (c .if1 .taken)
-
-alternative-mark-requires : (t : ℕ) → alternative-lts.Need-mark-requires (alternative-calls t) (alternative-at t) alternative.Post
-alternative-mark-requires t c κs = search needs
-
-alternative-enum-known-moved : (t : ℕ) → alternative-lts.Need-enum-known-moved (alternative-calls t) (alternative-at t) alternative.Post
-alternative-enum-known-moved t c = search needs
-
-alternative-alternative-requires : (t : ℕ) → alternative-lts.Need-alternative-requires (alternative-calls t) (alternative-at t) alternative.Post
-alternative-alternative-requires t c κs =
-    let moved = c .before .before .before in
-    let marked = moved .before .before in
-    let left = marked .before .before .before .before .before .before .before in
-    let start = left .before .before .before .before .before .before .before .before in
-    let to = moved .moved .given in
-    let at = left .sequence .result .at in
-    let past = mark-to bar (start .args .s .now) at (to .0 .0) (sym (to .1) ∙ marked .mark .ensures) in
-    (omega (arith, past .inside, past .next, left .sequence .ensures .onward, start .pre .0), start .pre .1)
-
-alternative-either-requires : (t : ℕ) → alternative-lts.Need-either-requires (alternative-calls t) (alternative-at t) alternative.Post
+alternative-either-requires : (t : ℕ)
+    → alternative-lts.Need-either-requires (alternative-calls t) (alternative-at t) alternative.Post alternative-Inv-loop alternative-μ-loop
 alternative-either-requires t c κs = search needs
 
-alternative-enum-told : (t : ℕ) → alternative-lts.Need-enum-told (alternative-calls t) (alternative-at t) alternative.Post
+alternative-behind-requires : (t : ℕ)
+    → alternative-lts.Need-behind-requires (alternative-calls t) (alternative-at t) alternative.Post alternative-Inv-loop alternative-μ-loop
+alternative-behind-requires t c κs = search needs
+
+alternative-enum-known-next : (t : ℕ)
+    → alternative-lts.Need-enum-known-next (alternative-calls t) (alternative-at t) alternative.Post alternative-Inv-loop alternative-μ-loop
+alternative-enum-known-next t c = search needs
+
+alternative-loop-less : (t : ℕ)
+    → alternative-lts.Need-loop-less (alternative-calls t) (alternative-at t) alternative.Post alternative-Inv-loop alternative-μ-loop
+alternative-loop-less t c =
+    let a = c .before .before .before .before .before .before .before .before .before .before .before .before .before .before .before .before .before .before .before .args in
+    let l = c .before .before .before .before .before .before .before .before .before .before .before .before .loop in
+    let right = c .before .before .before .before .before .before .before .before .before .sequence in
+    let behind = c .before .before .before .behind in
+    let to = c .before .next .given in
+    let past = behind-to bar (a .s .now) (right .result) (behind .result) (behind .ensures .0) (behind .ensures .1) (to .0 .0) (sym (to .1)) in
+    omega (arith, past .inside, past .next, right .ensures .onward)
+
+alternative-loop-again : (t : ℕ)
+    → alternative-lts.Need-loop-again (alternative-calls t) (alternative-at t) alternative.Post alternative-Inv-loop alternative-μ-loop
+alternative-loop-again t c =
+    let a = c .before .before .before .before .before .before .before .before .before .before .before .before .before .before .before .before .before .before .before .args in
+    let l = c .before .before .before .before .before .before .before .before .before .before .before .before .loop in
+    let right = c .before .before .before .before .before .before .before .before .before .sequence in
+    let behind = c .before .before .before .behind in
+    let to = c .before .next .given in
+    let past = behind-to bar (a .s .now) (right .result) (behind .result) (behind .ensures .0) (behind .ensures .1) (to .0 .0) (sym (to .1)) in
+    rw (c .before .before .before .before .either .ensures)
+    (choosing-on (namesAt (a .text .now) (a .names .now)) (a .s .now) (a .c .at) (a .k) (a .«open») (a .follow .now) (a .enter .now)
+    (l .part) (l .from .at) (l .follow) (l .enter) (l .inv) (right .result) (right .last .1 .1 .1 .0) (right .last .1 .1 .1 .1 .0) (right .ensures)
+    (to .0 .0) past)
+
+alternative-enum-told : (t : ℕ)
+    → alternative-lts.Need-enum-told (alternative-calls t) (alternative-at t) alternative.Post alternative-Inv-loop alternative-μ-loop
 alternative-enum-told t c = search needs
 
-alternative-same-length-3 : (t : ℕ) → alternative-lts.Need-same-length-3 (alternative-calls t) (alternative-at t) alternative.Post
-alternative-same-length-3 t c =
-    let read = c .before .before .before .before .before in
-    let before = read .before .before .before .before .before .before .before .before .before .before .before .before .before in
-    read .alternative .kept .1 .1 .1 .0 ∙ before .sequence .kept .1 .1 .1 .0
+alternative-same-length : (t : ℕ)
+    → alternative-lts.Need-same-length (alternative-calls t) (alternative-at t) alternative.Post alternative-Inv-loop alternative-μ-loop
+alternative-same-length t c = c .before .before .before .before .before .before .before .before .sequence .kept .1 .1 .1 .0 ∙ c .before .before .before .before .before .before .before .before .before .before .before .loop .inv .same-follow
 
-alternative-same-length-4 : (t : ℕ) → alternative-lts.Need-same-length-4 (alternative-calls t) (alternative-at t) alternative.Post
-alternative-same-length-4 t c =
-    let read = c .before .before .before .before .before in
-    let before = read .before .before .before .before .before .before .before .before .before .before .before .before .before in
-    read .alternative .kept .1 .1 .1 .1 .0 ∙ before .sequence .kept .1 .1 .1 .1 .0
+alternative-same-length-2 : (t : ℕ)
+    → alternative-lts.Need-same-length-2 (alternative-calls t) (alternative-at t) alternative.Post alternative-Inv-loop alternative-μ-loop
+alternative-same-length-2 t c = c .before .before .before .before .before .before .before .before .sequence .kept .1 .1 .1 .1 .0 ∙ c .before .before .before .before .before .before .before .before .before .before .before .loop .inv .same-enter
 
-alternative-returns-2 : (t : ℕ) → alternative-lts.Need-returns-2 (alternative-calls t) (alternative-at t) alternative.Post
-alternative-returns-2 t c =
-    let read = c .before .before .before .before .before in
-    let moved = read .before .before .before .before in
-    let marked = moved .before .before in
-    let before = marked .before .before .before .before .before .before .before in
-    let start = before .before .before .before .before .before .before .before .before in
-    let a = start .args in
-    let left = before .sequence in
-    let right = read .alternative in
-    let to = moved .moved .given in
-    let past = mark-to bar (a .s .now) (left .result .at) (to .0 .0) (sym (to .1) ∙ marked .mark .ensures) in
-    rw (c .either .ensures)
-    (alternative-more (namesAt (a .text .now) (a .names .now)) (a .s .now) (a .c .at) (a .k) (a .«open») (a .follow .now) (a .enter .now)
-    (left .result) (left .last .1 .1 .1 .0) (left .last .1 .1 .1 .1 .0) (left .ensures) (to .0 .0) (right .result) (right .last .1 .1 .1 .0)
-    (right .last .1 .1 .1 .1 .0) past (right .ensures))
-
-alternative-same-length-5 : (t : ℕ) → alternative-lts.Need-same-length-5 (alternative-calls t) (alternative-at t) alternative.Post
-alternative-same-length-5 t c = search needs
-
-alternative-same-length-6 : (t : ℕ) → alternative-lts.Need-same-length-6 (alternative-calls t) (alternative-at t) alternative.Post
-alternative-same-length-6 t c = search needs
-
-alternative-returns-3 : (t : ℕ) → alternative-lts.Need-returns-3 (alternative-calls t) (alternative-at t) alternative.Post
-alternative-returns-3 t c =
-    let marked = c .before .before in
-    let before = marked .before .before .before .before .before .before .before in
-    let start = before .before .before .before .before .before .before .before .before in
-    let a = start .args in
-    let left = before .sequence in
-    alternative-alone (namesAt (a .text .now) (a .names .now)) (a .s .now) (a .c .at) (a .k) (a .«open») (a .follow .now) (a .enter .now)
-    (left .result) (left .last .1 .1 .1 .0) (left .last .1 .1 .1 .1 .0) (left .ensures)
-    (mark-failed bar (a .s .now) (left .result .at) (sym (c .enum-told .given .1) ∙ marked .mark .ensures))
+alternative-returns : (t : ℕ)
+    → alternative-lts.Need-returns (alternative-calls t) (alternative-at t) alternative.Post alternative-Inv-loop alternative-μ-loop
+alternative-returns t c =
+    let a = c .before .before .before .before .before .before .before .before .before .before .before .before .before .before .before .before .before .before .args in
+    let l = c .before .before .before .before .before .before .before .before .before .before .before .loop in
+    let right = c .before .before .before .before .before .before .before .before .sequence in
+    let behind = c .before .before .behind in
+    rw (c .before .before .before .either .ensures)
+    (choosing-end (namesAt (a .text .now) (a .names .now)) (a .s .now) (a .c .at) (a .k) (a .«open») (a .follow .now) (a .enter .now)
+    (l .part) (l .from .at) (l .follow) (l .enter) (l .inv) (right .result) (right .last .1 .1 .1 .0) (right .last .1 .1 .1 .1 .0) (right .ensures)
+    (behind-failed bar (a .s .now) (right .result) (behind .result) (behind .ensures .0) (behind .ensures .1) (sym (c .enum-told .given .1))))
 
 factor-mark-requires : (t : ℕ) → factor-lts.Need-mark-requires (factor-calls t) (factor-at t) factor.Post
 factor-mark-requires t c κs = search needs
@@ -469,21 +471,20 @@ pub +alternative+factor+sequence-spec : {M : Type 1} → statement M
     close μ-alternative μ-factor μ-sequence (λ t. alternative-lts.spec (alternative-calls t)
     (alternative-at t)
     alternative.Post
+    alternative-Inv-loop
+    alternative-μ-loop
+    (alternative-nothing-requires t)
+    (alternative-loop-holds t)
     (alternative-sequence-requires t)
+    (alternative-either-requires t)
+    (alternative-behind-requires t)
+    (alternative-enum-known-next t)
+    (alternative-loop-less t)
+    (alternative-loop-again t)
+    (alternative-enum-told t)
     (alternative-same-length t)
     (alternative-same-length-2 t)
-    (alternative-returns t)
-    (alternative-mark-requires t)
-    (alternative-enum-known-moved t)
-    (alternative-alternative-requires t)
-    (alternative-either-requires t)
-    (alternative-enum-told t)
-    (alternative-same-length-3 t)
-    (alternative-same-length-4 t)
-    (alternative-returns-2 t)
-    (alternative-same-length-5 t)
-    (alternative-same-length-6 t)
-    (alternative-returns-3 t))
+    (alternative-returns t))
     (λ t. factor-lts.spec (factor-calls t)
     (factor-at t)
     factor.Post
