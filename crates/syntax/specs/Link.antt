@@ -10,7 +10,7 @@ use native.Mathlib.Nat.{add-zero}
 use native.Mathlib.Omega.{arith}
 use lib.Bits.{bitAnd, or-zero-r}
 use lib.Count.{trailingZeros}
-use lib.ListN.{length, take, getD, set, length-set}
+use lib.ListN.{length, take, drop, getD, set, length-set}
 use lib.Seq.{getD-set-same, getD-set-other, ext-getD}
 use Rattle.theory.specs.Places.{Member, member, none, union, when}
 use Rattle.theory.specs.PlacesLaws.{member-test, member-none, member-union, equal-members}
@@ -50,6 +50,23 @@ take-from ends more n (suc k) (s ∷ t) h =
 
 pub take-link : (ends more k : ℕ) (t : List ℕ) → ((x : ℕ) → Member x ends → k ≤ x) → take k (link ends more 0 t) ≡ take k t
 take-link ends more k t h = take-from ends more 0 k t (λ x m. omega (arith, h x m))
+
+-- The entries behind all of the ends.
+drop-from : (ends more n k : ℕ) (t : List ℕ) → ((x : ℕ) → Member x ends → x < n + k) → drop k (link ends more n t) ≡ drop k t
+unfolding link
+drop-from ends more n zero t h = link-none ends more n t (λ x l u m. omega (arith, h x m))
+drop-from ends more n (suc k) [] h = refl
+drop-from ends more n (suc k) (s ∷ t) h = drop-from ends more (suc n) k t (λ x m. omega (arith, h x m))
+
+pub drop-link : (ends more k : ℕ) (t : List ℕ) → ((x : ℕ) → Member x ends → x < k) → drop k (link ends more 0 t) ≡ drop k t
+drop-link ends more k t h = drop-from ends more 0 k t (λ x m. omega (arith, h x m))
+
+-- Links in the first entries alone.
+pub link-take : (ends more n k : ℕ) (t : List ℕ) → take k (link ends more n t) ≡ link ends more n (take k t)
+unfolding link
+link-take ends more n zero t = refl
+link-take ends more n (suc k) [] = refl
+link-take ends more n (suc k) (s ∷ t) = ap₂ _∷_ refl (link-take ends more (suc n) k t)
 
 -- The entries of a linked table.
 member-linked : (ends more : ℕ) (t : List ℕ) (j y : ℕ) → j < length t

@@ -126,21 +126,18 @@ fn sequence(
     ensures { λ r. ⌜ Builds sequences 2 (namesAt (now (text .entry)) (now (names .entry))) (now (s .entry)) (c .at) k «open»
         (now (follow .entry)) (now (enter .entry)) r (now (follow .exit)) (now (enter .exit)) ⌝ }
 {
-    let left = factor(s, text, names, follow, enter, c, k, open, kinds);
-    if 64 < left.next {
-        return left;
-    }
-    let end = Cursor { at: left.at };
-    let moved = end.mark(s, b'.');
-    match moved {
-        Moved::To(next) => {
-            let right = sequence(s, text, names, follow, enter, next, left.next, open, kinds);
-            let lasts = left.last;
-            let firsts = right.first;
-            link(follow, lasts, firsts);
-            left.both(right)
+    let mut part = Part::unit(c.at, k);
+    let mut from = c;
+    loop {
+        let right = factor(s, text, names, follow, enter, from, part.next, open, kinds);
+        let lasts = part.last;
+        let firsts = right.first;
+        link(follow, lasts, firsts);
+        part = part.both(right);
+        match behind(s, right, b'.') {
+            Moved::To(next) => from = next,
+            Moved::Failed => return part,
         }
-        Moved::Failed => left,
     }
 }
 

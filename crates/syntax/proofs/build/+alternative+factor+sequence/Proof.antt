@@ -1,12 +1,12 @@
 -- The three reading functions meet their contracts. Three times the number of unread bytes, with the rank of the level, falls with each
--- call; each way through the code is one lemma (Ways, FactorWays).
+-- call; each turn of a loop, and each way through `factor`, is one lemma (Turns, FactorWays).
 use native.Mathlib.Omega.{arith}
 use mathlib.Core.Path.{sym, _∙_}
 use Rattle.syntax.specs.Byte.{dot, bar, opening, closing}
 use Rattle.syntax.specs.Resolve.{namesAt}
 use Rattle.syntax.specs.PlaceLaws.{mark-to, mark-failed}
-use Rattle.syntax.proofs.Turns.{behind-to, behind-failed, Choosing, choosing-start, choosing-on, choosing-end}
-use Rattle.syntax.proofs.Ways.{sequence-fault, sequence-alone, sequence-more}
+use Rattle.syntax.proofs.Turns.{behind-to, behind-failed}
+use Rattle.syntax.proofs.Turns.{Choosing, choosing-start, choosing-on, choosing-end, Chaining, chaining-start, chaining-on, chaining-end}
 use Rattle.syntax.proofs.FactorWays.{factor-name, factor-deep, factor-unit, factor-group, factor-open}
 use borrow.Author.Needs.{needs}
 use Prim.Native.Nat.{ℕ, _+_, _*_, _-_, _<_}
@@ -106,17 +106,24 @@ factor-calls t = (
 
 abbrev sequence-calls : ℕ → sequence-lts.Claims
 sequence-calls t = (
+  unit-reads.Asked,
+  unit-reads.Learnt,
   factor-below t,
   factor.Post,
-  mark-reads.Asked,
-  mark-reads.Learnt,
-  sequence-below t,
-  sequence.Post,
   link-reads.Asked,
   link-reads.Learnt,
   both-reads.Asked,
   both-reads.Learnt,
+  behind-reads.Asked,
+  behind-reads.Learnt,
 )
+
+abbrev sequence-Inv-loop : sequence-lts.InvT-loop
+sequence-Inv-loop s text names follow₀ enter₀ k «open» kinds part₀ from₀ follow enter part from =
+    Chaining (namesAt text names) s (from₀ .at) k «open» follow₀ enter₀ part (from .at) follow enter
+
+abbrev sequence-μ-loop : sequence-lts.MeasureT-loop
+sequence-μ-loop s text names follow₀ enter₀ k «open» kinds part₀ from₀ follow enter part from = length s - from .at
 
 alternative-nothing-requires : (t : ℕ)
     → alternative-lts.Need-nothing-requires (alternative-calls t) (alternative-at t) alternative.Post alternative-Inv-loop alternative-μ-loop
@@ -374,97 +381,97 @@ factor-returns-5 t c =
     (name .result) (ended .suffixes3 .result) (name .last .1 .1 .1 .0) (name .last .1 .1 .1 .1 .0) (ended .suffixes3 .last .1 .0) none
     (name .ensures (a .«open»)) (ended .suffixes3 .ensures)
 
-sequence-factor-requires : (t : ℕ) → sequence-lts.Need-factor-requires (sequence-calls t) (sequence-at t) sequence.Post
-sequence-factor-requires t c κs = search needs
+sequence-unit-requires : (t : ℕ)
+    → sequence-lts.Need-unit-requires (sequence-calls t) (sequence-at t) sequence.Post sequence-Inv-loop sequence-μ-loop
+sequence-unit-requires t c κs = search needs
 
-sequence-same-length : (t : ℕ) → sequence-lts.Need-same-length (sequence-calls t) (sequence-at t) sequence.Post
-sequence-same-length t c = search needs
+sequence-loop-holds : (t : ℕ)
+    → sequence-lts.Need-loop-holds (sequence-calls t) (sequence-at t) sequence.Post sequence-Inv-loop sequence-μ-loop
+sequence-loop-holds t c =
+    let a = c .before .before .before .before .before .before .args in
+    chaining-start (namesAt (a .text .now) (a .names .now)) (a .s .now) (a .c .at) (a .k) (a .«open») (a .follow .now) (a .enter .now)
+    (c .unit .result) (c .unit .ensures)
 
-sequence-same-length-2 : (t : ℕ) → sequence-lts.Need-same-length-2 (sequence-calls t) (sequence-at t) sequence.Post
-sequence-same-length-2 t c = search needs
+sequence-factor-requires : (t : ℕ)
+    → sequence-lts.Need-factor-requires (sequence-calls t) (sequence-at t) sequence.Post sequence-Inv-loop sequence-μ-loop
+sequence-factor-requires t c κs =
+    let l = c .before .before .loop in
+    let start = c .before .before .before .before .before .before .before .before .before in
+    (omega (arith, l .inv .onward, start .pre .0), start .pre .1)
 
-sequence-returns : (t : ℕ) → sequence-lts.Need-returns (sequence-calls t) (sequence-at t) sequence.Post
-sequence-returns t c =
-    let before = c .before .before .before .before .before .before in
-    let start = before .before .before .before .before .before .before .before .before in
-    let a = start .args in
-    let left = before .factor in
-    sequence-fault (namesAt (a .text .now) (a .names .now)) (a .s .now) (a .c .at) (a .k) (a .«open») (a .follow .now) (a .enter .now)
-    (left .result) (left .last .1 .1 .1 .0) (left .last .1 .1 .1 .1 .0) (left .ensures) (c .if1 .taken)
-
-sequence-mark-requires : (t : ℕ) → sequence-lts.Need-mark-requires (sequence-calls t) (sequence-at t) sequence.Post
-sequence-mark-requires t c κs = search needs
-
-sequence-enum-known-moved : (t : ℕ) → sequence-lts.Need-enum-known-moved (sequence-calls t) (sequence-at t) sequence.Post
-sequence-enum-known-moved t c = search needs
-
-sequence-sequence-requires : (t : ℕ) → sequence-lts.Need-sequence-requires (sequence-calls t) (sequence-at t) sequence.Post
-sequence-sequence-requires t c κs =
-    let moved = c .before .before .before in
-    let marked = moved .before .before in
-    let left = marked .before .before .before .before .before .before .before in
-    let start = left .before .before .before .before .before .before .before .before in
-    let to = moved .moved .given in
-    let at = left .factor .result .at in
-    let past = mark-to dot (start .args .s .now) at (to .0 .0) (sym (to .1) ∙ marked .mark .ensures) in
-    (omega (arith, past .inside, past .next, left .factor .ensures .onward, start .pre .0), start .pre .1)
-
-sequence-link-requires : (t : ℕ) → sequence-lts.Need-link-requires (sequence-calls t) (sequence-at t) sequence.Post
+sequence-link-requires : (t : ℕ)
+    → sequence-lts.Need-link-requires (sequence-calls t) (sequence-at t) sequence.Post sequence-Inv-loop sequence-μ-loop
 sequence-link-requires t c κs = search needs
 
-sequence-both-requires : (t : ℕ) → sequence-lts.Need-both-requires (sequence-calls t) (sequence-at t) sequence.Post
+sequence-both-requires : (t : ℕ)
+    → sequence-lts.Need-both-requires (sequence-calls t) (sequence-at t) sequence.Post sequence-Inv-loop sequence-μ-loop
 sequence-both-requires t c κs = search needs
 
-sequence-enum-told : (t : ℕ) → sequence-lts.Need-enum-told (sequence-calls t) (sequence-at t) sequence.Post
+sequence-behind-requires : (t : ℕ)
+    → sequence-lts.Need-behind-requires (sequence-calls t) (sequence-at t) sequence.Post sequence-Inv-loop sequence-μ-loop
+sequence-behind-requires t c κs = search needs
+
+sequence-enum-known-next : (t : ℕ)
+    → sequence-lts.Need-enum-known-next (sequence-calls t) (sequence-at t) sequence.Post sequence-Inv-loop sequence-μ-loop
+sequence-enum-known-next t c = search needs
+
+sequence-loop-less : (t : ℕ)
+    → sequence-lts.Need-loop-less (sequence-calls t) (sequence-at t) sequence.Post sequence-Inv-loop sequence-μ-loop
+sequence-loop-less t c =
+    let behind = c .before .before .before in
+    let linked = behind .before .before .before .before in
+    let read = linked .before .before .before .before .before .before .before .before in
+    let l = read .before .before .before .loop in
+    let a = read .before .before .before .before .before .before .before .before .before .before .args in
+    let right = read .factor in
+    let to = c .before .next .given in
+    let past = behind-to dot (a .s .now) (right .result) (behind .behind .result) (behind .behind .ensures .0) (behind .behind .ensures .1)
+    (to .0 .0) (sym (to .1)) in
+    omega (arith, past .inside, past .next, right .ensures .onward)
+
+sequence-loop-again : (t : ℕ)
+    → sequence-lts.Need-loop-again (sequence-calls t) (sequence-at t) sequence.Post sequence-Inv-loop sequence-μ-loop
+sequence-loop-again t c =
+    let behind = c .before .before .before in
+    let linked = behind .before .before .before .before in
+    let read = linked .before .before .before .before .before .before .before .before in
+    let l = read .before .before .before .loop in
+    let a = read .before .before .before .before .before .before .before .before .before .before .args in
+    let right = read .factor in
+    let to = c .before .next .given in
+    let past = behind-to dot (a .s .now) (right .result) (behind .behind .result) (behind .behind .ensures .0) (behind .behind .ensures .1)
+    (to .0 .0) (sym (to .1)) in
+    rw (behind .before .both .ensures, linked .link .ensures)
+    (chaining-on (namesAt (a .text .now) (a .names .now)) (a .s .now) (a .c .at) (a .k) (a .«open») (a .follow .now) (a .enter .now)
+    (l .part) (l .from .at) (l .follow) (l .enter) (l .inv) (right .result) (right .last .1 .1 .1 .0) (right .last .1 .1 .1 .1 .0) (right .ensures)
+    (to .0 .0) past)
+
+sequence-enum-told : (t : ℕ)
+    → sequence-lts.Need-enum-told (sequence-calls t) (sequence-at t) sequence.Post sequence-Inv-loop sequence-μ-loop
 sequence-enum-told t c = search needs
 
-sequence-same-length-3 : (t : ℕ) → sequence-lts.Need-same-length-3 (sequence-calls t) (sequence-at t) sequence.Post
-sequence-same-length-3 t c =
-    let linked = c .before .before .before in
+sequence-same-length : (t : ℕ)
+    → sequence-lts.Need-same-length (sequence-calls t) (sequence-at t) sequence.Post sequence-Inv-loop sequence-μ-loop
+sequence-same-length t c = c .before .before .before .before .before .before .link .kept .0 ∙ c .before .before .before .before .before .before .before .before .before .before .before .before .before .before .factor .kept .1 .1 .1 .0 ∙ c .before .before .before .before .before .before .before .before .before .before .before .before .before .before .before .before .before .loop .inv .same-follow
+
+sequence-same-length-2 : (t : ℕ)
+    → sequence-lts.Need-same-length-2 (sequence-calls t) (sequence-at t) sequence.Post sequence-Inv-loop sequence-μ-loop
+sequence-same-length-2 t c = c .before .before .before .before .before .before .before .before .before .before .before .before .before .before .factor .kept .1 .1 .1 .1 .0 ∙ c .before .before .before .before .before .before .before .before .before .before .before .before .before .before .before .before .before .loop .inv .same-enter
+
+sequence-returns : (t : ℕ)
+    → sequence-lts.Need-returns (sequence-calls t) (sequence-at t) sequence.Post sequence-Inv-loop sequence-μ-loop
+sequence-returns t c =
+    let behind = c .before .before in
+    let linked = behind .before .before .before .before in
     let read = linked .before .before .before .before .before .before .before .before in
-    let before = read .before .before .before .before .before .before .before .before .before .before .before .before .before in
-    linked .link .kept .0 ∙ read .sequence .kept .1 .1 .1 .0 ∙ before .factor .kept .1 .1 .1 .0
-
-sequence-same-length-4 : (t : ℕ) → sequence-lts.Need-same-length-4 (sequence-calls t) (sequence-at t) sequence.Post
-sequence-same-length-4 t c =
-    let read = c .before .before .before .before .before .before .before .before .before .before .before in
-    let before = read .before .before .before .before .before .before .before .before .before .before .before .before .before in
-    read .sequence .kept .1 .1 .1 .1 .0 ∙ before .factor .kept .1 .1 .1 .1 .0
-
-sequence-returns-2 : (t : ℕ) → sequence-lts.Need-returns-2 (sequence-calls t) (sequence-at t) sequence.Post
-sequence-returns-2 t c =
-    let linked = c .before .before .before in
-    let read = linked .before .before .before .before .before .before .before .before in
-    let moved = read .before .before .before .before in
-    let marked = moved .before .before in
-    let before = marked .before .before .before .before .before .before .before in
-    let start = before .before .before .before .before .before .before .before .before in
-    let a = start .args in
-    let left = before .factor in
-    let right = read .sequence in
-    let to = moved .moved .given in
-    let past = mark-to dot (a .s .now) (left .result .at) (to .0 .0) (sym (to .1) ∙ marked .mark .ensures) in
-    rw (c .both .ensures, linked .link .ensures)
-    (sequence-more (namesAt (a .text .now) (a .names .now)) (a .s .now) (a .c .at) (a .k) (a .«open») (a .follow .now) (a .enter .now)
-    (left .result) (left .last .1 .1 .1 .0) (left .last .1 .1 .1 .1 .0) (left .ensures) (to .0 .0) (right .result) (right .last .1 .1 .1 .0)
-    (right .last .1 .1 .1 .1 .0) past (right .ensures))
-
-sequence-same-length-5 : (t : ℕ) → sequence-lts.Need-same-length-5 (sequence-calls t) (sequence-at t) sequence.Post
-sequence-same-length-5 t c = search needs
-
-sequence-same-length-6 : (t : ℕ) → sequence-lts.Need-same-length-6 (sequence-calls t) (sequence-at t) sequence.Post
-sequence-same-length-6 t c = search needs
-
-sequence-returns-3 : (t : ℕ) → sequence-lts.Need-returns-3 (sequence-calls t) (sequence-at t) sequence.Post
-sequence-returns-3 t c =
-    let marked = c .before .before in
-    let before = marked .before .before .before .before .before .before .before in
-    let start = before .before .before .before .before .before .before .before .before in
-    let a = start .args in
-    let left = before .factor in
-    sequence-alone (namesAt (a .text .now) (a .names .now)) (a .s .now) (a .c .at) (a .k) (a .«open») (a .follow .now) (a .enter .now)
-    (left .result) (left .last .1 .1 .1 .0) (left .last .1 .1 .1 .1 .0) (left .ensures)
-    (mark-failed dot (a .s .now) (left .result .at) (sym (c .enum-told .given .1) ∙ marked .mark .ensures))
+    let l = read .before .before .before .loop in
+    let a = read .before .before .before .before .before .before .before .before .before .before .args in
+    let right = read .factor in
+    rw (behind .before .both .ensures, linked .link .ensures)
+    (chaining-end (namesAt (a .text .now) (a .names .now)) (a .s .now) (a .c .at) (a .k) (a .«open») (a .follow .now) (a .enter .now)
+    (l .part) (l .from .at) (l .follow) (l .enter) (l .inv) (right .result) (right .last .1 .1 .1 .0) (right .last .1 .1 .1 .1 .0) (right .ensures)
+    (behind-failed dot (a .s .now) (right .result) (behind .behind .result) (behind .behind .ensures .0) (behind .behind .ensures .1)
+    (sym (c .enum-told .given .1))))
 
 pub +alternative+factor+sequence-spec : {M : Type 1} → statement M
 +alternative+factor+sequence-spec =
@@ -522,19 +529,18 @@ pub +alternative+factor+sequence-spec : {M : Type 1} → statement M
     λ t. sequence-lts.spec (sequence-calls t)
     (sequence-at t)
     sequence.Post
+    sequence-Inv-loop
+    sequence-μ-loop
+    (sequence-unit-requires t)
+    (sequence-loop-holds t)
     (sequence-factor-requires t)
+    (sequence-link-requires t)
+    (sequence-both-requires t)
+    (sequence-behind-requires t)
+    (sequence-enum-known-next t)
+    (sequence-loop-less t)
+    (sequence-loop-again t)
+    (sequence-enum-told t)
     (sequence-same-length t)
     (sequence-same-length-2 t)
     (sequence-returns t)
-    (sequence-mark-requires t)
-    (sequence-enum-known-moved t)
-    (sequence-sequence-requires t)
-    (sequence-link-requires t)
-    (sequence-both-requires t)
-    (sequence-enum-told t)
-    (sequence-same-length-3 t)
-    (sequence-same-length-4 t)
-    (sequence-returns-2 t)
-    (sequence-same-length-5 t)
-    (sequence-same-length-6 t)
-    (sequence-returns-3 t)
