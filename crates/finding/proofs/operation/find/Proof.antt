@@ -1,6 +1,7 @@
--- The buffers are measured first; then the text is read into tables, and Find runs on them.
-use Rattle.reading.specs.Loading.{tables}
-use Rattle.finding.specs.Operation.{short-table, short-flags, reading-refused, reading-found}
+-- The buffers are measured first; then Find runs in tables of nine rows or of 17.
+use native.Mathlib.Omega.{arith}
+use Rattle.reading.specs.RowRoom.{enough-rows, all-rows}
+use Rattle.finding.specs.Operation.{short-table, short-flags}
 use borrow.Author.Needs.{needs}
 use Rattle.finding.proofs.operation.find.Statement.{statement}
 use Rattle.finding.proofs.operation.find.Tie as tie
@@ -21,30 +22,22 @@ returns-2 c =
     let a = c .before .before .before .before .before .before .args in
     short-flags (a .text .now) (a .table .now) (a .marks .now) (c .refused2 .result) (c .before .if2 .taken) (c .refused2 .ensures)
 
-load-requires : tie.Need-load-requires
-load-requires c κs = search needs
+few-lines-requires : tie.Need-few-lines-requires
+few-lines-requires c κs = search needs
 
-enum-known-told : tie.Need-enum-known-told
-enum-known-told c = search needs
+slice-aggregate-find-in : tie.Need-slice-aggregate-find-in
+slice-aggregate-find-in c = search needs
 
-refused-requires-3 : tie.Need-refused-requires-3
-refused-requires-3 c κs = search needs
+slice-aggregate-find-in-2 : tie.Need-slice-aggregate-find-in-2
+slice-aggregate-find-in-2 c = search needs
 
-enum-known-told-2 : tie.Need-enum-known-told-2
-enum-known-told-2 c = search needs
-
-find-core-requires : tie.Need-find-core-requires
-find-core-requires c κs = search needs
-
-returns-3 : tie.Need-returns-3
-returns-3 c =
-    let loaded = c .before .before .before .before in
-    let marked = loaded .before .before .before .before .before .before in
-    let a = marked .before .before .before .before .before .args in
-    let l = loaded .load in
-    reading-refused (a .text .now) (a .table .now) (a .marks .now) (marked .before .if1 .left) (marked .if2 .left) (l .result)
-    (tables (l .last .1 .0) (l .last .1 .1 .0) (l .last .1 .1 .1 .0) (l .last .1 .1 .1 .1 .0) (l .last .1 .1 .1 .1 .1 .0))
-    (l .ensures) _ _ (c .refused3 .result) (c .before .before .told .given .1) (c .refused3 .ensures)
+find-in-requires : tie.Need-find-in-requires
+find-in-requires c κs =
+    let few = c .before .before .before .before .before .few-lines .ensures (c .before .before .before .before .if3 .taken) in (
+      enough-rows 9 _ (omega (arith, few)) (omega arith) (omega arith),
+      omega (arith, c .before .before .before .before .before .before .before .if1 .left),
+      omega (arith, c .before .before .before .before .before .before .if2 .left),
+    )
 
 same-length : tie.Need-same-length
 same-length c = search needs
@@ -52,17 +45,30 @@ same-length c = search needs
 same-length-2 : tie.Need-same-length-2
 same-length-2 c = search needs
 
+returns-3 : tie.Need-returns-3
+returns-3 c = c .before .before .before .before .before .before .find-in .ensures
+
+slice-aggregate-find-in-3 : tie.Need-slice-aggregate-find-in-3
+slice-aggregate-find-in-3 c = search needs
+
+slice-aggregate-find-in-4 : tie.Need-slice-aggregate-find-in-4
+slice-aggregate-find-in-4 c = search needs
+
+find-in-requires-2 : tie.Need-find-in-requires-2
+find-in-requires-2 c κs = (
+  all-rows _ (omega arith) (omega arith),
+  omega (arith, c .before .before .before .before .before .before .before .if1 .left),
+  omega (arith, c .before .before .before .before .before .before .if2 .left),
+)
+
+same-length-3 : tie.Need-same-length-3
+same-length-3 c = search needs
+
+same-length-4 : tie.Need-same-length-4
+same-length-4 c = search needs
+
 returns-4 : tie.Need-returns-4
-returns-4 c =
-    let matched = c .before .before .before .before .before .before .before .before .before .before .before .before in
-    let loaded = matched .before .before in
-    let marked = loaded .before .before .before .before .before .before in
-    let a = marked .before .before .before .before .before .args in
-    let l = loaded .load in
-    let f = c .before .before .before .before .find-core in
-    reading-found (a .text .now) (a .table .now) (a .marks .now) (marked .before .if1 .left) (marked .if2 .left) (l .result)
-    (tables (l .last .1 .0) (l .last .1 .1 .0) (l .last .1 .1 .1 .0) (l .last .1 .1 .1 .1 .0) (l .last .1 .1 .1 .1 .1 .0))
-    (l .ensures) _ _ (f .result) (f .last .1 .1 .1 .1 .1 .1 .1 .1 .0) (f .last .1 .1 .1 .1 .1 .1 .1 .1 .1 .0) (matched .told2 .given .1) (f .ensures)
+returns-4 c = c .before .before .before .before .before .before .find-in2 .ensures
 
 pub find-spec : {M : Type 1} → statement M
 find-spec =
@@ -72,12 +78,16 @@ find-spec =
     returns
     refused-requires-2
     returns-2
-    load-requires
-    enum-known-told
-    refused-requires-3
-    enum-known-told-2
-    find-core-requires
-    returns-3
+    few-lines-requires
+    slice-aggregate-find-in
+    slice-aggregate-find-in-2
+    find-in-requires
     same-length
     same-length-2
+    returns-3
+    slice-aggregate-find-in-3
+    slice-aggregate-find-in-4
+    find-in-requires-2
+    same-length-3
+    same-length-4
     returns-4)
