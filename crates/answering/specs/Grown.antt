@@ -3,12 +3,14 @@
 use Prim.Native.Nat.{ℕ, _+_, _*_, _-_, _≤_, _<_}
 use mathlib.Core.List.{List}
 use mathlib.Core.Logic.{_⊎_, inl, inr}
-use mathlib.Core.Path.{_≡_, refl, _∙_, subst}
+use mathlib.Core.Path.{_≡_, refl, sym, ap, _∙_, subst}
 use native.Mathlib.Omega.{arith}
-use lib.ListN.{length, getD, drop}
+use lib.ListN.{length, getD, drop, length-drop}
+use lib.Seq.{getD-drop}
+use Rattle.answering.specs.Rest.{restOf, restBack, rest-all, back-drop}
 use Rattle.answering.specs.Pairs.{Has, room, row-below}
 use Rattle.answering.specs.WordsFrom.{Zeroed}
-use Rattle.answering.specs.Waiting.{Waiting, waiting-most, waiting-pop}
+use Rattle.answering.specs.Waiting.{Waiting, waiting-most, waiting-same, waiting-pop, waiting-front}
 
 -- There is room in each part.
 pub record Ready (w N : ℕ) (reached pending stack : List ℕ) (h : ℕ) : Type 0 where
@@ -54,6 +56,57 @@ top-below r l = r .waiting .below _ (omega arith)
 
 pub top-inside : {w N : ℕ} {R P S : List ℕ} {h : ℕ} → Ready w N R P S h → 0 < h → h - 1 < length S
 top-inside {h = h} r l = let m = waiting-most (r .waiting) in let k = r .waiting .slots in omega arith
+
+-- The recordings that wait stand in the stack from the place `at` on.
+
+front-of : (at : ℕ) (S : List ℕ) → getD (drop at S) 0 0 ≡ getD S at 0
+front-of at S = getD-drop at S 0 0 ∙ ap (λ n. getD S n 0) same
+  where
+    same : at + 0 ≡ at
+    same = omega arith
+
+module _ (at : ℕ) (S : List ℕ) {w N : ℕ} {R P : List ℕ} {h : ℕ} (r : Ready w N R P (drop at S) h) where
+  pub front-inside : at < length S
+  front-inside = let n = length-drop at S in let l = r .waiting .slots in omega arith
+
+  pub front-below : 0 < h → getD S at 0 < N
+  front-below l = subst (λ z. z < N) (front-of at S) (r .waiting .below 0 l)
+
+  -- The one at the front is taken.
+  pub ready-front : {x : ℕ} {P' : List ℕ} → 0 < h → N + (at + 1) < length S → x ≡ getD S at 0 → length P' ≡ length P
+      → Zeroed (w * x) w P P' → Ready w N R P' (restOf (at + 1) S) (h - 1)
+  ready-front {x} {P'} l long e d z = record {
+    words = r .words;
+    few = r .few;
+    waiting =
+        waiting-front (subst (Waiting w N P (drop at S)) up (r .waiting))
+        (omega (arith, ap length (rest-all (at + 1) S), length-drop (at + 1) S)) next d
+        (subst (λ x. Zeroed (w * x) w P P') (e ∙ sym (front-of at S)) z);
+  }
+    where
+      up : h ≡ (h - 1) + 1
+      up = omega arith
+
+      next : (i : ℕ) → getD (restOf (at + 1) S) i 0 ≡ getD (drop at S) (1 + i) 0
+      next i =
+          let over : at + 1 + i ≡ at + (1 + i) = omega arith in
+          ap (λ T. getD T i 0) (rest-all (at + 1) S) ∙ getD-drop (at + 1) S i 0 ∙ ap (λ n. getD S n 0) over
+          ∙ sym (getD-drop at S (1 + i) 0)
+
+  -- They come to the front.
+  pub ready-moved : {S' : List ℕ} → length S' ≡ length S → ((i : ℕ) → i < h → getD S' i 0 ≡ getD S (at + i) 0) → Ready w N R P S' h
+  ready-moved long same = record {
+    words = r .words;
+    few = r .few;
+    waiting =
+        waiting-same (r .waiting) (let n = length-drop at S in let l = r .waiting .slots in omega arith)
+        (λ i l. same i l ∙ sym (getD-drop at S i 0));
+  }
+
+-- The rest of the stack is back.
+pub ready-back : (at : ℕ) (S Y : List ℕ) {w N : ℕ} {R P : List ℕ} {h : ℕ} → Ready w N R P Y h → at ≤ length S
+    → Ready w N R P (drop at (restBack at S Y)) h
+ready-back at S Y {w} {N} {R} {P} {h} r l = subst (λ T. Ready w N R P T h) (sym (back-drop at S Y l)) r
 
 -- From one moment to a later one.
 

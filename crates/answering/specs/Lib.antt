@@ -26,6 +26,7 @@ pub mod Pairs
 pub mod NextState
 pub mod WordsFrom
 pub mod Waiting
+pub mod Rest
 pub mod Grown
 pub mod SetSearch
 pub mod SetRows

@@ -208,6 +208,17 @@ module _ {w : ℕ} {Step : ℕ → ℕ → ℕ → Type 0} {k states : ℕ} {tab
       closed' sorted y s b l (inl m) = old sorted y s l (g .closed sorted y s b l m)
       closed' sorted y s b l (inr m) = inl (m .1)
 
+  -- Where those that wait stand does not matter.
+  pub set-going-moved : {S' : List ℕ} → Ready w N R P S' h → SetGoing w Step k states table N start before R P S' h
+  set-going-moved r = record {
+    ready = r;
+    within = g .within;
+    sound = g .sound;
+    first = g .first;
+    closed = g .closed;
+    beyond = g .beyond;
+  }
+
   -- Nothing is pending any more.
   module _ (e : h ≡ 0) where
     set-closed : SortedByFrom table → (x s : ℕ) → x < N → s < 64 * w → Has w R x s → SetClosedAt w Step k states table N R x s

@@ -1,6 +1,6 @@
 -- The recordings that wait for their links to be followed. Pending are pairs of a recording and a state whose links have not been followed
 -- yet; a stack holds each recording with something pending, once.
-use Prim.Native.Nat.{ℕ, suc, _+_, _*_, _≤_, _<_}
+use Prim.Native.Nat.{ℕ, suc, _+_, _*_, _-_, _≤_, _<_}
 use mathlib.Core.List.{List}
 use mathlib.Core.Logic.{_⊎_, inl, inr}
 use mathlib.Core.Path.{_≡_, sym, ap, _∙_, subst}
@@ -63,18 +63,21 @@ module _ {w N : ℕ} {P S : List ℕ} {h : ℕ} (v : Waiting w N P S h) where
       (λ i j l m q. onto-once y n i j (decLt i h) (decLt j h) l m q)
 
 -- What stands behind the stack does not matter.
-pub waiting-behind : {w N : ℕ} {P S : List ℕ} {h : ℕ} (y : ℕ) → Waiting w N P S h → Waiting w N P (set S h y) h
-waiting-behind {w} {N} {P} {S} {h} y v = record {
+pub waiting-same : {w N : ℕ} {P S S' : List ℕ} {h : ℕ} → Waiting w N P S h → N < length S'
+    → ((i : ℕ) → i < h → getD S' i 0 ≡ getD S i 0) → Waiting w N P S' h
+waiting-same {w} {N} {P} {S} {S'} {h} v long same = record {
   words = v .words;
-  slots = let e = length-set S h y in let l = v .slots in omega arith;
-  below = λ i l. subst (λ z. z < N) (sym (under i l)) (v .below i l);
-  once = λ i j l m q. v .once i j l m (sym (under i l) ∙ q ∙ under j m);
-  some = λ i l. subst (λ z. SomeFrom P (w * z) w) (sym (under i l)) (v .some i l);
-  listed = λ z l f. let (i, m, q) = v .listed z l f in (i, m, under i m ∙ q);
+  slots = long;
+  below = λ i l. subst (λ z. z < N) (sym (same i l)) (v .below i l);
+  once = λ i j l m q. v .once i j l m (sym (same i l) ∙ q ∙ same j m);
+  some = λ i l. subst (λ z. SomeFrom P (w * z) w) (sym (same i l)) (v .some i l);
+  listed = λ z l f. let (i, m, q) = v .listed z l f in (i, m, same i m ∙ q);
 }
-  where
-    under : (i : ℕ) → i < h → getD (set S h y) i 0 ≡ getD S i 0
-    under i l = getD-set-other S h i y 0 (λ e. omega arith)
+
+pub waiting-behind : {w N : ℕ} {P S : List ℕ} {h : ℕ} (y : ℕ) → Waiting w N P S h → Waiting w N P (set S h y) h
+waiting-behind {S = S} {h = h} y v =
+    waiting-same v (let e = length-set S h y in let l = v .slots in omega arith)
+    (λ i l. getD-set-other S h i y 0 (λ e. omega arith))
 
 -- More is pending at one recording.
 
@@ -170,3 +173,38 @@ waiting-pop {w} {N} {P} {P'} {S} {h} v e z = record {
             let (i, n, q) = v .listed y l (k, m, λ o. d (z .others (w * y + k) (apart w x y k f m) ∙ o)) in
             let u : ¬ (i ≡ h) = λ r. f (sym q ∙ ap (λ i. getD S i 0) r) in
             (i, omega arith, q)
+
+-- The recording at the front is taken, and its pending words with it.
+pub waiting-front : {w N : ℕ} {P P' S S' : List ℕ} {h : ℕ} → Waiting w N P S (h + 1) → N < length S'
+    → ((i : ℕ) → getD S' i 0 ≡ getD S (1 + i) 0) → length P' ≡ length P → Zeroed (w * getD S 0 0) w P P' → Waiting w N P' S' h
+waiting-front {w} {N} {P} {P'} {S} {S'} {h} v long next e z = record {
+  words = let l = v .words in omega arith;
+  slots = long;
+  below = λ i l. subst (λ z. z < N) (sym (next i)) (v .below (1 + i) (omega arith));
+  once = λ i j l m q.
+      let f : 1 + i ≡ 1 + j = v .once (1 + i) (1 + j) (omega arith) (omega arith) (sym (next i) ∙ q ∙ next j) in omega arith;
+  some = λ i l.
+      let m = some' (1 + i) (omega arith) (omega arith) (v .some (1 + i) (omega arith)) in
+      subst (λ z. SomeFrom P' (w * z) w) (sym (next i)) m;
+  listed = λ y l f. listed' y l f;
+}
+  where
+    x : ℕ
+    x = getD S 0 0
+
+    other : (i : ℕ) → 0 < i → i < h + 1 → ¬ (getD S i 0 ≡ x)
+    other i p l q = let f : i ≡ 0 = v .once i 0 l (omega arith) q in omega arith
+
+    some' : (i : ℕ) → 0 < i → i < h + 1 → SomeFrom P (w * getD S i 0) w → SomeFrom P' (w * getD S i 0) w
+    some' i p l (k, m, d) = (k, m, λ q. d (sym (z .others (w * getD S i 0 + k) (apart w x (getD S i 0) k (other i p l) m)) ∙ q))
+
+    listed' : (y : ℕ) → y < N → SomeFrom P' (w * y) w → (i : ℕ) × (i < h) × (getD S' i 0 ≡ y)
+    listed' y l (k, m, d) = go (ℕ-discrete y x)
+      where
+        go : Dec (y ≡ x) → (i : ℕ) × (i < h) × (getD S' i 0 ≡ y)
+        go (yes f) = absurd (d (ap (λ y. getD P' (w * y + k) 0) f ∙ z .zeros k m))
+        go (no f) =
+            let (i, n, q) = v .listed y l (k, m, λ o. d (z .others (w * y + k) (apart w x y k f m) ∙ o)) in
+            let u : ¬ (i ≡ 0) = λ r. f (sym q ∙ ap (λ i. getD S i 0) r) in
+            let r : 1 + (i - 1) ≡ i = omega arith in
+            (i - 1, omega arith, next (i - 1) ∙ ap (λ i. getD S i 0) r ∙ q)

@@ -50,7 +50,7 @@ fn search_few(
         (now (table .entry)) (sizes .recordings) start (now (reached .entry)) (now (reached .exit)) ⌝ }
 {
     let mut pending: [u64; 256] = [0; 256];
-    let mut stack: [u16; 257] = [0; 257];
+    let mut stack: [u16; 513] = [0; 513];
     let mut begins: [usize; 256] = [0; 256];
     link_begins(table, sizes.recordings, &mut begins);
     follow_all_words(
@@ -82,7 +82,7 @@ fn search_many(
         (now (table .entry)) (sizes .recordings) start (now (reached .entry)) (now (reached .exit)) ⌝ }
 {
     let mut pending: [u64; 4096] = [0; 4096];
-    let mut stack: [u16; 4097] = [0; 4097];
+    let mut stack: [u16; 8193] = [0; 8193];
     let mut begins: [usize; 4096] = [0; 4096];
     link_begins(table, sizes.recordings, &mut begins);
     follow_all_words(

@@ -183,7 +183,7 @@ fn search_from(
     requires { ⌜ SetBeginning (sizes .words) (sizes .symbols) (sizes .states) (sizes .recordings) start
         (now reached) (now pending) (now stack)
         × (sizes .words * (sizes .symbols * sizes .states) ≤ length (now sets)) × ImagesBlank (sizes .words) (now images)
-        × LinkBegins (now table) (sizes .recordings) (now begins) ⌝ }
+        × LinkBegins (now table) (sizes .recordings) (now begins) × (2 * sizes .recordings < length (now stack)) ⌝ }
     ensures { λ _. ⌜ SetAllFound (sizes .words) (Steps (now (sets .entry)) (sizes .symbols) (sizes .words)) (sizes .symbols) (sizes .states)
         (now (table .entry)) (sizes .recordings) start (now (reached .entry)) (now (reached .exit)) ⌝ }
 {
@@ -225,7 +225,7 @@ fn search_few(sets: &[u64], sizes: Sizes, table: &[u16], start: usize, reached: 
 {
     let mut images: [u64; 128] = [0; 128];
     let mut pending: [u64; 256] = [0; 256];
-    let mut stack: [u16; 257] = [0; 257];
+    let mut stack: [u16; 513] = [0; 513];
     let mut begins: [usize; 256] = [0; 256];
     link_begins(table, sizes.recordings, &mut begins);
     search_from(
@@ -251,7 +251,7 @@ fn search_middle(sets: &[u64], sizes: Sizes, table: &[u16], start: usize, reache
 {
     let mut images: [u64; 128] = [0; 128];
     let mut pending: [u64; 4096] = [0; 4096];
-    let mut stack: [u16; 4097] = [0; 4097];
+    let mut stack: [u16; 8193] = [0; 8193];
     let mut begins: [usize; 4096] = [0; 4096];
     link_begins(table, sizes.recordings, &mut begins);
     search_from(
@@ -267,7 +267,7 @@ fn search_middle(sets: &[u64], sizes: Sizes, table: &[u16], start: usize, reache
     );
 }
 
-// The search with room for as many recordings as there may be. The local arrays take about 169 KiB of the thread's stack.
+// The search with room for as many recordings as there may be. The local arrays take about 177 KiB of the thread's stack.
 fn search_many(sets: &[u64], sizes: Sizes, table: &[u16], start: usize, reached: &mut [u64])
     requires { ⌜ SetStarting (sizes .words) (sizes .symbols) (sizes .states) (sizes .recordings) start (now reached)
         × (sizes .words * (sizes .symbols * sizes .states) ≤ length (now sets)) ⌝ }
@@ -276,7 +276,7 @@ fn search_many(sets: &[u64], sizes: Sizes, table: &[u16], start: usize, reached:
 {
     let mut images: [u64; 128] = [0; 128];
     let mut pending: [u64; 16384] = [0; 16384];
-    let mut stack: [u16; 4097] = [0; 4097];
+    let mut stack: [u16; 8193] = [0; 8193];
     let mut begins: [usize; 4096] = [0; 4096];
     link_begins(table, sizes.recordings, &mut begins);
     search_from(

@@ -168,8 +168,22 @@ fn follow_word_links(
     top
 }
 
-// All that is reached from the start in state 0: while something is pending, a recording is taken off the stack with its pending states,
-// and its links are followed from these. Where the rows are cut, `images` has the words of the symbols.
+// The numbers from the place `head` on, `count` of them, come to the front.
+fn move_front(stack: &mut [u16], head: usize, count: usize)
+    requires { ⌜ head + count ≤ length (now stack) ⌝ }
+    ensures { λ _. ⌜ ((i : ℕ) → i < count → getD (now (stack .exit)) i 0 ≡ getD (now (stack .entry)) (head + i) 0) ⌝ }
+{
+    let mut i = 0;
+    while i < count {
+        stack[i] = stack[head + i];
+        i += 1;
+    }
+}
+
+// All that is reached from the start in state 0: while something is pending, the recording that waits longest, at `head`, is taken with its
+// pending states, and its links are followed from these; so a recording gathers more states before its turn than if the latest came first.
+// Those that wait come to the front when the head has gone on by as many places as there are recordings. Where the rows are cut, `images`
+// has the words of the symbols.
 pub(super) fn follow_all_words(
     rows: &[u64],
     cut: bool,
@@ -184,15 +198,17 @@ pub(super) fn follow_all_words(
 )
     requires { ⌜ SetBeginning 1 (sizes .symbols) (sizes .states) (sizes .recordings) start (now reached) (now pending) (now stack)
         × (rowsOf cut (sizes .symbols) (sizes .states) ≤ length (now rows)) × (sizes .symbols ≤ length (now images))
-        × LinkBegins (now table) (sizes .recordings) (now begins) ⌝ }
+        × LinkBegins (now table) (sizes .recordings) (now begins) × (2 * sizes .recordings < length (now stack)) ⌝ }
     ensures { λ _. ⌜ SetAllFound 1 (WordStep cut (now (rows .entry)) (sizes .symbols) (now (images .entry))) (sizes .symbols) (sizes .states)
         (now (table .entry)) (sizes .recordings) start (now (reached .entry)) (now (reached .exit)) ⌝ }
 {
     let known = states_below(sizes.states);
     let mut top = add_word(1, start, reached, pending, stack, 0);
+    let mut head: usize = 0;
     while 0 < top {
+        let x = index(stack[head]);
         top -= 1;
-        let x = index(stack[top]);
+        head += 1;
         let next = next_images(rows, cut, sizes.symbols, pending[x] & known, images);
         pending[x] = 0;
         let first = begins[x];
@@ -205,8 +221,12 @@ pub(super) fn follow_all_words(
             x,
             reached,
             pending,
-            stack,
+            &mut stack[head..],
             top,
         );
+        if head == sizes.recordings {
+            move_front(stack, head, top);
+            head = 0;
+        }
     }
 }

@@ -1,5 +1,7 @@
 -- `search_many` meets its contract: the local words are zero, and there are enough for so many recordings.
 use native.Mathlib.Nat.{one-mul}
+use Prim.Native.Nat.{ℕ}
+use lib.ListN.{length-replicate}
 use Rattle.answering.specs.LinkBegins.{unlisted-zeros}
 use Rattle.answering.specs.SetSearchRun.{set-beginning}
 use native.Mathlib.Omega.{arith}
@@ -33,7 +35,13 @@ follow-all-words-requires c κs =
     let n = at-start .args .sizes .recordings in
     let e = one-mul n in
     let l = p .0 .fits .few in
-    (set-beginning 4096 4097 (p .0) (omega arith) (omega arith), p .1, p .2, at-link-begins .link-begins .ensures)
+    let long = length-replicate {A = ℕ} 8193 0 in (
+      set-beginning 4096 8193 (p .0) (omega arith) (omega arith),
+      p .1,
+      p .2,
+      at-link-begins .link-begins .ensures,
+      omega (arith, long),
+    )
 
 same-length : tie.Need-same-length
 same-length c = search needs

@@ -1,4 +1,6 @@
 -- `search_many` meets its contract: the local words are zero, and there are enough for as many recordings as fit.
+use Prim.Native.Nat.{ℕ}
+use lib.ListN.{length-replicate}
 use Rattle.answering.specs.LinkBegins.{unlisted-zeros}
 use Rattle.answering.specs.SetSearchRun.{few-pairs, set-beginning, images-blank}
 use native.Mathlib.Omega.{arith}
@@ -33,7 +35,13 @@ search-from-requires c κs =
     let at-start = at-link-begins .before .before .before .before .before in
     let p = at-start .pre in
     let f = p .0 .fits in
-    (set-beginning 16384 4097 (p .0) (few-pairs f) (omega (arith, f .few)), p .1, images-blank _, at-link-begins .link-begins .ensures)
+    let long = length-replicate {A = ℕ} 8193 0 in (
+      set-beginning 16384 8193 (p .0) (few-pairs f) (omega (arith, f .few)),
+      p .1,
+      images-blank _,
+      at-link-begins .link-begins .ensures,
+      omega (arith, f .few, long),
+    )
 
 same-length : tie.Need-same-length
 same-length c = search needs

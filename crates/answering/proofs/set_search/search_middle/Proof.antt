@@ -1,4 +1,6 @@
 -- `search_middle` meets its contract: the local words are zero, and there are enough for so many recordings.
+use Prim.Native.Nat.{ℕ}
+use lib.ListN.{length-replicate}
 use Rattle.answering.specs.LinkBegins.{unlisted-zeros}
 use Rattle.answering.specs.SetSearchRun.{recordings-below, set-beginning, images-blank}
 use native.Mathlib.Omega.{arith}
@@ -33,7 +35,13 @@ search-from-requires c κs =
     let at-start = at-link-begins .before .before .before .before .before in
     let p = at-start .pre in
     let l = recordings-below (p .0 .fits) 4096 (p .2) in
-    (set-beginning 4096 4097 (p .0) (p .2) (omega arith), p .1, images-blank _, at-link-begins .link-begins .ensures)
+    let long = length-replicate {A = ℕ} 8193 0 in (
+      set-beginning 4096 8193 (p .0) (p .2) (omega arith),
+      p .1,
+      images-blank _,
+      at-link-begins .link-begins .ensures,
+      omega (arith, long),
+    )
 
 same-length : tie.Need-same-length
 same-length c = search needs
