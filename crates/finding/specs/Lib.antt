@@ -18,6 +18,7 @@ pub mod FirstAccepted
 pub mod FindStates
 pub mod FindLaws
 -- What the code keeps and promises.
+pub mod StandingBelow
 pub mod PlaceOfLaws
 pub mod CollectLaws
 pub mod Buckets

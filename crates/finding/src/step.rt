@@ -1,18 +1,28 @@
 // Where the places of a standing lead. Only the follow sets of the places that the standing holds are read.
 ghost use mathlib.Core.Path.{_≡_};
+ghost use Prim.Native.Nat.{_%_, _^_};
 ghost use Rattle.theory.specs.Places.{intersection};
 ghost use Rattle.theory.specs.Automaton.{nexts};
-use crate::number::number_at;
 use places::Places;
 
-// The places that can come next, over any label.
+// The places of a standing below n.
+fn below(standing: u64, n: usize) -> u64
+    ensures { λ r. ⌜ r ≡ standing % 2 ^ n ⌝ }
+{
+    if n >= 64 {
+        return standing;
+    }
+    standing & ((1 << n) - 1)
+}
+
+// The places that can come next, over any label. Places that the table has no entry for are left out first, so that none is tested later.
 pub fn follows(follow: &[u64], standing: Places) -> Places
     ensures { λ r. ⌜ r .0 ≡ nexts (standing .0) (now (follow .entry)) ⌝ }
 {
     let mut next: u64 = 0;
-    let mut rest = standing.0;
+    let mut rest = below(standing.0, follow.len());
     while rest != 0 {
-        next = next | number_at(follow, u64::trailing_zeros(rest) as u64);
+        next = next | follow[u64::trailing_zeros(rest) as usize];
         rest = rest & (rest - 1);
     }
     Places(next)
