@@ -34,7 +34,7 @@ module _ (n a : ℕ) (enter sizes accepting before ended columns : List ℕ) whe
   -- The state t is reached where a path of one of the first k lists ends.
   abbrev pub AloneBefore : ℕ → ℕ → Type 0
   AloneBefore k t = (v : ℕ) × (p : ℕ) × (q : ℕ) × (v < k) × (0 < p) × (p ≤ getD sizes (v + 1) 0) × Member p (getD accepting (v + 1) 0)
-      × Member q (steppedAt v p) × Member t (getD ended (16 * q + v) 0)
+      × Member q (steppedAt v p) × Member t (getD ended (64 * v + q) 0)
 
   -- The lists before v are done: their occurrences have their columns, those of the others are empty, and `alone` are the states reached
   -- where their paths end.
@@ -139,14 +139,14 @@ module _ (n a : ℕ) (enter sizes accepting before ended columns : List ℕ) whe
         (p - 1, omega (arith, few), member-inner entry size (p - 1) .1 (omega arith, i), f))
 
     abbrev reached : ℕ
-    reached = unionOver (λ q. getD ended (16 * q + v) 0) 64 ends
+    reached = unionOver (λ q. getD ended (64 * v + q) 0) 64 ends
 
     alone-there : (x : ℕ) → Member x alone ⊎ Member x reached → AloneBefore (v + 1) x
     alone-there x (inl m) =
         let (u, p, q, l, b, c, d, e, k) = s .alone-exact x .0 m in
         (u, p, q, omega arith, b, c, d, e, k)
     alone-there x (inr m) =
-        let (q, l, j, k) = member-unionOver (λ q. getD ended (16 * q + v) 0) 64 ends x .0 m in
+        let (q, l, j, k) = member-unionOver (λ q. getD ended (64 * v + q) 0) 64 ends x .0 m in
         let (p, b, c, d, e) = ends-there q j in
         (v, p, q, omega arith, b, c, d, e, k)
 
@@ -160,10 +160,10 @@ module _ (n a : ℕ) (enter sizes accepting before ended columns : List ℕ) whe
             let m : Member q ends =
             subst (λ z. p ≤ getD sizes (z + 1) 0 → Member p (getD accepting (z + 1) 0) → Member q (steppedAt z p) → Member q ends) (sym f)
             (λ c d e. ends-back q p b c d e) c d e in
-            inr (member-unionOver (λ q. getD ended (16 * q + v) 0) 64 ends x .1
-            (q, member-below 64 ends q small m, m, subst (λ z. Member x (getD ended (16 * q + z) 0)) f k))
+            inr (member-unionOver (λ q. getD ended (64 * v + q) 0) 64 ends x .1
+            (q, member-below 64 ends q small m, m, subst (λ z. Member x (getD ended (64 * z + q) 0)) f k))
 
-    pub lists-turn : (y : ℕ) → y ≡ unionOver (λ q. getD ended (16 * q + v) 0) 64 ends
+    pub lists-turn : (y : ℕ) → y ≡ unionOver (λ q. getD ended (64 * v + q) 0) 64 ends
         → ListsLeft next′ (base + getD sizes (v + 1) 0) (union alone y) (v + 1)
     lists-turn y e =
         record {

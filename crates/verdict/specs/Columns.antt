@@ -50,14 +50,14 @@ pub record Passing (states n : ℕ) (accepting table passes : List ℕ) : Type 0
   pub exact : (q t : ℕ) → q < states → Member t (getD passes q 0) ↔ Reaches (Passes n accepting table) q t
   pub within : (q t : ℕ) → q < states → Member t (getD passes q 0) → t < states
 
--- The entry 16 × q + v has states below `states` alone.
+-- The entry 64 × v + q has states below `states` alone.
 abbrev pub EndedWithin : ℕ → ℕ → List ℕ → Type 0
-EndedWithin states n ended = (q v t : ℕ) → q < states → v < n → Member t (getD ended (16 * q + v) 0) → t < states
+EndedWithin states n ended = (q v t : ℕ) → q < states → v < n → Member t (getD ended (64 * v + q) 0) → t < states
 
 -- It has the states that are reached from the state q where a path of the list v ends.
 pub record Finishing (states n : ℕ) (accepting table ended : List ℕ) : Type 0 where
   pub exact : (q v t : ℕ) → q < states → v < n
-      → Member t (getD ended (16 * q + v) 0) ↔ Reaches (Passes n accepting table) (getD table (16 * q + v) 0) t
+      → Member t (getD ended (64 * v + q) 0) ↔ Reaches (Passes n accepting table) (getD table (16 * q + v) 0) t
   pub within : EndedWithin states n ended
 
 -- The columns after a step over the label a: the occurrences that it leads to, and the states alone where paths of lists end. `next` gives
@@ -69,4 +69,4 @@ pub record Stepped (n a : ℕ) (enter sizes accepting before ended columns : Lis
       × ((o : ℕ) × Member o (getD before (64 * v + p) 0) × Member q (getD columns (offsetIn sizes v o) 0)))
   pub alone : (t : ℕ) → Member t (next 0)
       ↔ ((v : ℕ) × (p : ℕ) × (q : ℕ) × (v < n) × (0 < p) × (p ≤ getD sizes (v + 1) 0) × Member p (getD accepting (v + 1) 0)
-      × Member q (next (occupied sizes 0 v + p)) × Member t (getD ended (16 * q + v) 0))
+      × Member q (next (occupied sizes 0 v + p)) × Member t (getD ended (64 * v + q) 0))

@@ -1,18 +1,23 @@
 -- The loops that tell which states lists with the empty path lead to (Columns, Passing and Finishing): what they keep, turn by turn.
 use Prim.Native.Nat.{ℕ, _+_, _*_, _%_, _^_, _≤_, _<_}
-use mathlib.Core.Bool.{Bool, false}
+use mathlib.Core.Bool.{Bool, true, false}
 use mathlib.Core.List.{List}
 use mathlib.Core.Logic.{_↔_, _⊎_, inl, inr}
 use mathlib.Core.Path.{_≡_, refl, sym, ap, _∙_, subst}
 use native.Mathlib.Decide.{ℕ-discrete}
 use native.Mathlib.Omega.{arith}
-use lib.ListN.{length, getD, set}
+use lib.ListN.{length, getD, set, length-set}
 use lib.Seq.{getD-set-same, getD-set-other}
+use borrow.Author.Count.{below-more}
 use Rattle.theory.specs.Places.{Member, one, union}
 use Rattle.theory.specs.PlacesLaws.{member-one, member-union}
 use Rattle.theory.specs.Closure.{Reaches, here, onward}
 use Rattle.verdict.specs.Columns.{Passes, Passing, Finishing}
 use Rattle.verdict.specs.WordBits.{one-bit}
+
+-- The next states of the state q over the first v lists are states.
+abbrev pub RowBelow : ℕ → List ℕ → ℕ → ℕ → Type 0
+RowBelow states table q v = (u : ℕ) → u < v → getD table (16 * q + u) 0 < states
 
 -- Each next state is one of the states.
 abbrev pub NextBelow : ℕ → ℕ → List ℕ → Type 0
@@ -50,22 +55,17 @@ pub record Rounded (states n : ℕ) (accepting table passes : List ℕ) (changed
   pub sound : Sound states n accepting table passes
   pub closed : changed ≡ false → ClosedFrom states n accepting table passes 0
 
--- The next states that stand before i are states.
+-- The next states of the states before q are states.
 abbrev pub BelowBefore : ℕ → ℕ → List ℕ → ℕ → Type 0
-BelowBefore states n table i = (j : ℕ) → j < i → j % 16 < n → getD table j 0 < states
+BelowBefore states n table q = (p : ℕ) → p < q → RowBelow states table p n
 
-pub below-turn : (states n : ℕ) (table : List ℕ) (i : ℕ) → (i % 16 < n → getD table i 0 < states) → BelowBefore states n table i
-    → BelowBefore states n table (i + 1)
-below-turn states n table i new l j h k = side (ℕ-discrete j i)
+pub below-turn : (states n : ℕ) (table : List ℕ) (q : ℕ) → RowBelow states table q n → BelowBefore states n table q
+    → BelowBefore states n table (q + 1)
+below-turn states n table q new l p h = side (ℕ-discrete p q)
   where
-    side : Dec (j ≡ i) → getD table j 0 < states
-    side (yes e) = subst (λ (z : ℕ). getD table z 0 < states) (sym e) (new (subst (λ (z : ℕ). z % 16 < n) e k))
-    side (no d) = l j (omega arith) k
-
-pub below-end : (states n : ℕ) (table : List ℕ) (i : ℕ) → n ≤ 16 → 16 * states ≤ i → BelowBefore states n table i → NextBelow states n table
-below-end states n table i few e l q v h k =
-    let m : (16 * q + v) % 16 ≡ v = omega arith in
-    l (16 * q + v) (omega arith) (omega arith)
+    side : Dec (p ≡ q) → RowBelow states table p n
+    side (yes e) = subst (λ (z : ℕ). RowBelow states table z n) (sym e) new
+    side (no d) = l p (omega arith)
 
 -- Gathering.
 
@@ -210,58 +210,62 @@ closed-passing states n accepting table passes next s c =
     below here h = h
     below {q} (onward (v, k, a, e) r) h = below r (subst (λ (z : ℕ). z < states) (sym e) (next q v h k))
 
--- The entries before i are those of the next states.
-pub record EndedBefore (states n : ℕ) (table passes ended : List ℕ) (i : ℕ) : Type 0 where
-  pub below : BelowBefore states n table i
-  pub told : (j : ℕ) → j < i → j % 16 < n → getD ended j 0 ≡ getD passes (getD table j 0) 0
+-- The entries of the states before p, for the list v, are those of the next states; no other entry is changed.
+pub record EntriesBefore (states v : ℕ) (table passes ended ended′ : List ℕ) (p : ℕ) : Type 0 where
+  pub size : length ended′ ≡ length ended
+  pub below : (q : ℕ) → q < p → getD table (16 * q + v) 0 < states
+  pub told : (q : ℕ) → q < p → getD ended′ (64 * v + q) 0 ≡ getD passes (getD table (16 * q + v) 0) 0
+  pub others : (j : ℕ) → j < 64 * v → getD ended′ j 0 ≡ getD ended j 0
 
-pub ended-start : (states n : ℕ) (table passes ended : List ℕ) → EndedBefore states n table passes ended 0
-ended-start states n table passes ended = record { below = λ j h. absurd (omega arith); told = λ j h. absurd (omega arith) }
+-- So it is for all states, or a next state is none of the states.
+pub record ListEnded (states v : ℕ) (table passes ended ended′ : List ℕ) (r : Bool) : Type 0 where
+  pub size : length ended′ ≡ length ended
+  pub entries : r ≡ true → EntriesBefore states v table passes ended ended′ states
 
-pub ended-skip : (states n : ℕ) (table passes ended : List ℕ) (i : ℕ) → n ≤ i % 16 → EndedBefore states n table passes ended i
-    → EndedBefore states n table passes ended (i + 1)
-ended-skip states n table passes ended i h l =
+pub entries-start : (states v : ℕ) (table passes ended : List ℕ) → EntriesBefore states v table passes ended ended 0
+entries-start states v table passes ended =
+    record { size = refl; below = λ q h. absurd (omega arith); told = λ q h. absurd (omega arith); others = λ j h. refl }
+
+pub entries-turn : (states v : ℕ) (table passes ended ended′ : List ℕ) (p : ℕ) → 64 * v + p < length ended′ → getD table (16 * p + v) 0 < states
+    → EntriesBefore states v table passes ended ended′ p
+    → EntriesBefore states v table passes ended (set ended′ (64 * v + p) (getD passes (getD table (16 * p + v) 0) 0)) (p + 1)
+entries-turn states v table passes ended ended′ p room next l =
     record {
-      below = below-turn states n table i (λ k. absurd (omega arith)) (l .below);
-      told = λ j k m. side j k m (ℕ-discrete j i);
-    }
-  where
-    side : (j : ℕ) → j < i + 1 → j % 16 < n → Dec (j ≡ i) → getD ended j 0 ≡ getD passes (getD table j 0) 0
-    side j k m (yes e) = absurd (omega arith)
-    side j k m (no d) = l .told j (omega arith) m
-
-pub ended-more : (states n : ℕ) (table passes ended : List ℕ) (i : ℕ) → i < length ended → getD table i 0 < states
-    → EndedBefore states n table passes ended i
-    → EndedBefore states n table passes (set ended i (getD passes (getD table i 0) 0)) (i + 1)
-ended-more states n table passes ended i room next l =
-    record {
-      below = below-turn states n table i (λ k. next) (l .below);
-      told = λ j k m. side j k m (ℕ-discrete j i);
+      size = length-set ended′ (64 * v + p) entry ∙ l .size;
+      below = below-more (λ q. getD table (16 * q + v) 0 < states) p (l .below) next;
+      told = below-more (λ q. getD (set ended′ (64 * v + p) entry) (64 * v + q) 0 ≡ getD passes (getD table (16 * q + v) 0) 0) p
+          (λ q h. getD-set-other ended′ (64 * v + p) (64 * v + q) entry 0 (λ e. omega arith) ∙ l .told q h)
+          (getD-set-same ended′ (64 * v + p) entry 0 room);
+      others = λ j h. getD-set-other ended′ (64 * v + p) j entry 0 (λ e. omega arith) ∙ l .others j h;
     }
   where
     entry : ℕ
-    entry = getD passes (getD table i 0) 0
+    entry = getD passes (getD table (16 * p + v) 0) 0
 
-    side : (j : ℕ) → j < i + 1 → j % 16 < n → Dec (j ≡ i) → getD (set ended i entry) j 0 ≡ getD passes (getD table j 0) 0
-    side j k m (yes e) =
-        ap (λ (z : ℕ). getD (set ended i entry) z 0) e ∙ getD-set-same ended i entry 0 room
-        ∙ ap (λ (z : ℕ). getD passes (getD table z 0) 0) (sym e)
-    side j k m (no d) = getD-set-other ended i j entry 0 d ∙ l .told j (omega arith) m
+-- The entries of the lists before v are those of the next states.
+pub record EndedBefore (states : ℕ) (table passes ended : List ℕ) (v : ℕ) : Type 0 where
+  pub below : (q u : ℕ) → q < states → u < v → getD table (16 * q + u) 0 < states
+  pub told : (q u : ℕ) → q < states → u < v → getD ended (64 * u + q) 0 ≡ getD passes (getD table (16 * q + u) 0) 0
 
-pub ended-finishing : (states n : ℕ) (accepting table passes ended : List ℕ) (i : ℕ) → n ≤ 16 → 16 * states ≤ i
-    → EndedBefore states n table passes ended i → Passing states n accepting table passes → Finishing states n accepting table ended
-ended-finishing states n accepting table passes ended i few e l p =
+pub ended-start : (states : ℕ) (table passes ended : List ℕ) → EndedBefore states table passes ended 0
+ended-start states table passes ended = record { below = λ q u h k. absurd (omega arith); told = λ q u h k. absurd (omega arith) }
+
+pub ended-turn : (states : ℕ) (table passes ended ended′ : List ℕ) (v : ℕ) → states ≤ 64
+    → EntriesBefore states v table passes ended ended′ states → EndedBefore states table passes ended v
+    → EndedBefore states table passes ended′ (v + 1)
+ended-turn states table passes ended ended′ v few new l =
+    record {
+      below = λ q u h. below-more (λ z. getD table (16 * q + z) 0 < states) v (λ z k. l .below q z h k) (new .below q h) u;
+      told = λ q u h. below-more (λ z. getD ended′ (64 * z + q) 0 ≡ getD passes (getD table (16 * q + z) 0) 0) v
+          (λ z k. new .others (64 * z + q) (omega arith) ∙ l .told q z h k) (new .told q h) u;
+    }
+
+pub ended-finishing : (states n : ℕ) (accepting table passes ended : List ℕ) → EndedBefore states table passes ended n
+    → Passing states n accepting table passes → Finishing states n accepting table ended
+ended-finishing states n accepting table passes ended l p =
     record {
       exact = λ q v t h k.
-          subst (λ (z : ℕ). Member t z ↔ Reaches (Passes n accepting table) (getD table (16 * q + v) 0) t) (sym (at q v h k))
-          (p .exact (getD table (16 * q + v) 0) t (next q v h k));
-      within = λ q v t h k m. p .within (getD table (16 * q + v) 0) t (next q v h k) (subst (Member t) (at q v h k) m);
+          subst (λ (z : ℕ). Member t z ↔ Reaches (Passes n accepting table) (getD table (16 * q + v) 0) t) (sym (l .told q v h k))
+          (p .exact (getD table (16 * q + v) 0) t (l .below q v h k));
+      within = λ q v t h k m. p .within (getD table (16 * q + v) 0) t (l .below q v h k) (subst (Member t) (l .told q v h k) m);
     }
-  where
-    next : NextBelow states n table
-    next = below-end states n table i few e (l .below)
-
-    at : (q v : ℕ) → q < states → v < n → getD ended (16 * q + v) 0 ≡ getD passes (getD table (16 * q + v) 0) 0
-    at q v h k =
-        let m : (16 * q + v) % 16 ≡ v = omega arith in
-        l .told (16 * q + v) (omega arith) (omega arith)

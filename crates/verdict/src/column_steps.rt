@@ -92,12 +92,12 @@ fn list_columns(
 // The states that are reached from the states of a set where a path of the list v ends.
 fn ended_from(ended: &[u64; 1024], v: usize, ends: u64) -> u64
     requires { ⌜ v < 16 ⌝ }
-    ensures { λ r. ⌜ r ≡ unionOver (λ q. getD (now (ended .entry)) (16 * q + v) 0) 64 ends ⌝ }
+    ensures { λ r. ⌜ r ≡ unionOver (λ q. getD (now (ended .entry)) (64 * v + q) 0) 64 ends ⌝ }
 {
     let mut all: u64 = 0;
     let mut rest = ends;
     while rest != 0 {
-        all = all | ended[16 * (u64::trailing_zeros(rest) as usize) + v];
+        all = all | ended[64 * v + (u64::trailing_zeros(rest) as usize)];
         rest = rest & (rest - 1);
     }
     all

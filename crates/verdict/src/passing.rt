@@ -1,5 +1,5 @@
 // The states that lists with the empty path lead to from each state, at the state; and those that are reached where a path of a list
-// ends, at 16 × state + list.
+// ends, at 64 × list + state.
 ghost use Prim.Native.Nat.{ℕ, _+_, _*_, _≤_, _<_};
 ghost use mathlib.Core.Bool.{true};
 ghost use mathlib.Core.List.{List};
@@ -7,21 +7,34 @@ ghost use mathlib.Core.Path.{_≡_};
 ghost use lib.ListN.{length, getD};
 ghost use Rattle.theory.specs.Places.{one};
 ghost use Rattle.verdict.specs.Columns.{Passing, Finishing};
-ghost use Rattle.verdict.specs.PassingTurns.{NextBelow, Passable, Gathered, Sound, Rounded, EndedBefore};
+ghost use Rattle.verdict.specs.PassingTurns.{RowBelow, NextBelow, Passable, Gathered, Sound, Rounded, ListEnded};
+
+// Whether each next state of the state q is one of the states.
+fn row_below(table: &[u16], q: usize, states: usize, lists: usize) -> bool
+    requires { ⌜ (q < states) × (states ≤ 64) × (lists ≤ 16) × (16 * states ≤ length (now table)) ⌝ }
+    ensures { λ r. ⌜ (r ≡ true → RowBelow states (now (table .entry)) q lists) ⌝ }
+{
+    let mut v = 0;
+    while v < lists {
+        if table[16 * q + v] as usize >= states {
+            return false;
+        }
+        v += 1;
+    }
+    true
+}
 
 // Whether each next state is one of the states.
 fn next_below(table: &[u16], states: usize, lists: usize) -> bool
     requires { ⌜ (states ≤ 64) × (lists ≤ 16) × (16 * states ≤ length (now table)) ⌝ }
     ensures { λ r. ⌜ (r ≡ true → NextBelow states lists (now (table .entry))) ⌝ }
 {
-    let mut i = 0;
-    while i < 16 * states {
-        if i % 16 < lists {
-            if table[i] as usize >= states {
-                return false;
-            }
+    let mut q = 0;
+    while q < states {
+        if !row_below(table, q, states, lists) {
+            return false;
         }
-        i += 1;
+        q += 1;
     }
     true
 }
@@ -111,27 +124,25 @@ pub fn passing(
     false
 }
 
-// The entries of the next states, at 16 × state + list; false where a next state is none of the states.
-fn next_entries(
+// The entries of the states that the list v leads to; false where one is none of the states.
+fn list_entries(
     passes: &[u64; 64],
     table: &[u16],
     states: usize,
-    lists: usize,
+    v: usize,
     ended: &mut [u64],
 ) -> bool
-    requires { ⌜ (states ≤ 64) × (16 * states ≤ length (now table)) × (length (now ended) ≡ 1024) ⌝ }
-    ensures { λ r. ⌜ (r ≡ true → EndedBefore states lists (now (table .entry)) (now (passes .entry)) (now (ended .exit)) (16 * states)) ⌝ }
+    requires { ⌜ (states ≤ 64) × (v < 16) × (16 * states ≤ length (now table)) × (64 * v + 64 ≤ length (now ended)) ⌝ }
+    ensures { λ r. ⌜ ListEnded states v (now (table .entry)) (now (passes .entry)) (now (ended .entry)) (now (ended .exit)) r ⌝ }
 {
-    let mut i = 0;
-    while i < 16 * states {
-        if i % 16 < lists {
-            let next = table[i] as usize;
-            if next >= states {
-                return false;
-            }
-            ended[i] = passes[next];
+    let mut q = 0;
+    while q < states {
+        let next = table[16 * q + v] as usize;
+        if next >= states {
+            return false;
         }
-        i += 1;
+        ended[64 * v + q] = passes[next];
+        q += 1;
     }
     true
 }
@@ -142,11 +153,18 @@ pub fn finishing(
     table: &[u16],
     states: usize,
     lists: usize,
-    ended: &mut [u64; 1024],
+    ended: &mut [u64],
 ) -> bool
-    requires { ⌜ (states ≤ 64) × (lists ≤ 16) × (16 * states ≤ length (now table)) ⌝ }
+    requires { ⌜ (states ≤ 64) × (lists ≤ 16) × (16 * states ≤ length (now table)) × (64 * lists ≤ length (now ended)) ⌝ }
     ensures { λ r. ⌜ (r ≡ true → (accepting : List ℕ) → Passing states lists accepting (now (table .entry)) (now (passes .entry))
         → Finishing states lists accepting (now (table .entry)) (now (ended .exit))) ⌝ }
 {
-    next_entries(passes, table, states, lists, ended)
+    let mut v = 0;
+    while v < lists {
+        if !list_entries(passes, table, states, v, ended) {
+            return false;
+        }
+        v += 1;
+    }
+    true
 }

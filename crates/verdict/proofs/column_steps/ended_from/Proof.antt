@@ -11,13 +11,13 @@ use Rattle.verdict.proofs.column_steps.ended_from.Statement.{statement}
 use Rattle.verdict.proofs.column_steps.ended_from.Tie as tie
 
 abbrev Inv-loop : tie.InvT-loop
-Inv-loop ended v ends all₀ rest₀ all rest = (rest < 2 ^ 64) × FollowedLeft (λ q. getD ended (16 * q + v) 0) ends all rest
+Inv-loop ended v ends all₀ rest₀ all rest = (rest < 2 ^ 64) × FollowedLeft (λ q. getD ended (64 * v + q) 0) ends all rest
 
 abbrev μ-loop : tie.MeasureT-loop
 μ-loop ended v ends all₀ rest₀ all rest = rest
 
 loop-holds : tie.Need-loop-holds Inv-loop μ-loop
-loop-holds c = (omega arith, followed-start (λ q. getD (c .args .ended .now) (16 * q + c .args .v) 0) (c .args .ends))
+loop-holds c = (omega arith, followed-start (λ q. getD (c .args .ended .now) (64 * c .args .v + q) 0) (c .args .ends))
 
 cast-all : tie.Need-cast-all Inv-loop μ-loop
 cast-all c = omega (arith, trailing-le 64 (c .before .loop .rest))
@@ -47,7 +47,7 @@ loop-again c =
     let s = c .before .before .before in
     let l = c .before .before .loop in (
       omega (arith, l .inv .0, and-le-r (l .rest) (l .rest - 1)),
-      followed-turn (λ q. getD (s .args .ended .now) (16 * q + s .args .v) 0) (s .args .ends) (l .all) (l .rest)
+      followed-turn (λ q. getD (s .args .ended .now) (64 * s .args .v + q) 0) (s .args .ends) (l .all) (l .rest)
           (c .before .loop-test .taken) (l .inv .0) (l .inv .1),
     )
 
@@ -55,7 +55,7 @@ returns : tie.Need-returns Inv-loop μ-loop
 returns c =
     let s = c .before .before in
     let l = c .before .loop in
-    followed-end (λ q. getD (s .args .ended .now) (16 * q + s .args .v) 0) (s .args .ends) (l .all) (l .rest)
+    followed-end (λ q. getD (s .args .ended .now) (64 * s .args .v + q) 0) (s .args .ends) (l .all) (l .rest)
     (c .loop-test .left) (l .inv .1)
 
 pub ended-from-spec : {M : Type 1} → statement M
@@ -65,8 +65,8 @@ ended-from-spec =
     Inv-loop
     μ-loop
     loop-holds
-    cast-all
     mul-all
+    cast-all
     add-all
     mul-all-2
     element-copy-out-all

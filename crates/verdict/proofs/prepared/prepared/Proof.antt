@@ -50,7 +50,7 @@ returns-5 c = λ h. absurd (omega arith)
 finishing-requires : tie.Need-finishing-requires
 finishing-requires c κs =
     let r = c .before .before .before .before .before .before .before .before .before .ready .ensures .ready (omega (arith, c .before .before .before .before .before .before .before .before .if3 .left)) in
-    (omega (arith, c .before .before .before .before .before .before .before .before .before .before .if2 .left), r .counted .few, r .table-room)
+    (omega (arith, c .before .before .before .before .before .before .before .before .before .before .if2 .left), r .counted .few, r .table-room, search (needs, r .counted .few))
 
 -- src/prepared.rt:42:9
 returns-6 : tie.Need-returns-6
