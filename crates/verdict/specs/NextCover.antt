@@ -1,6 +1,6 @@
 -- Cover sets as they stand in the workspace (Coded): the first one and the step over a label. Where sets are turned they go by columns
 -- (Prepared), and the step by columns is the step of the cover set.
-use Prim.Native.Nat.{ℕ, suc, _+_, _*_, _^_, _<_}
+use Prim.Native.Nat.{ℕ, suc, _+_, _*_, _^_, _≤_, _<_}
 use mathlib.Core.List.{List, [], _∷_}
 use mathlib.Core.Path.{_≡_, sym, ap, _∙_, subst}
 use native.Mathlib.Omega.{arith}
@@ -26,6 +26,12 @@ use Rattle.verdict.specs.TurnedLaws.{turn, turn-made}
 pub record Laid (states n : ℕ) (follow enter sizes accepting table : List ℕ) (w : ℕ) (before ended set laid : List ℕ) : Type 0 where
   pub prepared : 0 < w → Prepared states n follow enter sizes accepting table w before ended
   pub stacked : 0 < w → Stacked w states laid (numberOf set)
+
+-- How many words have all places of a set as it stands.
+pub record Used (states w r : ℕ) : Type 0 where
+  pub within : r ≤ 16
+  pub plain : w ≡ 0 → r ≡ 16
+  pub turned : 0 < w → states * w ≤ 64 * r
 
 -- A set that is one word of any width.
 number-alone : (C : ℕ) → numberOf (C ∷ []) ≡ C

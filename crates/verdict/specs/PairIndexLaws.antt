@@ -16,6 +16,7 @@ use Rattle.verdict.specs.Pairs.{Pair}
 use Rattle.verdict.specs.PairTable.{pairAt, Stored, Seen}
 use Rattle.verdict.specs.PairTableLaws.{stored-pair, other-pair}
 use Rattle.verdict.specs.Workspace.{pair}
+use Rattle.verdict.specs.WordBits.{number-past}
 use Rattle.verdict.specs.PairIndex.{bucketOf, lowWeight, highWeight, Summed, Indexed, IndexedAll}
 use Rattle.verdict.specs.declared.pairs.Explored.the-variants.{All, Over}
 
@@ -31,13 +32,6 @@ number-from [] zero = refl
 number-from [] (suc j) = refl
 number-from (w ∷ l) zero = refl
 number-from (w ∷ l) (suc j) = number-from l j
-
-number-none : (l : List ℕ) (j : ℕ) → length l ≤ j → numberOf (drop j l) ≡ 0
-unfolding numberOf
-number-none [] zero h = refl
-number-none [] (suc j) h = refl
-number-none (w ∷ l) zero h = absurd (omega arith)
-number-none (w ∷ l) (suc j) h = number-none l j (omega arith)
 
 times-rest : (a p : ℕ) → (a * (p % 4093)) % 4093 ≡ (a * p) % 4093
 times-rest a p =
@@ -111,11 +105,12 @@ summed-turn l standing j sum low high fits e f s =
         ∙ ap (λ (z : ℕ). numberOf (drop (suc j) l) * z) (sym (pow-add 2 64 (64 * (j + 1))) ∙ ap (λ (z : ℕ). 2 ^ z) up)
         ∙ ap (λ (z : ℕ). numberOf (drop z l) * 2 ^ (64 * (j + 1 + 1))) (sym (add-one j)))
 
-pub summed-end : (l : List ℕ) (standing j sum : ℕ) → length l ≤ j → Summed l standing j sum → sum % 4093 ≡ bucketOf (pair standing l)
+-- All places of the set are in the words summed.
+pub summed-end : (l : List ℕ) (standing j sum : ℕ) → numberOf l < 2 ^ (64 * j) → Summed l standing j sum → sum % 4093 ≡ bucketOf (pair standing l)
 unfolding bucketOf
 summed-end l standing j sum h s =
     let none : numberOf (drop j l) * 2 ^ (64 * (j + 1)) ≡ 0 =
-    ap (λ (z : ℕ). z * 2 ^ (64 * (j + 1))) (number-none l j h) ∙ zero-mul (2 ^ (64 * (j + 1))) in
+    ap (λ (z : ℕ). z * 2 ^ (64 * (j + 1))) (number-past l j h) ∙ zero-mul (2 ^ (64 * (j + 1))) in
     omega (arith, s .left)
 
 -- No pair is indexed.

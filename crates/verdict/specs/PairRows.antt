@@ -19,7 +19,7 @@ use Rattle.verdict.specs.Coded.{StandsAs, Coded}
 use Rattle.verdict.specs.Pairs.{Pair, pairs}
 use Rattle.verdict.specs.PairCounts.{pair-tests}
 use Rattle.verdict.specs.PairTable.{wordsAt, Holds, Stored, Seen}
-use Rattle.verdict.specs.PairTableLaws.{earlier-entry, holds-first, holds-more, stored-pair, seen-known, seen-new}
+use Rattle.verdict.specs.PairTableLaws.{same-words, earlier-entry, holds-first, holds-more, stored-pair, seen-known, seen-new}
 use Rattle.verdict.specs.Tables.{automatonAt, automataOf, rewritten}
 use Rattle.verdict.specs.Workspace.{pair}
 use Rattle.verdict.specs.PairsTold.{Lent, Lending, systemOf, QueryStep, RowCase, RowTold, PairsCase, PairsTold}
@@ -40,6 +40,7 @@ pub record RowLoop (D : Lent) (w limit i n : ℕ) (space₀ : List ℕ) (a m : �
   pub kept : n ≤ m
   pub within : m ≤ limit
   pub size : length space ≡ length space₀
+  pub words : wordsAt space (18 * i + 1) 16 ≡ wordsAt space₀ (18 * i + 1) 16
   pub beyond : (j : ℕ) → 18 * limit ≤ j → getD space j 0 ≡ getD space₀ j 0
   pub told : Lending D → (flags : List ℕ) (l : List (Entry Pair)) → Holds w (D .states) (systemOf D flags) space₀ l → length l ≡ n
       → RowLeft D w flags limit i a l m space
@@ -60,6 +61,7 @@ row-start D w limit i n space h =
       kept = omega arith;
       within = h;
       size = refl;
+      words = refl;
       beyond = λ j k. refl;
       told = λ p flags l held count.
           record {
@@ -176,6 +178,7 @@ module _ (D : Lent) (w limit i n : ℕ) (space₀ : List ℕ) (a m : ℕ) (space
         kept = loop .kept;
         within = loop .within;
         size = loop .size;
+        words = loop .words;
         beyond = loop .beyond;
         told = λ p flags l held count. left-known p flags l held count r seen e;
       }
@@ -189,6 +192,8 @@ module _ (D : Lent) (w limit i n : ℕ) (space₀ : List ℕ) (a m : ℕ) (space
         kept = omega (arith, loop .kept);
         within = omega arith;
         size = stored .size ∙ loop .size;
+        words =
+            same-words space space′ (18 * i + 1) 16 (λ j k. stored .others (18 * i + 1 + j) (λ x y. omega (arith, loop .kept))) ∙ loop .words;
         beyond = λ j k. stored .others j (λ x y. omega arith) ∙ loop .beyond j k;
         told = λ p flags l held count. left-new p flags l held count r space′ seen e room few sized stored;
       }

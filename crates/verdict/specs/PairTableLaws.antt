@@ -1,13 +1,13 @@
 -- The laws of pairs in a workspace (PairTable): reading and storing a pair, and how the entries held grow by one.
-use Prim.Native.Nat.{ℕ, zero, suc, _+_, _*_, _/_, _%_, _^_, _<_}
+use Prim.Native.Nat.{ℕ, zero, suc, _+_, _*_, _/_, _%_, _^_, _≤_, _<_}
 use mathlib.Core.Bool.{Bool, true, false, _||_}
 use mathlib.Core.List.{List, [], _∷_, _++_}
 use mathlib.Core.Path.{_≡_, refl, sym, ap, ap₂, _∙_, subst, subst₂}
 use native.Mathlib.Decide.{ℕ-discrete}
 use native.Mathlib.Omega.{arith}
-use lib.ListN.{length, getD, length-append, List·getD-append}
+use lib.ListN.{length, getD, take, drop, length-append, length-take, length-drop, List·getD-append}
 use lib.Pow.{pow-pos}
-use lib.Seq.{ext-getD, getD-append-seam}
+use lib.Seq.{ext-getD, getD-take, getD-drop, getD-append-seam}
 use Rattle.theory.specs.Exploration.{System, Entry, known}
 use Rattle.theory.specs.Explored.{Tests, entryAt}
 use Rattle.places.specs.Words.{numberOf}
@@ -38,6 +38,12 @@ pub words-known : (space : List ℕ) (x n : ℕ) (l : List ℕ) → length l ≡
 words-known space x n l e h =
     ext-getD 0 (wordsAt space x n) l (length-words space x n ∙ sym e)
     (λ j k. let b : j < n = omega (arith, length-words space x n) in word-at space x n j b ∙ h j b)
+
+-- They are a part of the workspace.
+pub words-part : (space : List ℕ) (x n : ℕ) → x + n ≤ length space → wordsAt space x n ≡ take n (drop x space)
+words-part space x n h =
+    words-known space x n (take n (drop x space)) (simp (length-take, length-drop) (omega arith))
+    (λ j k. sym (getD-take n (drop x space) j 0 k ∙ getD-drop x space j 0))
 
 pub same-words : (space space′ : List ℕ) (x n : ℕ) → ((j : ℕ) → j < n → getD space′ (x + j) 0 ≡ getD space (x + j) 0)
     → wordsAt space′ x n ≡ wordsAt space x n

@@ -1,12 +1,12 @@
 // An index of the pairs in a lent workspace: 4,093 buckets, each with a chain of its pairs, the newest first.
-ghost use Prim.Native.Nat.{_+_, _*_, _≤_, _<_};
+ghost use Prim.Native.Nat.{_+_, _*_, _^_, _≤_, _<_};
 ghost use mathlib.Core.Path.{_≡_};
 ghost use lib.ListN.{length};
+ghost use Rattle.places.specs.Words.{numberOf};
 ghost use Rattle.finding.specs.Buckets.{Noted};
 ghost use Rattle.verdict.specs.PairTable.{Compared, Seen};
 ghost use Rattle.verdict.specs.Workspace.{pair};
 ghost use Rattle.verdict.specs.PairIndex.{bucketOf, Indexed};
-use places::wide::Wide;
 
 // The remainders by 4,093 of 2 ^ (64 × (j + 1)), with which the lower half of the word j counts, and of 2 ^ (64 × (j + 1) + 32), with which
 // its upper half does.
@@ -48,16 +48,18 @@ const HIGHS: [u64; 16] = [
     1016,
 ];
 
-// The bucket of a pair: the halves of the words are summed, each with what it counts, and divided once.
-pub fn bucket(standing: u64, cover: Wide) -> usize
-    ensures { λ r. ⌜ r ≡ bucketOf (pair standing (cover .words)) ⌝ }
+// The bucket of a pair whose cover set stands in the first `used` words: the halves of the words are summed, each with what it counts, and
+// divided once.
+pub fn bucket(standing: u64, cover: &[u64; 16], used: usize) -> usize
+    requires { ⌜ (used ≤ 16) × (numberOf (now cover) < 2 ^ (64 * used)) ⌝ }
+    ensures { λ r. ⌜ r ≡ bucketOf (pair standing (now (cover .entry))) ⌝ }
 {
-    let words = cover.words;
+    let words: &[u64] = cover;
     let lows = LOWS;
     let highs = HIGHS;
     let mut sum: u64 = standing % 4093;
     let mut j = 0;
-    while j < 16 {
+    while j < used {
         let word = words[j];
         sum += (word % 4294967296) * lows[j] + (word / 4294967296) * highs[j];
         j += 1;
@@ -75,14 +77,14 @@ pub fn note(heads: &mut [u16; 4093], nexts: &mut [u16; 4096], at: usize, m: usiz
 }
 
 // Whether the pair number i is the given one: compared where it stands, the standing first, up to the first word that differs.
-fn is_pair(workspace: &[u64], i: usize, standing: u64, cover: Wide) -> bool
+fn is_pair(workspace: &[u64], i: usize, standing: u64, cover: &[u64; 16]) -> bool
     requires { ⌜ 18 * i + 18 ≤ length (now workspace) ⌝ }
-    ensures { λ r. ⌜ Compared (now (workspace .entry)) i (pair standing (cover .words)) r ⌝ }
+    ensures { λ r. ⌜ Compared (now (workspace .entry)) i (pair standing (now (cover .entry))) r ⌝ }
 {
     if workspace[18 * i] != standing {
         return false;
     }
-    let words = cover.words;
+    let words: &[u64] = cover;
     let from = 18 * i + 1;
     let mut j = 0;
     while j < 16 {
@@ -102,11 +104,11 @@ pub fn seen(
     at: usize,
     n: usize,
     standing: u64,
-    cover: Wide,
+    cover: &[u64; 16],
 ) -> bool
-    requires { ⌜ (18 * n ≤ length (now workspace)) × (n ≤ 4096) × (at ≡ bucketOf (pair standing (cover .words)))
+    requires { ⌜ (18 * n ≤ length (now workspace)) × (n ≤ 4096) × (at ≡ bucketOf (pair standing (now cover)))
         × Indexed (now workspace) n (now heads) (now nexts) ⌝ }
-    ensures { λ r. ⌜ Seen n (now (workspace .entry)) (pair standing (cover .words)) r ⌝ }
+    ensures { λ r. ⌜ Seen n (now (workspace .entry)) (pair standing (now (cover .entry))) r ⌝ }
 {
     let mut next = heads[at] as usize;
     while 0 < next {

@@ -1,17 +1,38 @@
 // Cover sets as they stand in the workspace, turned where a width is given: the first one, and the step over a label.
-ghost use Prim.Native.Nat.{_*_, _≤_, _<_};
+ghost use Prim.Native.Nat.{suc, _+_, _*_, _^_, _≤_, _<_};
+ghost use mathlib.Core.Path.{_≡_};
+ghost use lib.ListN.{length};
 ghost use Rattle.places.specs.Words.{numberOf};
+ghost use Rattle.verdict.specs.Columns.{StatesWithin, PlacesWithin, EndedWithin, Stepped};
 ghost use Rattle.verdict.specs.CoverTold.{StartStands, StepStands};
-ghost use Rattle.verdict.specs.NextCover.{Laid};
+ghost use Rattle.verdict.specs.NextCover.{Laid, Used};
+ghost use Rattle.verdict.specs.PairTable.{wordsAt};
 ghost use Rattle.verdict.specs.Prepared.{Prepared};
+ghost use Rattle.verdict.specs.Tables.{Counted, occupied};
 ghost use Rattle.verdict.specs.Turned.{Stacked};
+ghost use Rattle.verdict.specs.TurnedColumns.{columnIn};
+use crate::clear::clear_words;
 use crate::column_steps::step_columns;
 use crate::columns::columns_at;
 use crate::columns::columns_of;
 use crate::columns::pack;
 use crate::cover::cover_start;
 use crate::cover::cover_step;
+use crate::workspace::load;
 use places::wide::Wide;
+
+// The words of a set are copied.
+fn copy(set: Wide, words: &mut [u64])
+    requires { ⌜ length (now words) ≡ 16 ⌝ }
+    ensures { λ _. ⌜ now (words .exit) ≡ set .words ⌝ }
+{
+    let from = set.words;
+    let mut j = 0;
+    while j < 16 {
+        words[j] = from[j];
+        j += 1;
+    }
+}
 
 // The cover set of the empty path. `laid` is for its columns.
 pub fn first_cover(
@@ -40,18 +61,71 @@ pub fn first_cover(
     start
 }
 
-// The columns of a set that stands turned, for all labels.
-pub fn lay(states: u64, w: u64, set: Wide, laid: &mut [u64; 1024])
-    requires { ⌜ (0 < w → (0 < states) × (states ≤ 64) × (states * w ≤ 1024)) ⌝ }
-    ensures { λ _. ⌜ (0 < w → Stacked w states (now (laid .exit)) (numberOf (set .words))) ⌝ }
+// How many words have all places of a set as it stands: where it is turned, as many as its places need.
+pub fn used_words(states: u64, w: u64) -> usize
+    requires { ⌜ (0 < w → states * w ≤ 1024) ⌝ }
+    ensures { λ r. ⌜ Used states w r ⌝ }
 {
-    if 0 < w {
-        let words = set.words;
-        columns_at(&words, w, states, laid);
+    if w == 0 {
+        16
+    } else {
+        ((states * w + 63) / 64) as usize
     }
 }
 
-// The next cover set. `laid` has the columns of the set.
+// The columns of the cover set of the pair number i, where it stands turned, for all labels.
+pub fn lay(states: u64, w: u64, workspace: &[u64], i: usize, laid: &mut [u64; 1024])
+    requires { ⌜ (0 < w → (0 < states) × (states ≤ 64) × (states * w ≤ 1024)) × (18 * i + 18 ≤ length (now workspace)) ⌝ }
+    ensures { λ _. ⌜ (0 < w → Stacked w states (now (laid .exit)) (numberOf (wordsAt (now (workspace .entry)) (18 * i + 1) 16))) ⌝ }
+{
+    if 0 < w {
+        let from = 18 * i + 1;
+        let to = from + 16;
+        columns_at(&workspace[from..to], w, states, laid);
+    }
+}
+
+// The step by columns, into words of which the first `used` hold a set of before.
+fn step_turned(
+    enter: &[u64],
+    sizes: &[u64],
+    accepting: &[u64],
+    lists: usize,
+    a: usize,
+    w: u64,
+    before: &[u64; 1024],
+    ended: &[u64; 1024],
+    laid: &[u64; 1024],
+    states: u64,
+    used: usize,
+    cover: &mut [u64; 16],
+)
+    requires { ⌜ Counted lists (now sizes) × (a < 32) × (32 * lists + 32 ≤ length (now enter)) × (lists < length (now accepting))
+        × (w ≡ suc (occupied (now sizes) 0 lists)) × PlacesWithin lists (now sizes) (now before) × (0 < states) × (states ≤ 64)
+        × (states * w ≤ 1024) × StatesWithin w states (now laid) × EndedWithin states lists (now ended) × (used ≤ 16)
+        × (numberOf (now cover) < 2 ^ (64 * used)) ⌝ }
+    ensures { λ _. ⌜ Stepped lists a (now (enter .entry)) (now (sizes .entry)) (now (accepting .entry)) (now (before .entry))
+        (now (ended .entry)) (now (laid .entry)) (columnIn states (now (cover .exit))) × (numberOf (now (cover .exit)) < 2 ^ (states * w))
+        × (length (now (cover .exit)) ≡ 16) ⌝ }
+{
+    clear_words(cover, used);
+    step_columns(
+        enter,
+        sizes,
+        accepting,
+        before,
+        ended,
+        lists,
+        a,
+        w,
+        laid,
+        states,
+        cover,
+    );
+}
+
+// The step of the cover set of the pair number i over the label a, as sets stand. `laid` has the columns of the set; `cover` has a set of
+// before, in its first `used` words.
 pub fn next_cover(
     states: u64,
     table: &[u16],
@@ -61,35 +135,40 @@ pub fn next_cover(
     accepting: &[u64],
     lists: usize,
     a: usize,
-    set: Wide,
+    workspace: &[u64],
+    i: usize,
     w: u64,
     before: &[u64; 1024],
     ended: &[u64; 1024],
     laid: &[u64; 1024],
-) -> Wide
-    requires { ⌜ Laid states lists (now follow) (now enter) (now sizes) (now accepting) (now table) w (now before) (now ended) (set .words)
-        (now laid) × (a < 32) ⌝ }
-    ensures { λ r. ⌜ StepStands w states lists (now (follow .entry)) (now (enter .entry)) (now (sizes .entry)) (now (accepting .entry)) (now (table .entry)) a
-        (set .words) (r .words) ⌝ }
+    used: usize,
+    cover: &mut [u64; 16],
+)
+    requires { ⌜ Laid states lists (now follow) (now enter) (now sizes) (now accepting) (now table) w (now before) (now ended)
+        (wordsAt (now workspace) (18 * i + 1) 16) (now laid) × (a < 32) × (18 * i + 18 ≤ length (now workspace)) × Used states w used
+        × (numberOf (now cover) < 2 ^ (64 * used)) ⌝ }
+    ensures { λ _. ⌜ StepStands w states lists (now (follow .entry)) (now (enter .entry)) (now (sizes .entry)) (now (accepting .entry)) (now (table .entry)) a
+        (wordsAt (now (workspace .entry)) (18 * i + 1) 16) (now (cover .exit)) × (numberOf (now (cover .exit)) < 2 ^ (64 * used))
+        × (length (now (cover .exit)) ≡ 16) ⌝ }
 {
     if 0 < w {
-        let mut words = [0; 16];
-        step_columns(
+        step_turned(
             enter,
             sizes,
             accepting,
-            before,
-            ended,
             lists,
             a,
             w,
+            before,
+            ended,
             laid,
             states,
-            &mut words,
+            used,
+            cover,
         );
-        return Wide { words };
+        return;
     }
-    cover_step(
+    let next = cover_step(
         states,
         table,
         follow,
@@ -98,6 +177,7 @@ pub fn next_cover(
         accepting,
         lists,
         a,
-        set,
-    )
+        load(workspace, i),
+    );
+    copy(next, cover);
 }

@@ -14,10 +14,9 @@ use crate::index::seen;
 use crate::next_cover::first_cover;
 use crate::next_cover::lay;
 use crate::next_cover::next_cover;
-use crate::workspace::load;
+use crate::next_cover::used_words;
 use finding::step::follows;
 use places::Places;
-use places::wide::Wide;
 
 pub enum Explored {
     // All pairs are found: how many.
@@ -27,11 +26,10 @@ pub enum Explored {
 }
 
 // Puts the words of a set into the workspace.
-fn put(workspace: &mut [u64], at: usize, set: Wide)
+fn put(workspace: &mut [u64], at: usize, words: &[u64; 16])
     requires { ⌜ at + 16 ≤ length (now workspace) ⌝ }
-    ensures { λ _. ⌜ Put (now (workspace .entry)) at 16 (set .words) (now (workspace .exit)) ⌝ }
+    ensures { λ _. ⌜ Put (now (workspace .entry)) at 16 (now (words .entry)) (now (workspace .exit)) ⌝ }
 {
-    let words = set.words;
     let mut j = 0;
     while j < 16 {
         workspace[at + j] = words[j];
@@ -40,9 +38,9 @@ fn put(workspace: &mut [u64], at: usize, set: Wide)
 }
 
 // Stores the pair number m, and how it was reached.
-fn store(workspace: &mut [u64], m: usize, standing: u64, cover: Wide, link: u64)
+fn store(workspace: &mut [u64], m: usize, standing: u64, cover: &[u64; 16], link: u64)
     requires { ⌜ 18 * m + 18 ≤ length (now workspace) ⌝ }
-    ensures { λ _. ⌜ Stored (now (workspace .entry)) m standing (cover .words) link (now (workspace .exit)) ⌝ }
+    ensures { λ _. ⌜ Stored (now (workspace .entry)) m standing (now (cover .entry)) link (now (workspace .exit)) ⌝ }
 {
     let at = 18 * m;
     workspace[at] = standing;
@@ -58,12 +56,12 @@ fn add(
     at: usize,
     m: usize,
     standing: u64,
-    cover: Wide,
+    cover: &[u64; 16],
     link: u64,
 )
-    requires { ⌜ (18 * m + 18 ≤ length (now workspace)) × (m < 4096) × (at ≡ bucketOf (pair standing (cover .words)))
-        × Indexed (now workspace) m (now heads) (now nexts) ⌝ }
-    ensures { λ _. ⌜ Stored (now (workspace .entry)) m standing (cover .words) link (now (workspace .exit))
+    requires { ⌜ (18 * m + 18 ≤ length (now workspace)) × (m < 4096) × (length (now cover) ≡ 16)
+        × (at ≡ bucketOf (pair standing (now cover))) × Indexed (now workspace) m (now heads) (now nexts) ⌝ }
+    ensures { λ _. ⌜ Stored (now (workspace .entry)) m standing (now (cover .entry)) link (now (workspace .exit))
         × Indexed (now (workspace .exit)) (m + 1) (now (heads .exit)) (now (nexts .exit)) ⌝ }
 {
     store(workspace, m, standing, cover, link);
@@ -130,14 +128,15 @@ fn row(
     ensures indexed { λ r. ⌜ IndexedAll (now (workspace .exit)) (now (heads .exit)) (now (nexts .exit)) r ⌝ }
 {
     let from = workspace[18 * i];
-    let set = load(workspace, i);
-    lay(states, w, set, laid);
+    lay(states, w, workspace, i, laid);
+    let used = used_words(states, w);
+    let mut cover: [u64; 16] = [0; 16];
     let after = query_follows(follow, sizes, from);
     let mut m = n;
     let mut a = 0;
     while a < labels {
         let standing = query_step(after, enter, a);
-        let cover = next_cover(
+        next_cover(
             states,
             table,
             follow,
@@ -146,19 +145,22 @@ fn row(
             accepting,
             lists,
             a,
-            set,
+            workspace,
+            i,
             w,
             before,
             ended,
             laid,
+            used,
+            &mut cover,
         );
-        let at = bucket(standing, cover);
-        if !seen(workspace, heads, nexts, at, m, standing, cover) {
+        let at = bucket(standing, &cover, used);
+        if !seen(workspace, heads, nexts, at, m, standing, &cover) {
             if m == limit {
                 return Explored::Over;
             }
             let link = (a * 8192 + i) as u64;
-            add(workspace, heads, nexts, at, m, standing, cover, link);
+            add(workspace, heads, nexts, at, m, standing, &cover, link);
             m += 1;
         }
         a += 1;
@@ -204,8 +206,9 @@ fn sweep(
         ended,
         &mut laid,
     );
-    let at = bucket(1, first);
-    add(workspace, &mut heads, &mut nexts, at, 0, 1, first, 0);
+    let cover = first.words;
+    let at = bucket(1, &cover, 16);
+    add(workspace, &mut heads, &mut nexts, at, 0, 1, &cover, 0);
     let mut n: usize = 1;
     let mut i = 0;
     while i < n {

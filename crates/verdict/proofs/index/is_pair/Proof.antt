@@ -3,7 +3,6 @@ use Prim.Native.Nat.{_+_, _*_, _-_, _≤_}
 use mathlib.Core.Bool.{true≢false, false≢true}
 use mathlib.Core.Path.{_≡_, refl, sym, ap, _∙_}
 use lib.ListN.{getD}
-use Rattle.places.proofs.Held.{array-count, array-words}
 use Rattle.verdict.specs.Workspace.{Words, words-start, words-same, pair-same, standing-differs, word-differs}
 use native.Mathlib.Omega.{arith}
 use borrow.Author.Needs.{needs}
@@ -11,10 +10,10 @@ use Rattle.verdict.proofs.index.is_pair.Statement.{statement}
 use Rattle.verdict.proofs.index.is_pair.Tie as tie
 
 abbrev Inv-loop : tie.InvT-loop
-Inv-loop workspace i standing words from j₀ j = (from ≡ 18 * i + 1) × (j ≤ 16) × Words workspace (18 * i + 1) j words
+Inv-loop workspace i standing cover words from j₀ j = (from ≡ 18 * i + 1) × (j ≤ 16) × Words workspace (18 * i + 1) j words
 
 abbrev μ-loop : tie.MeasureT-loop
-μ-loop workspace i standing words from j₀ j = 16 - j
+μ-loop workspace i standing cover words from j₀ j = 16 - j
 
 mul-if1 : tie.Need-mul-if1 Inv-loop μ-loop
 mul-if1 c = search needs
@@ -30,7 +29,7 @@ returns c =
     let s = c .before .before in
     record {
       same = λ q. absurd (false≢true q);
-      differs = λ q. standing-differs (s .args .workspace .now) (s .args .i) (s .args .standing) (s .args .cover .words) (c .if1 .taken);
+      differs = λ q. standing-differs (s .args .workspace .now) (s .args .i) (s .args .standing) (s .args .cover .now) (c .if1 .taken);
     }
 
 mul-from : tie.Need-mul-from Inv-loop μ-loop
@@ -42,8 +41,7 @@ add-from c = search needs
 loop-holds : tie.Need-loop-holds Inv-loop μ-loop
 loop-holds c =
     let s = c .before .before .before in
-    let size = array-count 16 (s .args .cover .words) _ (s .good .1 .1 .1 .0 .1 .1 .0) in
-    (refl, omega arith, words-start (s .args .workspace .now) (18 * s .args .i + 1) (s .args .cover .words) size)
+    (refl, omega arith, words-start (s .args .workspace .now) (18 * s .args .i + 1) (s .args .cover .now) (c .words .given .0))
 
 add-if2 : tie.Need-add-if2 Inv-loop μ-loop
 add-if2 c = search needs
@@ -57,20 +55,18 @@ shared-slice-read-if2 c = search needs
 mul-if2-2 : tie.Need-mul-if2-2 Inv-loop μ-loop
 mul-if2-2 c = search needs
 
-array-read-if2 : tie.Need-array-read-if2 Inv-loop μ-loop
-array-read-if2 c = search needs
+shared-slice-read-if2-2 : tie.Need-shared-slice-read-if2-2 Inv-loop μ-loop
+shared-slice-read-if2-2 c = search needs
 
 returns-2 : tie.Need-returns-2 Inv-loop μ-loop
 returns-2 c =
-    let l = c .before .before .before .loop in
-    let s = c .before .before .before .before .before .before .before in
-    let good = s .good .1 .1 .1 .0 .1 .1 .0 in
+    let l = c .before .before .before .before .loop in
+    let s = c .before .before .before .before .before .before .before .before in
     record {
       same = λ q. absurd (false≢true q);
-      differs = λ q. word-differs (s .args .workspace .now) (s .args .i) (s .args .standing) (l .j) (s .args .cover .words)
-          (λ k. omega (arith, c .before .before .before .before .before .before .shared-slice-known .given k))
-          (array-words 16 (s .args .cover .words) _ good) (array-count 16 (s .args .cover .words) _ good)
-          (c .before .before .loop-test .taken)
+      differs = λ q. word-differs (s .args .workspace .now) (s .args .i) (s .args .standing) (l .j) (s .args .cover .now)
+          (λ k. omega (arith, c .before .before .before .before .before .before .before .shared-slice-known .given k))
+          (λ k. omega (arith, c .before .shared-slice-known3 .given k)) (l .inv .2 .size) (c .before .before .before .loop-test .taken)
           (λ e. c .if2 .taken (ap (λ x. getD (s .args .workspace .now) (x + l .j) 0) (l .inv .0) ∙ e));
     }
 
@@ -82,11 +78,11 @@ loop-less c = search needs
 
 loop-again : tie.Need-loop-again Inv-loop μ-loop
 loop-again c =
-    let l = c .before .before .before .loop in
-    let s = c .before .before .before .before .before .before .before in (
+    let l = c .before .before .before .before .loop in
+    let s = c .before .before .before .before .before .before .before .before in (
       l .inv .0,
-      omega (arith, c .before .before .loop-test .taken),
-      words-same (s .args .workspace .now) (18 * s .args .i + 1) (l .j) (s .args .cover .words)
+      omega (arith, c .before .before .before .loop-test .taken),
+      words-same (s .args .workspace .now) (18 * s .args .i + 1) (l .j) (s .args .cover .now)
           (ap (λ x. getD (s .args .workspace .now) (x + l .j) 0) (sym (l .inv .0)) ∙ c .if2 .left) (l .inv .2),
     )
 
@@ -95,7 +91,7 @@ returns-3 c =
     let l = c .before .loop in
     let s = c .before .before .before .before .before in
     record {
-      same = λ q. pair-same (s .args .workspace .now) (s .args .i) (s .args .standing) (l .j) (s .args .cover .words)
+      same = λ q. pair-same (s .args .workspace .now) (s .args .i) (s .args .standing) (l .j) (s .args .cover .now)
           (c .loop-test .left) (l .inv .2) (c .before .before .before .if1 .left);
       differs = λ q. absurd (true≢false q);
     }
@@ -117,7 +113,7 @@ is-pair-spec =
     mul-if2
     shared-slice-read-if2
     mul-if2-2
-    array-read-if2
+    shared-slice-read-if2-2
     returns-2
     add-j
     loop-less

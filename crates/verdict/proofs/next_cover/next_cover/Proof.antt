@@ -1,19 +1,20 @@
 -- The step by columns, or of a set as it stands.
-use mathlib.Core.Path.{refl}
+use Prim.Native.Nat.{_+_, _*_, _^_, _<_}
+use mathlib.Core.Path.{_≡_, sym, _∙_, subst}
+use lib.Pow.{pow-mono}
 use Rattle.places.specs.Words.{numberOf}
+use Rattle.places.specs.WordsLaws.{number-below}
+use Rattle.places.proofs.Held.{array-count, array-words}
 use Rattle.verdict.specs.NextCover.{next-stands, step-plain}
+use Rattle.verdict.specs.PairTable.{wordsAt}
 use native.Mathlib.Omega.{arith}
 use borrow.Author.Needs.{needs}
 use Rattle.verdict.proofs.next_cover.next_cover.Statement.{statement}
 use Rattle.verdict.proofs.next_cover.next_cover.Tie as tie
 
-slice-aggregate-step-columns : tie.Need-slice-aggregate-step-columns
-slice-aggregate-step-columns c = search needs
-
-step-columns-requires : tie.Need-step-columns-requires
-unfolding numberOf
-step-columns-requires c κs =
-    let s = c .before .before .before .before .before .before .before in
+step-turned-requires : tie.Need-step-turned-requires
+step-turned-requires c κs =
+    let s = c .before .before .before .before .before .before .before .before in
     let w = c .before .if1 .taken in
     let p = s .pre .0 .prepared w in
     let r = p .ready in (
@@ -23,27 +24,55 @@ step-columns-requires c κs =
       r .accepting-room,
       r .wide,
       p .leading .within,
-      refl,
-      refl,
       p .some,
       p .few,
       r .few-places,
       s .pre .0 .stacked w .within,
       p .finishing .within,
+      s .pre .3 .within,
+      s .pre .4,
     )
 
 returns : tie.Need-returns
 returns c =
     let s = c .before .before .before .before .before .before .before .before .before in
-    let w = c .before .before .before .if1 .taken in
-    let told = c .before .step-columns .ensures in
-    next-stands (s .pre .0 .prepared w) (s .args .set .words) (s .pre .0 .stacked w) _ (told .0) (told .1)
+    let w = c .before .before .if1 .taken in
+    let told = c .step-turned .ensures in (
+      next-stands (s .pre .0 .prepared w) (wordsAt (s .args .workspace .now) (18 * s .args .i + 1) 16) (s .pre .0 .stacked w) _ (told .0)
+          (told .1),
+      omega (arith, told .1, pow-mono (s .pre .3 .turned w)),
+      told .2,
+    )
+
+load-requires : tie.Need-load-requires
+load-requires c κs = search needs
 
 cover-step-requires : tie.Need-cover-step-requires
 cover-step-requires c κs = search needs
 
+copy-requires : tie.Need-copy-requires
+copy-requires c κs = c .copy-arg .given .0 .1
+
 returns-2 : tie.Need-returns-2
-returns-2 c = step-plain (c .before .before .before .before .before .before .before .args .set .words) (c .cover-step .result .words) (omega (arith, c .before .if1 .left)) (c .cover-step .ensures)
+returns-2 c =
+    let s = c .before .before .before .before .before .before .before .before .before .before .before in
+    let made = c .before .before .cover-step in
+    let plain : s .args .w ≡ 0 = omega (arith, c .before .before .before .before .if1 .left) in
+    let size = array-count 16 (made .result .words) _ (made .ok .1 .1 .0) in
+    let below = number-below (made .result .words) (array-words 16 (made .result .words) _ (made .ok .1 .1 .0)) in
+    rw (c .copy .ensures) (
+      rw (← c .before .before .before .load .ensures (s .pre .2)) (step-plain _ (made .result .words) plain (made .ensures)),
+      subst (λ k. numberOf (made .result .words) < 2 ^ (64 * k)) (size ∙ sym (s .pre .3 .plain plain)) below,
+      size,
+    )
 
 pub next-cover-spec : {M : Type 1} → statement M
-next-cover-spec = tie.close (tie.spec slice-aggregate-step-columns step-columns-requires returns cover-step-requires returns-2)
+next-cover-spec =
+    tie.close
+    (tie.spec
+    step-turned-requires
+    returns
+    load-requires
+    cover-step-requires
+    copy-requires
+    returns-2)

@@ -1,5 +1,4 @@
 -- The pair is stored, and put in front of its chain.
-use Rattle.places.proofs.Held.{array-count}
 use Rattle.verdict.specs.Workspace.{pair}
 use Rattle.verdict.specs.PairIndexLaws.{bucket-below, indexed-more}
 use native.Mathlib.Omega.{arith}
@@ -13,7 +12,7 @@ store-requires c κs = search needs
 note-requires : tie.Need-note-requires
 note-requires c κs =
     let s = c .before .before .before .before .before .before .before in
-    (omega (arith, bucket-below (pair (s .args .standing) (s .args .cover .words)), s .pre .2), s .pre .1)
+    (omega (arith, bucket-below (pair (s .args .standing) (s .args .cover .now)), s .pre .3), s .pre .1)
 
 same-length : tie.Need-same-length
 same-length c = c .before .before .before .before .before .store .ensures .size
@@ -22,8 +21,7 @@ returns : tie.Need-returns
 returns c =
     let s = c .before .before .before .before .before .before .before .before in
     let stored = c .before .before .before .before .before .store .ensures in
-    let size = array-count 16 (s .args .cover .words) _ (s .good .1 .1 .1 .1 .1 .1 .0 .1 .1 .0) in
-    (stored, indexed-more stored size (s .args .at) _ _ _ _ (s .pre .2) (s .pre .1) (s .pre .3) (c .note .ensures))
+    (stored, indexed-more stored (s .pre .2) (s .args .at) _ _ _ _ (s .pre .3) (s .pre .1) (s .pre .4) (c .note .ensures))
 
 pub add-spec : {M : Type 1} → statement M
 add-spec = tie.close (tie.spec store-requires note-requires same-length returns)

@@ -1,26 +1,30 @@
--- The loop's invariant: the labels that are left give what all labels give, and the pairs found are indexed.
-use Prim.Native.Nat.{_+_, _*_, _-_, _<_}
+-- The loop's invariant: the labels that are left give what all labels give, the pairs found are indexed, and the set of before is in the
+-- words in use.
+use Prim.Native.Nat.{_+_, _*_, _-_, _^_, _<_}
 use mathlib.Core.Logic.{⊎-elim}
-use mathlib.Core.Path.{refl, sym, subst₂}
+use mathlib.Core.Path.{refl, sym, subst, subst₂}
 use lib.ListN.{getD}
-use Rattle.places.proofs.Held.{array-count}
+use lib.Pow.{pow-pos}
+use Rattle.places.specs.Words.{numberOf}
 use Rattle.verdict.specs.PairIndex.{Indexed}
 use Rattle.verdict.specs.PairIndexLaws.{indexed-same, indexed-all, indexed-over}
 use Rattle.verdict.specs.PairRows.{not-true, not-false}
 use Rattle.verdict.specs.PairRows.{RowLoop, Stepped, row-start, row-known, row-new, row-exceeds, row-told}
+use Rattle.verdict.specs.PairTable.{wordsAt}
 use Rattle.verdict.specs.PairsTold.{lent}
+use Rattle.verdict.specs.Turned.{Stacked}
 use native.Mathlib.Omega.{arith}
 use borrow.Author.Needs.{needs}
 use Rattle.verdict.proofs.pairs.row.Statement.{statement}
 use Rattle.verdict.proofs.pairs.row.Tie as tie
 
 abbrev Inv-loop : tie.InvT-loop
-Inv-loop states table follow enter sizes accepting lists labels limit i n w before ended laid workspace₀ heads₀ nexts₀ from set after m₀ a₀ workspace heads nexts m a =
+Inv-loop states table follow enter sizes accepting lists labels limit i n w before ended laid workspace₀ heads₀ nexts₀ from used cover₀ after m₀ a₀ workspace heads nexts cover m a =
     RowLoop (lent states labels lists follow enter sizes accepting table) w limit i n workspace₀ a m workspace
-    × Indexed workspace m heads nexts
+    × Indexed workspace m heads nexts × (numberOf cover < 2 ^ (64 * used))
 
 abbrev μ-loop : tie.MeasureT-loop
-μ-loop states table follow enter sizes accepting lists labels limit i n w before ended laid workspace₀ heads₀ nexts₀ from set after m₀ a₀ workspace heads nexts m a =
+μ-loop states table follow enter sizes accepting lists labels limit i n w before ended laid workspace₀ heads₀ nexts₀ from used cover₀ after m₀ a₀ workspace heads nexts cover m a =
     labels - a
 
 mul-from : tie.Need-mul-from Inv-loop μ-loop
@@ -32,61 +36,74 @@ mul-from-2 c = search needs
 slice-read-from : tie.Need-slice-read-from Inv-loop μ-loop
 slice-read-from c = let s = c .before .before .before .before .before .before .before in omega (arith, s .pre .0, s .pre .1, s .pre .4)
 
-load-requires : tie.Need-load-requires Inv-loop μ-loop
-load-requires c κs = search needs
-
 lay-requires : tie.Need-lay-requires Inv-loop μ-loop
-lay-requires c κs = λ h. let p = c .before .before .before .before .before .before .before .before .before .before .pre .6 h in (p .some, p .few, p .ready .few-places)
+lay-requires c κs =
+    let s = c .before .before .before .before .before .before .before .before .before in
+    (λ h. let p = s .pre .6 h in (p .some, p .few, p .ready .few-places), omega (arith, s .pre .0, s .pre .1, s .pre .4))
+
+used-words-requires : tie.Need-used-words-requires Inv-loop μ-loop
+used-words-requires c κs = λ h. c .before .before .before .before .before .before .before .before .before .before .pre .6 h .ready .few-places
 
 query-follows-requires : tie.Need-query-follows-requires Inv-loop μ-loop
 query-follows-requires c κs = search needs
 
 loop-holds : tie.Need-loop-holds Inv-loop μ-loop
+unfolding numberOf
 loop-holds c =
     let s = c .before .before .before .before .before .before .before .before .before .before .before .before in
-    (row-start _ _ _ _ _ _ (s .pre .1), s .pre .5)
+    (row-start _ _ _ _ _ _ (s .pre .1), s .pre .5, pow-pos (64 * c .before .used-words .result))
 
 query-step-requires : tie.Need-query-step-requires Inv-loop μ-loop
 query-step-requires c κs = search needs
 
 next-cover-requires : tie.Need-next-cover-requires Inv-loop μ-loop
 next-cover-requires c κs =
-    let s = c .before .before .before .before .before .before .before .before .before .before .before .before .before .before .before .before in
-    (record { prepared = s .pre .6; stacked = c .before .before .before .before .before .lay .ensures }, omega (arith, c .before .before .loop-test .taken, s .pre .3))
+    let in-loop = c .before .before .before .before in
+    let lay = in-loop .before .before .before .before .lay in
+    let l = in-loop .before .loop in
+    let s = in-loop .before .before .before .before .before .before .before .before .before .before .before .before .before .before in (
+      record {
+        prepared = s .pre .6;
+        stacked = λ h. subst (λ z. Stacked (s .args .w) (s .args .states) (lay .last .1 .1 .1 .1 .0) (numberOf z)) (sym (l .inv .0 .words)) (lay .ensures h);
+      },
+      omega (arith, in-loop .loop-test .taken, s .pre .3),
+      omega (arith, l .inv .0 .size, s .pre .0, s .pre .1, s .pre .4),
+      in-loop .before .before .before .used-words .ensures,
+      l .inv .2,
+    )
 
 bucket-requires : tie.Need-bucket-requires Inv-loop μ-loop
-bucket-requires c κs = search needs
+bucket-requires c κs = (c .before .before .before .before .before .before .before .before .before .used-words .ensures .within, c .before .next-cover .ensures .1)
 
 seen-requires : tie.Need-seen-requires Inv-loop μ-loop
 seen-requires c κs =
-    let s = c .before .before .before .before .before .before .before .before .before .before .before .before .before .before .before .before .before .before .before .before .before in
-    let l = c .before .before .before .before .before .before .before .before .loop in (
+    let s = c .before .before .before .before .before .before .before .before .before .before .before .before .before .before .before .before .before .before .before .before .before .before .before .before .before in
+    let l = c .before .before .before .before .before .before .before .before .before .before .before .before .loop in (
       omega (arith, l .inv .0 .within, l .inv .0 .size, s .pre .4),
       omega (arith, l .inv .0 .within, s .pre .2),
-      c .before .before .before .bucket .ensures,
+      c .before .before .before .before .bucket .ensures,
       l .inv .1,
     )
 
 same-length : tie.Need-same-length Inv-loop μ-loop
-same-length c = c .before .before .before .before .before .before .before .before .before .before .before .loop .inv .0 .size
+same-length c = c .before .before .before .before .before .before .before .before .before .before .before .before .before .before .before .loop .inv .0 .size
 
 returns : tie.Need-returns Inv-loop μ-loop
 returns c =
     let seen = c .before .before in
-    let w = c .before .before .before .before .before .before .before .next-cover in
-    let q = c .before .before .before .before .before .before .before .before .before .query-step in
-    let l = c .before .before .before .before .before .before .before .before .before .before .before .loop in
-    let after = c .before .before .before .before .before .before .before .before .before .before .before .before .query-follows .ensures in
-    let load = c .before .before .before .before .before .before .before .before .before .before .before .before .before .before .before .load in
-    let s = c .before .before .before .before .before .before .before .before .before .before .before .before .before .before .before .before .before .before .before .before .before .before .before .before in (
-      row-exceeds _ _ _ _ _ _ (l .a) (l .m) _ (l .inv .0) (c .before .before .before .before .before .before .before .before .before .before .loop-test .taken) (s .pre .0) (q .result) (w .result .words)
+    let cover = c .before .before .before .before .before .before .before .before .before .next-cover in
+    let q = c .before .before .before .before .before .before .before .before .before .before .before .before .before .query-step in
+    let in-loop = c .before .before .before .before .before .before .before .before .before .before .before .before .before .before in
+    let l = in-loop .before .loop in
+    let s = in-loop .before .before .before .before .before .before .before .before .before .before .before .before .before .before in (
+      row-exceeds _ _ _ _ _ _ (l .a) (l .m) _ (l .inv .0) (in-loop .loop-test .taken) (s .pre .0) (q .result) _
           (record {
             from = getD (s .args .workspace .now) (18 * s .args .i) 0;
             from-at = refl;
-            words = load .result .words;
-            words-at = load .ensures (omega (arith, s .pre .0, s .pre .1, s .pre .4));
-            query = q .ensures _ _ _ after;
-            covered = w .ensures;
+            words = wordsAt (l .workspace) (18 * s .args .i + 1) 16;
+            words-at = l .inv .0 .words;
+            query = q .ensures _ _ _ (in-loop .before .before .query-follows .ensures);
+            covered = cover .ensures .0;
           })
           (seen .seen .result) (seen .seen .ensures) (not-true (seen .seen .result) (c .before .if1 .taken)) (omega (arith, c .if2 .taken)),
       indexed-over,
@@ -94,80 +111,80 @@ returns c =
 
 mul-link : tie.Need-mul-link Inv-loop μ-loop
 mul-link c =
-    let in-loop = c .before .before .before .before .before .before .before .before .before .before in
+    let in-loop = c .before .before .before .before .before .before .before .before .before .before .before .before .before .before in
     let s = in-loop .before .before .before .before .before .before .before .before .before .before .before .before .before .before in
     omega (arith, in-loop .loop-test .taken, s .pre .3)
 
 add-link : tie.Need-add-link Inv-loop μ-loop
 add-link c =
-    let in-loop = c .before .before .before .before .before .before .before .before .before .before in
+    let in-loop = c .before .before .before .before .before .before .before .before .before .before .before .before .before .before in
     let s = in-loop .before .before .before .before .before .before .before .before .before .before .before .before .before .before in
     omega (arith, in-loop .loop-test .taken, s .pre .0, s .pre .1, s .pre .2, s .pre .3)
 
 add-requires : tie.Need-add-requires Inv-loop μ-loop
 add-requires c κs =
-    let in-loop = c .before .before .before .before .before .before .before .before .before .before .before .before .before in
+    let in-loop = c .before .before .before .before .before .before .before .before .before .before .before .before .before .before .before .before .before .before in
     let s = in-loop .before .before .before .before .before .before .before .before .before .before .before .before .before .before in
     let l = in-loop .before .loop in
-    let m : l .m < s .args .limit = omega (arith, l .inv .0 .within, c .before .before .before .if2 .left) in (
+    let m : l .m < s .args .limit = omega (arith, l .inv .0 .within, c .before .before .before .before .if2 .left) in (
       omega (arith, m, l .inv .0 .size, s .pre .4),
       omega (arith, m, s .pre .2),
-      c .before .before .before .before .before .before .before .before .before .bucket .ensures,
+      c .before .before .before .before .before .before .before .before .before .before .before .before .before .next-cover .ensures .2,
+      c .before .before .before .before .before .before .before .before .before .before .before .bucket .ensures,
       l .inv .1,
     )
 
 add-m : tie.Need-add-m Inv-loop μ-loop
 add-m c =
-    let call = c .before .before .before .before .before in
-    let in-loop = call .before .before .before .before .before .before .before .before .before .before .before in
+    let in-loop = c .before .before .before .before .before .before .before .before .before .before .before .before .before .before .before .before .before .before .before .before .before in
     let s = in-loop .before .before .before .before .before .before .before .before .before .before .before .before .before .before in
     omega (arith, in-loop .before .loop .inv .0 .within, s .pre .2)
 
 add-a : tie.Need-add-a Inv-loop μ-loop
 add-a c =
-    let in-loop = c .before .before .before .before .before .before .before .before .before in
+    let in-loop = c .before .before .before .before .before .before .before .before .before .before .before .before .before in
     let s = in-loop .before .before .before .before .before .before .before .before .before .before .before .before .before .before in
     omega (arith, in-loop .loop-test .taken, s .pre .3)
 
 loop-less : tie.Need-loop-less Inv-loop μ-loop
-loop-less c = omega (arith, c .before .before .before .before .before .before .before .before .before .loop-test .taken)
+loop-less c = omega (arith, c .before .before .before .before .before .before .before .before .before .before .before .before .before .loop-test .taken)
 
 loop-again : tie.Need-loop-again Inv-loop μ-loop
 loop-again c =
     let seen = c .before in
-    let w = seen .before .before .before .before .before .next-cover in
-    let q = seen .before .before .before .before .before .before .before .query-step in
-    let in-loop = seen .before .before .before .before .before .before .before .before in
+    let next = c .before .before .before .before .before .before .before .before .next-cover in
+    let cover = next .last .1 .1 .1 .1 .1 .1 .1 .1 .1 .1 .1 .1 .1 .1 .1 .0 in
+    let q = c .before .before .before .before .before .before .before .before .before .before .before .before .query-step in
+    let in-loop = c .before .before .before .before .before .before .before .before .before .before .before .before .before in
     let l = in-loop .before .loop in
-    let after = in-loop .before .before .query-follows .ensures in
-    let load = in-loop .before .before .before .before .before .load in
     let s = in-loop .before .before .before .before .before .before .before .before .before .before .before .before .before .before in
     let D =
     lent (s .args .states) (s .args .labels) (s .args .lists) (s .args .follow .now) (s .args .enter .now) (s .args .sizes .now)
     (s .args .accepting .now) (s .args .table .now) in
-    let step : Stepped D (s .args .w) (s .args .workspace .now) (s .args .i) (l .a) (q .result) (w .result .words) =
+    let step : Stepped D (s .args .w) (s .args .workspace .now) (s .args .i) (l .a) (q .result) cover =
     record {
       from = getD (s .args .workspace .now) (18 * s .args .i) 0;
       from-at = refl;
-      words = load .result .words;
-      words-at = load .ensures (omega (arith, s .pre .0, s .pre .1, s .pre .4));
-      query = q .ensures _ _ _ after;
-      covered = w .ensures;
+      words = wordsAt (l .workspace) (18 * s .args .i + 1) 16;
+      words-at = l .inv .0 .words;
+      query = q .ensures _ _ _ (in-loop .before .before .query-follows .ensures);
+      covered = next .ensures .0;
     } in
     ⊎-elim
     (λ x. (
-      subst₂ (RowLoop D (s .args .w) (s .args .limit) (s .args .i) (s .args .n) (s .args .workspace .now) (l .a + 1)) (sym (x .11)) (sym (x .8))
-          (row-new D _ _ _ _ _ (l .a) (l .m) _ (l .inv .0) (in-loop .loop-test .taken) (s .pre .0) (q .result) (w .result .words) step
-          (seen .seen .result) (x .5 .last .0) (seen .seen .ensures) (not-true (seen .seen .result) (x .0 .taken))
-          (omega (arith, l .inv .0 .within, x .1 .left)) (s .pre .2)
-          (array-count 16 (w .result .words) _ (w .ok .1 .1 .0)) (x .5 .ensures .0)),
-      indexed-same (x .8) (x .9) (x .10) (x .11) (x .5 .ensures .1),
+      subst₂ (RowLoop D (s .args .w) (s .args .limit) (s .args .i) (s .args .n) (s .args .workspace .now) (l .a + 1)) (sym (x .12)) (sym (x .9))
+          (row-new D _ _ _ _ _ (l .a) (l .m) _ (l .inv .0) (in-loop .loop-test .taken) (s .pre .0) (q .result) cover step
+          (seen .seen .result) (x .6 .last .0) (seen .seen .ensures) (not-true (seen .seen .result) (x .0 .taken))
+          (omega (arith, l .inv .0 .within, x .1 .left)) (s .pre .2) (next .ensures .2) (x .6 .ensures .0)),
+      indexed-same (x .9) (x .10) (x .11) (x .12) (x .6 .ensures .1),
+      next .ensures .1,
     ))
     (λ x. (
       subst₂ (RowLoop D (s .args .w) (s .args .limit) (s .args .i) (s .args .n) (s .args .workspace .now) (l .a + 1)) (sym (x .4)) (sym (x .1))
-          (row-known D _ _ _ _ _ (l .a) (l .m) _ (l .inv .0) (in-loop .loop-test .taken) (s .pre .0) (q .result) (w .result .words) step
+          (row-known D _ _ _ _ _ (l .a) (l .m) _ (l .inv .0) (in-loop .loop-test .taken) (s .pre .0) (q .result) cover step
           (seen .seen .result) (seen .seen .ensures) (not-false (seen .seen .result) (x .0 .left))),
       indexed-same (x .1) (x .2) (x .3) (x .4) (l .inv .1),
+      next .ensures .1,
     ))
     (c .if1 .came)
 
@@ -188,8 +205,8 @@ row-spec =
     mul-from
     mul-from-2
     slice-read-from
-    load-requires
     lay-requires
+    used-words-requires
     query-follows-requires
     loop-holds
     query-step-requires

@@ -43,7 +43,7 @@ same-length c =
 returns : tie.Need-returns
 returns c =
     let s = c .before .before .before .before .before in
-    stored-all (s .args .workspace .now) (s .args .m) (s .args .standing) (s .args .cover .words) (s .args .link) (c .before .before .put .last .0) (s .pre)
+    stored-all (s .args .workspace .now) (s .args .m) (s .args .standing) (s .args .cover .now) (s .args .link) (c .before .before .put .last .0) (s .pre)
     (c .before .before .put .ensures)
 
 pub store-spec : {M : Type 1} → statement M

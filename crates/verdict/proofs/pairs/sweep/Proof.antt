@@ -1,7 +1,9 @@
 -- The loop's invariant: the entries that are left give what all entries give, and the pairs found are indexed.
-use Prim.Native.Nat.{_-_}
-use mathlib.Core.Path.{_∙_}
-use Rattle.places.proofs.Held.{array-count}
+use Prim.Native.Nat.{_*_, _-_, _^_, _<_}
+use mathlib.Core.Path.{_∙_, subst}
+use Rattle.places.specs.Words.{numberOf}
+use Rattle.places.specs.WordsLaws.{number-below}
+use Rattle.places.proofs.Held.{array-count, array-words}
 use Rattle.verdict.specs.PairsTold.{lent}
 use Rattle.verdict.specs.PairIndex.{Indexed}
 use Rattle.verdict.specs.PairIndexLaws.{indexed-none}
@@ -22,18 +24,28 @@ first-cover-requires : tie.Need-first-cover-requires Inv-loop μ-loop
 first-cover-requires c κs = c .before .before .before .before .before .before .before .pre .4
 
 bucket-requires : tie.Need-bucket-requires Inv-loop μ-loop
-bucket-requires c κs = search needs
+bucket-requires c κs =
+    let cover = c .before .before .first-cover in
+    let held = cover .ok .1 .1 .0 in
+    let below = number-below (cover .result .words) (array-words 16 (cover .result .words) _ held) in
+    (omega arith, subst (λ k. numberOf (cover .result .words) < 2 ^ (64 * k)) (array-count 16 (cover .result .words) _ held) below)
 
 add-requires : tie.Need-add-requires Inv-loop μ-loop
 add-requires c κs =
-    let s = c .before .before .before .before .before .before .before .before .before .before .before .before in
-    (omega (arith, s .pre .0, s .pre .3), omega arith, c .before .before .before .bucket .ensures, indexed-none (s .args .workspace .now))
+    let cover = c .before .before .before .before .before .before .before .first-cover in
+    let s = c .before .before .before .before .before .before .before .before .before .before .before .before .before .before .before in (
+      omega (arith, s .pre .0, s .pre .3),
+      omega arith,
+      array-count 16 (cover .result .words) _ (cover .ok .1 .1 .0),
+      c .before .before .before .before .bucket .ensures,
+      indexed-none (s .args .workspace .now),
+    )
 
 loop-holds : tie.Need-loop-holds Inv-loop μ-loop
 loop-holds c =
     let first = c .before .before in
-    let cover = c .before .before .before .before .before .before .before .first-cover in
-    let s = c .before .before .before .before .before .before .before .before .before .before .before .before .before .before .before in (
+    let cover = c .before .before .before .before .before .before .before .before .before .before .first-cover in
+    let s = c .before .before .before .before .before .before .before .before .before .before .before .before .before .before .before .before .before .before in (
       sweep-start _ _ _ (s .args .workspace .now) (first .add .last .0) (cover .result .words) (s .pre .0)
           (array-count 16 (cover .result .words) _ (cover .ok .1 .1 .0)) (cover .ensures) (first .add .ensures .0),
       first .add .ensures .1,
@@ -42,7 +54,7 @@ loop-holds c =
 row-requires : tie.Need-row-requires Inv-loop μ-loop
 row-requires c κs =
     let l = c .before .before .before .before .before .loop in
-    let s = c .before .before .before .before .before .before .before .before .before .before .before .before .before .before .before .before .before .before .before .before .before in (
+    let s = c .before .before .before .before .before .before .before .before .before .before .before .before .before .before .before .before .before .before .before .before .before .before .before .before in (
       c .before .before .before .before .loop-test .taken,
       l .inv .0 .within,
       s .pre .1,
@@ -65,14 +77,14 @@ returns : tie.Need-returns Inv-loop μ-loop
 returns c =
     let l = c .before .before .before .before .before .before .before .before .before .before .loop in
     let first = c .before .before .before .before .before .before .before .before .before .before .before .before .before in
-    let s = c .before .before .before .before .before .before .before .before .before .before .before .before .before .before .before .before .before .before .before .before .before .before .before .before .before .before in
+    let s = c .before .before .before .before .before .before .before .before .before .before .before .before .before .before .before .before .before .before .before .before .before .before .before .before .before .before .before .before .before in
     let r = c .before .before .before .before .row in
     told-before _ _ _ _ (first .add .last .0) _ _ (r .last .1 .1 .1 .1 .1 .1 .1 .1 .1 .1 .1 .1 .1 .1 .1 .0) (s .pre .0) (first .add .ensures .0)
     (sweep-exceeds _ _ _ (first .add .last .0) (l .i) (l .n) (l .workspace) (l .inv .0) (c .before .before .before .before .before .before .before .before .before .loop-test .taken)
     (r .result) (r .last .1 .1 .1 .1 .1 .1 .1 .1 .1 .1 .1 .1 .1 .1 .1 .0) (r .ensures .0) (c .enum-told .given .1))
 
 add-i : tie.Need-add-i Inv-loop μ-loop
-add-i c = omega (arith, c .before .before .before .before .before .before .before .before .before .before .loop-test .taken, c .before .before .before .before .before .before .before .before .before .before .before .loop .inv .0 .within, c .before .before .before .before .before .before .before .before .before .before .before .before .before .before .before .before .before .before .before .before .before .before .before .before .before .before .before .pre .1)
+add-i c = omega (arith, c .before .before .before .before .before .before .before .before .before .before .loop-test .taken, c .before .before .before .before .before .before .before .before .before .before .before .loop .inv .0 .within, c .before .before .before .before .before .before .before .before .before .before .before .before .before .before .before .before .before .before .before .before .before .before .before .before .before .before .before .before .before .before .pre .1)
 
 loop-less : tie.Need-loop-less Inv-loop μ-loop
 loop-less c = omega (arith, c .before .before .before .before .before .before .before .before .before .before .loop-test .taken, c .before .before .before .before .before .before .before .before .before .before .before .loop .inv .0 .within)
@@ -94,7 +106,7 @@ returns-2 : tie.Need-returns-2 Inv-loop μ-loop
 returns-2 c =
     let l = c .before .loop in
     let first = c .before .before .before .before in
-    let s = c .before .before .before .before .before .before .before .before .before .before .before .before .before .before .before .before .before in
+    let s = c .before .before .before .before .before .before .before .before .before .before .before .before .before .before .before .before .before .before .before .before in
     told-before _ _ _ _ (first .add .last .0) _ _ (l .workspace) (s .pre .0) (first .add .ensures .0)
     (pairs-told _ _ _ (first .add .last .0) (l .i) (l .n) (l .workspace) (l .inv .0) (c .loop-test .left) (s .pre .1)
     (omega (arith, s .pre .3, first .add .ensures .0 .size)))
