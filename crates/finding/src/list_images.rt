@@ -131,8 +131,40 @@ fn rows_of(
     }
 }
 
-// The rows where 512 words are enough for the pairs of each list.
+// The rows where 128 words are enough for the pairs of each list.
 fn rows_of_few(
+    moves: &[u8; 2048],
+    count: u64,
+    labels: u64,
+    lists: usize,
+    follow: &[u64],
+    enter: &[u64],
+    sizes: &[u64; 17],
+    accepting: &[u64; 17],
+    rows: &mut [u64],
+)
+    requires { ⌜ (count ≤ 64) × (labels ≤ 32) × (lists ≤ 16) × ((v : ℕ) → v < lists → Paired count (now sizes) v 128)
+        × (64 * lists ≤ length (now rows)) × RowsFit lists (now follow) (now enter) ⌝ }
+    ensures { λ _. ⌜ ImagesOf (jobTables (now (moves .entry)) count labels (now (follow .entry)) (now (enter .entry)) (now (sizes .entry))
+        (now (accepting .entry))) lists (now (rows .exit)) ⌝ }
+{
+    let mut sources = [0; 128];
+    rows_of(
+        moves,
+        count,
+        labels,
+        lists,
+        follow,
+        enter,
+        sizes,
+        accepting,
+        &mut sources,
+        rows,
+    );
+}
+
+// The same where 512 words are enough.
+fn rows_of_some(
     moves: &[u8; 2048],
     count: u64,
     labels: u64,
@@ -225,8 +257,23 @@ pub fn list_images(
     }
     let most = greatest(sizes, lists as usize);
     if most < 64 {
-        if count * (most + 1) <= 512 {
+        let words = count * (most + 1);
+        if words <= 128 {
             rows_of_few(
+                moves,
+                count,
+                labels,
+                lists as usize,
+                follow,
+                enter,
+                sizes,
+                accepting,
+                rows,
+            );
+            return;
+        }
+        if words <= 512 {
+            rows_of_some(
                 moves,
                 count,
                 labels,

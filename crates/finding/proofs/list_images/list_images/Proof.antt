@@ -25,11 +25,11 @@ returns-4 c = λ h k. record { table = λ few narrow A found Bs m e s. absurd (o
 greatest-requires : tie.Need-greatest-requires
 greatest-requires c κs = search needs
 
-add-if6 : tie.Need-add-if6
-add-if6 c = search needs
+add-words : tie.Need-add-words
+add-words c = search needs
 
-mul-if6 : tie.Need-mul-if6
-mul-if6 c =
+mul-words : tie.Need-mul-words
+mul-words c =
     let a = c .before .before .before .before .before .before .before .before .before .args in
     let most = c .before .greatest .result in
     omega (arith, mul-le-mul-left {m = most + 1} {n = 64} (a .count) (omega arith))
@@ -42,7 +42,7 @@ rows-of-few-requires c κs =
       omega arith,
       omega arith,
       omega arith,
-      λ v h. paired-most (a .count) (g .result) (a .sizes .now) v 512 (g .ensures v h) (c .before .if6 .taken),
+      λ v h. paired-most (a .count) (g .result) (a .sizes .now) v 128 (g .ensures v h) (c .before .if6 .taken),
       omega arith,
       start .pre,
     )
@@ -53,14 +53,33 @@ same-length c = search needs
 returns-5 : tie.Need-returns-5
 returns-5 c = λ h k. c .before .before .rows-of-few .ensures
 
-rows-of-many-requires : tie.Need-rows-of-many-requires
-rows-of-many-requires c κs = search needs
+rows-of-some-requires : tie.Need-rows-of-some-requires
+rows-of-some-requires c κs =
+    let start = c .before .before .before .before .before .before .before .before .before .before .before .before in
+    let a = start .args in
+    let g = c .before .before .before .before .greatest in (
+      omega arith,
+      omega arith,
+      omega arith,
+      λ v h. paired-most (a .count) (g .result) (a .sizes .now) v 512 (g .ensures v h) (c .before .if7 .taken),
+      omega arith,
+      start .pre,
+    )
 
 same-length-2 : tie.Need-same-length-2
 same-length-2 c = search needs
 
 returns-6 : tie.Need-returns-6
-returns-6 c = λ h k. c .before .before .rows-of-many .ensures
+returns-6 c = λ h k. c .before .before .rows-of-some .ensures
+
+rows-of-many-requires : tie.Need-rows-of-many-requires
+rows-of-many-requires c κs = search needs
+
+same-length-3 : tie.Need-same-length-3
+same-length-3 c = search needs
+
+returns-7 : tie.Need-returns-7
+returns-7 c = λ h k. c .before .before .rows-of-many .ensures
 
 pub list-images-spec : {M : Type 1} → statement M
 list-images-spec =
@@ -72,11 +91,14 @@ list-images-spec =
     returns-3
     returns-4
     greatest-requires
-    add-if6
-    mul-if6
+    add-words
+    mul-words
     rows-of-few-requires
     same-length
     returns-5
-    rows-of-many-requires
+    rows-of-some-requires
     same-length-2
-    returns-6)
+    returns-6
+    rows-of-many-requires
+    same-length-3
+    returns-7)
