@@ -1,6 +1,6 @@
--- The test for a table (Table) one triple at a time, by the place i where a triple begins: the triple is in range, it comes after the one
--- before it, and the rest is rising.
-use Prim.Native.Nat.{ℕ, suc, _+_, _-_, _*_, _%_, _≤_, _<_}
+-- The test for a table (Table) one triple at a time, by the number of the triple before: from the place i on, the triples are in range,
+-- and their numbers rise.
+use Prim.Native.Nat.{ℕ, suc, _+_, _*_, _%_, _≤_, _<_}
 use mathlib.Core.Bool.{Bool, true, false, _&&_, _||_}
 use mathlib.Core.List.{[], _∷_}
 use mathlib.Core.Path.{_≡_, refl, sym, ap, _∙_}
@@ -15,17 +15,23 @@ use Rattle.theory.specs.Graph.{Table}
 use Rattle.answering.specs.Table.{mostLinks, rises, risingAfter, rising, isTable}
 use Rattle.answering.specs.TableLaws.{is-table-exactly, table-length}
 
-abbrev pub inRangeAt : ℕ → ℕ → Table → ℕ → Bool
-inRangeAt N k t i = ltb (getD t i 0) N && (ltb (getD t (i + 1) 0) k && ltb (getD t (i + 2) 0) N)
+-- Triples of numbers below 65,536 are in the order of these numbers, which are above 0.
+abbrev pub tripleNumber : ℕ → ℕ → ℕ → ℕ
+tripleNumber x a y = 4294967296 * x + 65536 * a + y + 1
 
-abbrev pub risesAt : Table → ℕ → Bool
-risesAt t i =
-    rises (getD t (i - 3) 0) (getD t (i - 2) 0) (getD t (i - 1) 0) (getD t i 0) (getD t (i + 1) 0) (getD t (i + 2) 0)
+-- The numbers are triples within range, each with a greater number than the one before, whose number was n.
+unfoldable pub numbersRise : ℕ → ℕ → ℕ → Table → Bool
+numbersRise N k n [] = true
+numbersRise N k n (u ∷ []) = false
+numbersRise N k n (u ∷ (b ∷ [])) = false
+numbersRise N k n (u ∷ (b ∷ (v ∷ t))) =
+    (ltb u N && (ltb b k && ltb v N)) && (ltb n (tripleNumber u b v) && numbersRise N k (tripleNumber u b v) t)
 
-abbrev pub leftAt : ℕ → ℕ → Table → ℕ → Bool
-leftAt N k t i = risingAfter N k (getD t (i - 3) 0) (getD t (i - 2) 0) (getD t (i - 1) 0) (drop i t)
+-- .. from the place i on.
+unfoldable pub risesFrom : ℕ → ℕ → ℕ → Table → ℕ → Bool
+risesFrom N k n t i = numbersRise N k n (drop i t)
 
--- The tests of one triple, in the order in which they are made.
+-- The order of two triples.
 
 or-false : (b : Bool) → b ≡ (b || false)
 or-false true = refl
@@ -43,10 +49,6 @@ rises-to : (x a y u b v : ℕ) → x ≡ u → a ≡ b → ltb y v ≡ rises x a
 unfolding rises
 rises-to x a y u b v e f = rw (le-ltb x u (omega arith), eq-eqb x u e, le-ltb a b (omega arith), eq-eqb a b f)
 
--- Triples of numbers below 65,536 are in the order of these numbers.
-abbrev pub tripleNumber : ℕ → ℕ → ℕ → ℕ
-tripleNumber x a y = 4294967296 * x + 65536 * a + y
-
 same-order : (m n i j : ℕ) → (i < j → m < n) → (j ≤ i → n ≤ m) → ltb m n ≡ ltb i j
 same-order m n i j f g = go (decLt i j)
   where
@@ -54,7 +56,7 @@ same-order m n i j f g = go (decLt i j)
     go (yes l) = lt-ltb m n (f l) ∙ sym (lt-ltb i j l)
     go (no l) = le-ltb m n (g (omega arith)) ∙ sym (le-ltb i j (omega arith))
 
-pub number-rises : (x a y u b v : ℕ) → a < 65536 → y < 65536 → b < 65536 → v < 65536
+number-rises : (x a y u b v : ℕ) → a < 65536 → y < 65536 → b < 65536 → v < 65536
     → ltb (tripleNumber x a y) (tripleNumber u b v) ≡ rises x a y u b v
 number-rises x a y u b v ha hy hb hv = go (ℕ-discrete x u) (ℕ-discrete a b)
   where
@@ -69,14 +71,24 @@ number-rises x a y u b v ha hy hb hv = go (ℕ-discrete x u) (ℕ-discrete a b)
     go (yes d) (no e) = same-order m n a b (λ l. omega arith) (λ l. omega arith) ∙ rises-label x a y u b v d e
     go (yes d) (yes e) = same-order m n y v (λ l. omega arith) (λ l. omega arith) ∙ rises-to x a y u b v d e
 
-pub range-first : (N k u b v : ℕ) → N ≤ u → false ≡ (ltb u N && (ltb b k && ltb v N))
-range-first N k u b v h = rw (le-ltb u N h)
+-- The order of all triples is that of their numbers.
 
-pub range-label : (N k u b v : ℕ) → u < N → k ≤ b → false ≡ (ltb u N && (ltb b k && ltb v N))
-range-label N k u b v h g = rw (lt-ltb u N h, le-ltb b k g)
+after-numbers : (N k x a y : ℕ) (t : Table) → a < 65536 → y < 65536 → ((i : ℕ) → getD t i 0 < 65536)
+    → risingAfter N k x a y t ≡ numbersRise N k (tripleNumber x a y) t
+unfolding risingAfter numbersRise
+after-numbers N k x a y [] ha hy h = refl
+after-numbers N k x a y (u ∷ []) ha hy h = refl
+after-numbers N k x a y (u ∷ (b ∷ [])) ha hy h = refl
+after-numbers N k x a y (u ∷ (b ∷ (v ∷ t))) ha hy h =
+    rw (← number-rises x a y u b v ha hy (h 1) (h 2), after-numbers N k u b v t (h 1) (h 2) (λ i. h (suc (suc (suc i)))))
 
-pub range-last : (N k u b v : ℕ) → u < N → b < k → ltb v N ≡ (ltb u N && (ltb b k && ltb v N))
-range-last N k u b v h g = rw (lt-ltb u N h, lt-ltb b k g)
+rising-numbers : (N k : ℕ) (t : Table) → ((i : ℕ) → getD t i 0 < 65536) → rising N k t ≡ numbersRise N k 0 t
+unfolding rising numbersRise
+rising-numbers N k [] h = refl
+rising-numbers N k (u ∷ []) h = refl
+rising-numbers N k (u ∷ (b ∷ [])) h = refl
+rising-numbers N k (u ∷ (b ∷ (v ∷ t))) h =
+    rw (lt-ltb 0 (tripleNumber u b v) (omega arith), after-numbers N k u b v t (h 1) (h 2) (λ i. h (suc (suc (suc i)))))
 
 triple-at : (t : Table) (i : ℕ) → i + 2 < length t → drop i t ≡ getD t i 0 ∷ (getD t (i + 1) 0 ∷ (getD t (i + 2) 0 ∷ drop (i + 3) t))
 triple-at t i h =
@@ -86,31 +98,11 @@ triple-at t i h =
     ∙ ap (λ l. getD t i 0 ∷ l) (drop-cons t (suc i) 0 (omega arith)
     ∙ ap (λ l. getD t (suc i) 0 ∷ l) (drop-cons t (suc (suc i)) 0 (omega arith))))
 
-pub left-next : (N k : ℕ) (t : Table) (i : ℕ) → i + 2 < length t
-    → leftAt N k t i ≡ (inRangeAt N k t i && (risesAt t i && leftAt N k t (i + 3)))
-unfolding risingAfter
-left-next N k t i h =
-    let a : (i + 3) - 3 ≡ i = omega arith in
-    let b : (i + 3) - 2 ≡ i + 1 = omega arith in
-    let c : (i + 3) - 1 ≡ i + 2 = omega arith in
-    rw (a, b, c, triple-at t i h)
-
-pub left-end : (N k : ℕ) (t : Table) (i : ℕ) → length t ≤ i → leftAt N k t i ≡ true
-unfolding risingAfter
-left-end N k t i h = rw (drop-of-length-le t h)
-
-pub first-triple : (N k : ℕ) (t : Table) → 2 < length t → rising N k t ≡ (inRangeAt N k t 0 && leftAt N k t 3)
-unfolding rising
-first-triple N k [] h = absurd (omega arith)
-first-triple N k (u ∷ []) h = absurd (omega arith)
-first-triple N k (u ∷ (b ∷ [])) h = absurd (omega arith)
-first-triple N k (u ∷ (b ∷ (v ∷ t))) h = refl
-
 pub table-too-long : (N k : ℕ) (t : Table) → 3 * mostLinks < length t → isTable N k t ≡ false
 unfolding isTable
 table-too-long N k t h = rw (lt-leb (length t) (3 * mostLinks) h)
 
-pub table-short : (N k : ℕ) (t : Table) → length t ≤ 3 * mostLinks → isTable N k t ≡ rising N k t
+table-short : (N k : ℕ) (t : Table) → length t ≤ 3 * mostLinks → isTable N k t ≡ rising N k t
 unfolding isTable
 table-short N k t h = rw (le-leb (length t) (3 * mostLinks) h)
 
@@ -121,32 +113,41 @@ table-uneven N k t h = go (isTable N k t) refl
     go true e = absurd (h (table-length (is-table-exactly N k t .0 e)))
     go false e = e
 
-pub table-none : (N k : ℕ) (t : Table) → length t ≡ 0 → isTable N k t ≡ true
-unfolding isTable rising
-table-none N k [] e = refl
-table-none N k (x ∷ t) e = absurd (omega arith)
-
 -- What the whole test says, where one triple is tested after the other.
 
-pub first-out : (N k : ℕ) (t : Table) → 2 < length t → length t ≤ 3 * mostLinks → inRangeAt N k t 0 ≡ false → isTable N k t ≡ false
-first-out N k t h l e = table-short N k t l ∙ first-triple N k t h ∙ ap (λ b. b && leftAt N k t 3) e
+pub rises-first : (N k : ℕ) (t : Table) → length t ≤ 3 * mostLinks → ((i : ℕ) → getD t i 0 < 65536) → isTable N k t ≡ risesFrom N k 0 t 0
+unfolding risesFrom
+rises-first N k t l h = table-short N k t l ∙ rising-numbers N k t h
 
-pub first-in : (N k : ℕ) (t : Table) → 2 < length t → length t ≤ 3 * mostLinks → inRangeAt N k t 0 ≡ true → isTable N k t ≡ leftAt N k t 3
-first-in N k t h l e = table-short N k t l ∙ first-triple N k t h ∙ ap (λ b. b && leftAt N k t 3) e
+pub rises-end : (N k n : ℕ) (t : Table) (i : ℕ) → length t ≤ i → risesFrom N k n t i ≡ true
+unfolding risesFrom numbersRise
+rises-end N k n t i h = rw (drop-of-length-le t h)
 
-pub next-out : (N k : ℕ) (t : Table) (i : ℕ) → i + 2 < length t → inRangeAt N k t i ≡ false → leftAt N k t i ≡ false
-next-out N k t i h e = left-next N k t i h ∙ ap (λ b. b && (risesAt t i && leftAt N k t (i + 3))) e
+module _ (N k n : ℕ) (t : Table) (i : ℕ) (h : i + 2 < length t) where
+  abbrev numberAt : ℕ
+  numberAt = tripleNumber (getD t i 0) (getD t (i + 1) 0) (getD t (i + 2) 0)
 
-pub next-unordered : (N k : ℕ) (t : Table) (i : ℕ) → i + 2 < length t → inRangeAt N k t i ≡ true → risesAt t i ≡ false
-    → leftAt N k t i ≡ false
-next-unordered N k t i h e f =
-    left-next N k t i h
-    ∙ ap (λ b. b && (risesAt t i && leftAt N k t (i + 3))) e
-    ∙ ap (λ b. b && leftAt N k t (i + 3)) f
+  triple-tested : risesFrom N k n t i
+      ≡ ((ltb (getD t i 0) N && (ltb (getD t (i + 1) 0) k && ltb (getD t (i + 2) 0) N))
+      && (ltb n numberAt && risesFrom N k numberAt t (i + 3)))
+  unfolding risesFrom numbersRise
+  triple-tested = ap (numbersRise N k n) (triple-at t i h)
 
-pub next-in : (N k : ℕ) (t : Table) (i : ℕ) → i + 2 < length t → inRangeAt N k t i ≡ true → risesAt t i ≡ true
-    → leftAt N k t i ≡ leftAt N k t (i + 3)
-next-in N k t i h e f =
-    left-next N k t i h
-    ∙ ap (λ b. b && (risesAt t i && leftAt N k t (i + 3))) e
-    ∙ ap (λ b. b && leftAt N k t (i + 3)) f
+  pub first-out : N ≤ getD t i 0 → risesFrom N k n t i ≡ false
+  first-out f = triple-tested ∙ rw (le-ltb (getD t i 0) N f)
+
+  pub label-out : getD t i 0 < N → k ≤ getD t (i + 1) 0 → risesFrom N k n t i ≡ false
+  label-out f g = triple-tested ∙ rw (lt-ltb (getD t i 0) N f, le-ltb (getD t (i + 1) 0) k g)
+
+  pub last-out : getD t i 0 < N → getD t (i + 1) 0 < k → N ≤ getD t (i + 2) 0 → risesFrom N k n t i ≡ false
+  last-out f g l = triple-tested ∙ rw (lt-ltb (getD t i 0) N f, lt-ltb (getD t (i + 1) 0) k g, le-ltb (getD t (i + 2) 0) N l)
+
+  module _ (f : getD t i 0 < N) (g : getD t (i + 1) 0 < k) (l : getD t (i + 2) 0 < N) where
+    triple-in : risesFrom N k n t i ≡ (ltb n numberAt && risesFrom N k numberAt t (i + 3))
+    triple-in = triple-tested ∙ rw (lt-ltb (getD t i 0) N f, lt-ltb (getD t (i + 1) 0) k g, lt-ltb (getD t (i + 2) 0) N l)
+
+    pub unordered : numberAt ≤ n → risesFrom N k n t i ≡ false
+    unordered o = triple-in ∙ rw (le-ltb n numberAt o)
+
+    pub rises-next : n < numberAt → risesFrom N k n t i ≡ risesFrom N k numberAt t (i + 3)
+    rises-next o = triple-in ∙ rw (lt-ltb n numberAt o)
