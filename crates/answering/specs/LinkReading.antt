@@ -11,8 +11,9 @@ use native.Mathlib.Omega.{arith}
 use lib.ListN.{length, getD}
 use Rattle.theory.specs.Graph as G
 use Rattle.theory.specs.Graph.{Table, Linked}
-use Rattle.answering.specs.TableLaws.{linked-at}
-use Rattle.answering.specs.Links.{leaves, FirstLink}
+use Rattle.answering.specs.Table.{isTable}
+use Rattle.answering.specs.TableLaws.{is-table-exactly, table-ends, table-labels, linked-at}
+use Rattle.answering.specs.Links.{leaves, FirstLink, InRange}
 use Rattle.answering.specs.LinkAt.{linkAt, placeAfter, FirstLeaving, place-next, link-place, link-there, link-beyond, link-other}
 use Rattle.answering.specs.declared.links.Link.{Link}
 
@@ -110,3 +111,12 @@ linked-index (G.later {u = u} {b = b} {v = v} {t = t} l) =
 pub linked-triple : (t : Table) (i : ℕ) → 3 * i + 2 < length t → Linked t (getD t (3 * i) 0) (getD t (3 * i + 1) 0) (getD t (3 * i + 2) 0)
 linked-triple t i h =
     subst₂ (λ m n. Linked t (getD t (3 * i) 0) (getD t m 0) (getD t n 0)) (sym (add-one (3 * i))) (sym (add-two (3 * i))) (linked-at t i h)
+
+-- The triples of a table are in range.
+pub table-in-range : (k N : ℕ) (t : Table) → isTable N k t ≡ true → InRange k N t
+table-in-range k N t e =
+    let is = is-table-exactly N k t .0 e in
+    record {
+      label = λ i h. table-labels is (linked-triple t i (omega arith));
+      end = λ i h. table-ends is _ _ _ (linked-triple t i (omega arith)) .1;
+    }

@@ -23,6 +23,11 @@ pub record FirstLink (t : Table) (x r : ℕ) : Type 0 where
   pub before : (i : ℕ) → i < r → ¬ (leaves t i ≡ x)
   pub there : (i : ℕ) → i < length t / 3 → leaves t i ≡ x → leaves t r ≡ x
 
+-- The symbol of each triple is below k, and its end below N.
+pub record InRange (k N : ℕ) (t : Table) : Type 0 where
+  pub label : (i : ℕ) → i < length t / 3 → getD t (3 * i + 1) 0 < k
+  pub end : (i : ℕ) → i < length t / 3 → getD t (3 * i + 2) 0 < N
+
 -- The triples of a table are sorted by the recordings that they leave.
 from-rises : {x a y u b v : ℕ} → Rises x a y u b v → x ≤ u
 from-rises (inl h) = omega arith

@@ -21,12 +21,8 @@ mod word_search;
 
 pub use clear::clear_bytes;
 pub use clear::clear_words;
-pub use links_core::Links;
-pub use links_core::mark_links;
 pub use links_operation::Answered;
 pub use links_operation::answer_from_links;
-pub use lists_core::mark_lists;
 pub use lists_operation::answer_from_lists;
 pub use marks::mark;
-pub use set_search::search_sets;
 pub use table::is_table;

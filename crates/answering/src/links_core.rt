@@ -6,9 +6,10 @@ use super::place_search::search_places;
 use finding::standings::Explored;
 use finding::standings::standings;
 ghost use Rattle.finding.specs.Plain.{plain};
+ghost use Rattle.answering.specs.Links.{InRange};
 ghost use Rattle.answering.specs.LinksCore.{Lent, StandingsMarked, LinksGiven, LinksTold};
 
-pub enum Links {
+pub(super) enum Links {
     // The number of marks that are 1.
     Marked(u64),
     // There are more than 64 standings.
@@ -28,6 +29,7 @@ fn mark_places(
     marks: &mut [u8],
     workspace: &mut [u64],
 ) -> u64
+    requires { ⌜ InRange labels recordings (now table) ⌝ }
     ensures { λ r. ⌜ (LinksGiven (now (enter .entry)) labels (now (table .entry)) recordings
         → Lent recordings start (now (marks .entry)) (now (workspace .entry))
         → StandingsMarked (plain (now (follow .entry)) (now (enter .entry)) accepting) labels recordings (now (table .entry)) start
@@ -42,7 +44,7 @@ fn mark_places(
 
 // The marks by the standings of an automaton, over a table of its labels; where there are more than 64 standings, zeros. The words are zero
 // at the end.
-pub fn mark_links(
+pub(super) fn mark_links(
     follow: &[u64],
     enter: &[u64],
     accepting: u64,
@@ -53,6 +55,7 @@ pub fn mark_links(
     marks: &mut [u8],
     workspace: &mut [u64],
 ) -> Links
+    requires { ⌜ InRange labels recordings (now table) ⌝ }
     ensures { λ r. ⌜ (LinksGiven (now (enter .entry)) labels (now (table .entry)) recordings
         → Lent recordings start (now (marks .entry)) (now (workspace .entry))
         → LinksTold (plain (now (follow .entry)) (now (enter .entry)) accepting) labels recordings (now (table .entry)) start

@@ -10,6 +10,7 @@ ghost use mathlib.Core.Path.{_≡_};
 ghost use Prim.Native.Nat.{_*_, _≤_, _<_};
 ghost use lib.ListN.{length};
 ghost use Rattle.verdict.specs.Cover.{Rewritten};
+ghost use Rattle.answering.specs.Links.{InRange};
 ghost use Rattle.answering.specs.ListsCore.{ListsLent, ListsGiven, ListsMarked};
 
 // Whether there are states, at most 256 of them, and at most 16 lists, with a row of next states for each state.
@@ -30,7 +31,7 @@ fn has_rows(next: &[u16], states: u64, lists: u64) -> bool
 
 // The marks by the states of a rewriting, whose next states stand in rows of 16, over a table of its lists; the number of ones is
 // returned. The 4 words of each recording are zero at the end.
-pub fn mark_lists(
+pub(super) fn mark_lists(
     next: &[u16],
     flags: &[u8; 256],
     states: u64,
@@ -41,6 +42,7 @@ pub fn mark_lists(
     marks: &mut [u8],
     workspace: &mut [u64],
 ) -> u64
+    requires { ⌜ InRange lists recordings (now table) ⌝ }
     ensures { λ r. ⌜ (ListsLent recordings start (now (marks .entry)) (now (workspace .entry)) → (R : Rewritten)
         → ListsGiven R lists (now (next .entry)) (now (flags .entry)) states (now (table .entry)) recordings
         → ListsMarked R recordings (now (table .entry)) start (now (marks .entry)) (now (workspace .entry))

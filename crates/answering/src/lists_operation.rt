@@ -17,6 +17,7 @@ ghost use Rattle.reading.specs.Read.{read};
 ghost use Rattle.finding.specs.Find.{Found, find};
 ghost use Rattle.answering.specs.Table.{isTable};
 ghost use Rattle.answering.specs.AnswerJob.{markedLists, listsJob};
+ghost use Rattle.answering.specs.Links.{InRange};
 ghost use Rattle.answering.specs.LinksOperation.{outcome, JobGiven};
 ghost use Rattle.answering.specs.ListsCore.{ListsLent};
 ghost use Rattle.answering.specs.ListsOperation.{listsLeft, readLists, listsAnswer, ListsSized, FoundGiven};
@@ -33,7 +34,7 @@ fn finding_lists(
     marks: &mut [u8],
     workspace: &mut [u64],
 ) -> Answered
-    requires { ⌜ ListsLent recordings start (now marks) (now workspace) ⌝ }
+    requires { ⌜ ListsLent recordings start (now marks) (now workspace) × InRange lists recordings (now table) ⌝ }
     ensures { λ r. ⌜ ((F : Found) → FoundGiven F lists finding (now (next .entry)) (now (flags .entry)) (now (table .entry)) recordings
         → outcome r (now (marks .exit)) (now (workspace .exit))
         ≡ listsLeft recordings (now (marks .entry)) (now (workspace .entry)) (markedLists recordings (now (table .entry)) start F)) ⌝ }

@@ -9,6 +9,7 @@ ghost use mathlib.Core.Logic.{_↔_};
 ghost use mathlib.Core.Path.{_≡_};
 ghost use Prim.Native.Nat.{ℕ, _≤_, _<_};
 ghost use lib.ListN.{length, getD};
+ghost use Rattle.answering.specs.Links.{InRange};
 ghost use Rattle.answering.specs.SetSearchRun.{SetStarting, SetAllFound};
 ghost use Rattle.answering.specs.PlaceSteps.{PlaceStep, PlaceCount, PlacesSearchable, PlacesSearched};
 
@@ -45,7 +46,8 @@ fn search_few(
     images: &mut [u64],
 )
     requires { ⌜ SetStarting 1 (sizes .symbols) (sizes .states) (sizes .recordings) start (now reached)
-        × (sizes .states ≤ length (now follow)) × (sizes .symbols ≤ length (now images)) × (sizes .recordings ≤ 256) ⌝ }
+        × (sizes .states ≤ length (now follow)) × (sizes .symbols ≤ length (now images)) × (sizes .recordings ≤ 256)
+        × InRange (sizes .symbols) (sizes .recordings) (now table) ⌝ }
     ensures { λ _. ⌜ SetAllFound 1 (PlaceStep (now (follow .entry)) (now (images .entry))) (sizes .symbols) (sizes .states)
         (now (table .entry)) (sizes .recordings) start (now (reached .entry)) (now (reached .exit)) ⌝ }
 {
@@ -77,7 +79,8 @@ fn search_many(
     images: &mut [u64],
 )
     requires { ⌜ SetStarting 1 (sizes .symbols) (sizes .states) (sizes .recordings) start (now reached)
-        × (sizes .states ≤ length (now follow)) × (sizes .symbols ≤ length (now images)) ⌝ }
+        × (sizes .states ≤ length (now follow)) × (sizes .symbols ≤ length (now images))
+        × InRange (sizes .symbols) (sizes .recordings) (now table) ⌝ }
     ensures { λ _. ⌜ SetAllFound 1 (PlaceStep (now (follow .entry)) (now (images .entry))) (sizes .symbols) (sizes .states)
         (now (table .entry)) (sizes .recordings) start (now (reached .entry)) (now (reached .exit)) ⌝ }
 {
@@ -129,6 +132,7 @@ pub(super) fn search_places(
     start: u64,
     reached: &mut [u64],
 )
+    requires { ⌜ InRange labels recordings (now table) ⌝ }
     ensures { λ _. ⌜ PlacesSearched (now (follow .entry)) (now (enter .entry)) labels (now (table .entry)) recordings start
         (now (reached .entry)) (now (reached .exit)) ⌝ }
 {

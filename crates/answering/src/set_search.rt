@@ -16,7 +16,7 @@ use super::table::index;
 use super::word_search::follow_all_words;
 ghost use Prim.Native.Nat.{_+_, _*_, _≤_, _<_};
 ghost use lib.ListN.{length};
-ghost use Rattle.answering.specs.Links.{FirstLink};
+ghost use Rattle.answering.specs.Links.{FirstLink, InRange};
 ghost use Rattle.answering.specs.LinkBegins.{LinkBegins};
 ghost use Rattle.answering.specs.Pairs.{Has};
 ghost use Rattle.answering.specs.Grown.{Ready};
@@ -183,7 +183,8 @@ fn search_from(
     requires { ⌜ SetBeginning (sizes .words) (sizes .symbols) (sizes .states) (sizes .recordings) start
         (now reached) (now pending) (now stack)
         × (sizes .words * (sizes .symbols * sizes .states) ≤ length (now sets)) × ImagesBlank (sizes .words) (now images)
-        × LinkBegins (now table) (sizes .recordings) (now begins) × (2 * sizes .recordings < length (now stack)) ⌝ }
+        × LinkBegins (now table) (sizes .recordings) (now begins) × (2 * sizes .recordings < length (now stack))
+        × InRange (sizes .symbols) (sizes .recordings) (now table) ⌝ }
     ensures { λ _. ⌜ SetAllFound (sizes .words) (Steps (now (sets .entry)) (sizes .symbols) (sizes .words)) (sizes .symbols) (sizes .states)
         (now (table .entry)) (sizes .recordings) start (now (reached .entry)) (now (reached .exit)) ⌝ }
 {
@@ -219,7 +220,7 @@ fn search_from(
 fn search_few(sets: &[u64], sizes: Sizes, table: &[u16], start: usize, reached: &mut [u64])
     requires { ⌜ SetStarting (sizes .words) (sizes .symbols) (sizes .states) (sizes .recordings) start (now reached)
         × (sizes .words * (sizes .symbols * sizes .states) ≤ length (now sets))
-        × (sizes .words * sizes .recordings ≤ 256) ⌝ }
+        × (sizes .words * sizes .recordings ≤ 256) × InRange (sizes .symbols) (sizes .recordings) (now table) ⌝ }
     ensures { λ _. ⌜ SetAllFound (sizes .words) (Steps (now (sets .entry)) (sizes .symbols) (sizes .words)) (sizes .symbols) (sizes .states)
         (now (table .entry)) (sizes .recordings) start (now (reached .entry)) (now (reached .exit)) ⌝ }
 {
@@ -245,7 +246,7 @@ fn search_few(sets: &[u64], sizes: Sizes, table: &[u16], start: usize, reached: 
 fn search_middle(sets: &[u64], sizes: Sizes, table: &[u16], start: usize, reached: &mut [u64])
     requires { ⌜ SetStarting (sizes .words) (sizes .symbols) (sizes .states) (sizes .recordings) start (now reached)
         × (sizes .words * (sizes .symbols * sizes .states) ≤ length (now sets))
-        × (sizes .words * sizes .recordings ≤ 4096) ⌝ }
+        × (sizes .words * sizes .recordings ≤ 4096) × InRange (sizes .symbols) (sizes .recordings) (now table) ⌝ }
     ensures { λ _. ⌜ SetAllFound (sizes .words) (Steps (now (sets .entry)) (sizes .symbols) (sizes .words)) (sizes .symbols) (sizes .states)
         (now (table .entry)) (sizes .recordings) start (now (reached .entry)) (now (reached .exit)) ⌝ }
 {
@@ -270,7 +271,8 @@ fn search_middle(sets: &[u64], sizes: Sizes, table: &[u16], start: usize, reache
 // The search with room for as many recordings as there may be. The local arrays take about 177 KiB of the thread's stack.
 fn search_many(sets: &[u64], sizes: Sizes, table: &[u16], start: usize, reached: &mut [u64])
     requires { ⌜ SetStarting (sizes .words) (sizes .symbols) (sizes .states) (sizes .recordings) start (now reached)
-        × (sizes .words * (sizes .symbols * sizes .states) ≤ length (now sets)) ⌝ }
+        × (sizes .words * (sizes .symbols * sizes .states) ≤ length (now sets))
+        × InRange (sizes .symbols) (sizes .recordings) (now table) ⌝ }
     ensures { λ _. ⌜ SetAllFound (sizes .words) (Steps (now (sets .entry)) (sizes .symbols) (sizes .words)) (sizes .symbols) (sizes .states)
         (now (table .entry)) (sizes .recordings) start (now (reached .entry)) (now (reached .exit)) ⌝ }
 {
@@ -331,7 +333,7 @@ fn fitting(
 // All pairs of a recording and a state that are reached from the start in state 0, as bits of the first words × recordings words; where the
 // sizes do not fit, nothing is changed. `sets` has the next states of each state over each symbol, `words` words for each. To zero room for
 // many recordings takes longer than to search a table of few, so these have less room.
-pub fn search_sets(
+pub(super) fn search_sets(
     sets: &[u64],
     symbols: u64,
     words: u64,
@@ -341,6 +343,7 @@ pub fn search_sets(
     start: u64,
     reached: &mut [u64],
 )
+    requires { ⌜ InRange symbols recordings (now table) ⌝ }
     ensures { λ _. ⌜ SetSearched (now (sets .entry)) symbols words states (now (table .entry)) recordings start
         (now (reached .entry)) (now (reached .exit)) ⌝ }
 {

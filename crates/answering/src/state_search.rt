@@ -3,6 +3,7 @@ use super::set_search::search_sets;
 use super::state_sets::put_rows;
 ghost use Prim.Native.Nat.{_*_, _≤_};
 ghost use lib.ListN.{length};
+ghost use Rattle.answering.specs.Links.{InRange};
 ghost use Rattle.answering.specs.StateSets.{RankedStep, StatesLent, Filled};
 ghost use Rattle.answering.specs.StateSearch.{StatesSearched};
 
@@ -23,7 +24,8 @@ fn search_lent(
 )
     requires { ⌜ StatesLent (now next) lists states words (now ranks) (now kept) count
         × (words * (lists * count) ≤ length (now sets))
-        × Filled lists words (RankedStep (now next) states (now ranks) (now kept) count) 0 (now sets) ⌝ }
+        × Filled lists words (RankedStep (now next) states (now ranks) (now kept) count) 0 (now sets)
+        × InRange lists recordings (now table) ⌝ }
     ensures { λ _. ⌜ StatesSearched (now (next .entry)) lists states words (now (ranks .entry)) (now (kept .entry)) count
         (now (table .entry)) recordings start (now (reached .entry)) (now (reached .exit)) ⌝ }
 {
@@ -54,7 +56,8 @@ fn search_few(
     start: u64,
     reached: &mut [u64],
 )
-    requires { ⌜ StatesLent (now next) lists states words (now ranks) (now kept) count × (words * (lists * count) ≤ 1024) ⌝ }
+    requires { ⌜ StatesLent (now next) lists states words (now ranks) (now kept) count × (words * (lists * count) ≤ 1024)
+        × InRange lists recordings (now table) ⌝ }
     ensures { λ _. ⌜ StatesSearched (now (next .entry)) lists states words (now (ranks .entry)) (now (kept .entry)) count
         (now (table .entry)) recordings start (now (reached .entry)) (now (reached .exit)) ⌝ }
 {
@@ -89,7 +92,7 @@ fn search_many(
     start: u64,
     reached: &mut [u64],
 )
-    requires { ⌜ StatesLent (now next) lists states words (now ranks) (now kept) count ⌝ }
+    requires { ⌜ StatesLent (now next) lists states words (now ranks) (now kept) count × InRange lists recordings (now table) ⌝ }
     ensures { λ _. ⌜ StatesSearched (now (next .entry)) lists states words (now (ranks .entry)) (now (kept .entry)) count
         (now (table .entry)) recordings start (now (reached .entry)) (now (reached .exit)) ⌝ }
 {
@@ -125,7 +128,7 @@ pub(super) fn search_states(
     start: u64,
     reached: &mut [u64],
 )
-    requires { ⌜ StatesLent (now next) lists states words (now ranks) (now kept) count ⌝ }
+    requires { ⌜ StatesLent (now next) lists states words (now ranks) (now kept) count × InRange lists recordings (now table) ⌝ }
     ensures { λ _. ⌜ StatesSearched (now (next .entry)) lists states words (now (ranks .entry)) (now (kept .entry)) count
         (now (table .entry)) recordings start (now (reached .entry)) (now (reached .exit)) ⌝ }
 {

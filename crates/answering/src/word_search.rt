@@ -1,6 +1,6 @@
 // The search of an automaton of at most 64 states (set_search): each set of states is one word. The next states are given by rows: each state
 // has a row of words, one for each symbol; or, where the rows are `cut`, each state has one word for all symbols, and of that each symbol
-// takes those states that its own word has. Of a link nothing but the range of its symbol and of its end is tested: whether it brings
+// takes those states that its own word has. The links are known to be in range, so that nothing of a link is tested: whether it brings
 // something new decides numbers, not branches.
 use super::link_view::leaving_at;
 use super::link_view::next_leaving;
@@ -10,7 +10,7 @@ ghost use mathlib.Core.Path.{_≡_};
 ghost use Prim.Native.Nat.{ℕ, _+_, _-_, _*_, _^_, _≤_, _<_};
 ghost use lib.ListN.{length, getD};
 ghost use Rattle.theory.specs.Places.{Member};
-ghost use Rattle.answering.specs.Links.{FirstLink};
+ghost use Rattle.answering.specs.Links.{FirstLink, InRange};
 ghost use Rattle.answering.specs.LinkBegins.{LinkBegins};
 ghost use Rattle.answering.specs.Grown.{Ready};
 ghost use Rattle.answering.specs.SetSteps.{StatesAdded, RowFollowed, RowsFollowed};
@@ -116,16 +116,11 @@ fn follow_word(
     stack: &mut [u16],
     height: usize,
 ) -> usize
-    requires { ⌜ Ready 1 (sizes .recordings) (now reached) (now pending) (now stack) height × (sizes .symbols ≤ length (now images)) ⌝ }
+    requires { ⌜ Ready 1 (sizes .recordings) (now reached) (now pending) (now stack) height × (sizes .symbols ≤ length (now images))
+        × (a < sizes .symbols) × (y < sizes .recordings) ⌝ }
     ensures { λ r. ⌜ RowFollowed 1 (sizes .recordings) (sizes .symbols) (WordImage (now (images .entry)) next) a y
         (now (reached .entry)) (now (pending .entry)) height (now (reached .exit)) (now (pending .exit)) (now (stack .exit)) r ⌝ }
 {
-    if sizes.symbols <= a {
-        return height;
-    }
-    if sizes.recordings <= y {
-        return height;
-    }
     add_word(images[a] & next, y, reached, pending, stack, height)
 }
 
@@ -144,7 +139,8 @@ fn follow_word_links(
     height: usize,
 ) -> usize
     requires { ⌜ Ready 1 (sizes .recordings) (now reached) (now pending) (now stack) height
-        × (sizes .symbols ≤ length (now images)) × FirstLink (now table) x first ⌝ }
+        × (sizes .symbols ≤ length (now images)) × FirstLink (now table) x first
+        × InRange (sizes .symbols) (sizes .recordings) (now table) ⌝ }
     ensures { λ r. ⌜ RowsFollowed 1 (sizes .recordings) (sizes .symbols) (now (table .entry)) x (WordImage (now (images .entry)) next)
         (now (reached .entry)) (now (pending .entry)) height (now (reached .exit)) (now (pending .exit)) (now (stack .exit)) r ⌝ }
 {
@@ -198,7 +194,8 @@ pub(super) fn follow_all_words(
 )
     requires { ⌜ SetBeginning 1 (sizes .symbols) (sizes .states) (sizes .recordings) start (now reached) (now pending) (now stack)
         × (rowsOf cut (sizes .symbols) (sizes .states) ≤ length (now rows)) × (sizes .symbols ≤ length (now images))
-        × LinkBegins (now table) (sizes .recordings) (now begins) × (2 * sizes .recordings < length (now stack)) ⌝ }
+        × LinkBegins (now table) (sizes .recordings) (now begins) × (2 * sizes .recordings < length (now stack))
+        × InRange (sizes .symbols) (sizes .recordings) (now table) ⌝ }
     ensures { λ _. ⌜ SetAllFound 1 (WordStep cut (now (rows .entry)) (sizes .symbols) (now (images .entry))) (sizes .symbols) (sizes .states)
         (now (table .entry)) (sizes .recordings) start (now (reached .entry)) (now (reached .exit)) ⌝ }
 {

@@ -1,6 +1,7 @@
 -- `expression_links` meets its contract: the rows of the tables that it cuts are the expression's automaton.
 use Prim.Native.Nat.{_+_, _*_, _-_}
 use lib.ListN.{getD}
+use Rattle.answering.specs.LinkReading.{table-in-range}
 use Rattle.answering.specs.LinksOperationLaws.{expression-none, expression-marked, expression-over}
 use native.Mathlib.Omega.{arith}
 use borrow.Author.Needs.{needs}
@@ -62,7 +63,10 @@ element-copy-out-mark-links : tie.Need-element-copy-out-mark-links
 element-copy-out-mark-links c = search needs
 
 mark-links-requires : tie.Need-mark-links-requires
-mark-links-requires c κs = search needs
+mark-links-requires c κs =
+    let start = c .before .before .before .before .before .before .before .before .before .before .before .before in
+    let a = start .args in
+    table-in-range (a .labels) (a .recordings) (a .table .now) (start .pre .2)
 
 enum-known-told : tie.Need-enum-known-told
 enum-known-told c = search needs

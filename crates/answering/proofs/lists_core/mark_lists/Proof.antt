@@ -72,18 +72,20 @@ search-states-requires c κs =
     let at-if2 = at-rank-useful .before .before .before in
     let (some, few, lists, rows) = at-if2 .before .has-rows .ensures .0 (not-false _ (at-if2 .if2 .left)) in
     let k = at-rank-useful .rank-useful .ensures in
-    let n = k .few in
-    record {
-      few-lists = lists;
-      few = few;
-      given = rows;
-      ranks-fit = omega arith;
-      kept-fit = omega arith;
-      few-kept = omega arith;
-      inside = k .inside;
-      width = omega arith;
-      few-words = omega arith;
-    }
+    let n = k .few in (
+      record {
+        few-lists = lists;
+        few = few;
+        given = rows;
+        ranks-fit = omega arith;
+        kept-fit = omega arith;
+        few-kept = omega arith;
+        inside = k .inside;
+        width = omega arith;
+        few-words = omega arith;
+      },
+      at-if2 .before .before .before .before .before .before .before .pre,
+    )
 
 mark-requires : tie.Need-mark-requires
 mark-requires c κs = search needs

@@ -1,6 +1,7 @@
 -- `rewriting_lists` meets its contract: Find runs on zeroed memory, and what it tells and leaves there gives the marks.
 use mathlib.Core.Path.{refl}
 use Rattle.finding.specs.Find.{find}
+use Rattle.answering.specs.LinkReading.{table-in-range}
 use Rattle.answering.specs.FoundTables.{found-given}
 use borrow.Author.Needs.{needs}
 use Rattle.answering.proofs.lists_operation.rewriting_lists.Statement.{statement}
@@ -19,7 +20,11 @@ slice-aggregate-finding-lists : tie.Need-slice-aggregate-finding-lists
 slice-aggregate-finding-lists c = search needs
 
 finding-lists-requires : tie.Need-finding-lists-requires
-finding-lists-requires c κs = search needs
+finding-lists-requires c κs =
+    let start = c .before .before .before .before .before .before .before .before .before .before .before .before in
+    let a = start .args in
+    let p = start .pre in
+    (p .3, table-in-range (a .lists) (a .recordings) (a .table .now) (p .2))
 
 same-length : tie.Need-same-length
 same-length c = search needs

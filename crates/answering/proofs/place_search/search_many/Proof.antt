@@ -41,6 +41,7 @@ follow-all-words-requires c κs =
       p .2,
       at-link-begins .link-begins .ensures,
       omega (arith, long),
+      p .3,
     )
 
 same-length : tie.Need-same-length

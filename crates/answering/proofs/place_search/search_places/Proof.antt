@@ -49,7 +49,7 @@ search-few-requires c κs =
     let f = at-fitting .fitting .ensures .0 (not-false _ (at-if1 .if1 .left)) in
     let d = at-clear-words .clear-words in
     let n = at-place-count .place-count .ensures in
-    (places-starting n f (d .ensures) (d .kept .0), n .fits, omega (arith, f .few-labels), at-if2 .if2 .taken)
+    (places-starting n f (d .ensures) (d .kept .0), n .fits, omega (arith, f .few-labels), at-if2 .if2 .taken, at-fitting .before .before .before .before .before .before .pre)
 
 slice-aggregate-search-many : tie.Need-slice-aggregate-search-many
 slice-aggregate-search-many c = search needs
@@ -64,7 +64,7 @@ search-many-requires c κs =
     let f = at-fitting .fitting .ensures .0 (not-false _ (at-if1 .if1 .left)) in
     let d = at-clear-words .clear-words in
     let n = at-place-count .place-count .ensures in
-    (places-starting n f (d .ensures) (d .kept .0), n .fits, omega (arith, f .few-labels))
+    (places-starting n f (d .ensures) (d .kept .0), n .fits, omega (arith, f .few-labels), at-fitting .before .before .before .before .before .before .pre)
 
 same-length-2 : tie.Need-same-length-2
 same-length-2 c = search needs

@@ -10,7 +10,7 @@ follow-all-words-requires c κs =
     let at-start = at-if1 .before .before .before .before .before .before .before .before .before in
     let p = at-start .pre in
     let e = at-if1 .if1 .taken in
-    (rw e at (p .0), rw e at (p .1), omega (arith, p .0 .starting .fits .few-symbols, p .2 .rows), p .3, p .4)
+    (rw e at (p .0), rw e at (p .1), omega (arith, p .0 .starting .fits .few-symbols, p .2 .rows), p .3, p .4, p .5)
 
 follow-all-requires : tie.Need-follow-all-requires
 follow-all-requires c κs =

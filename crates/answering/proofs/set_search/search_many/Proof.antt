@@ -41,6 +41,7 @@ search-from-requires c κs =
       images-blank _,
       at-link-begins .link-begins .ensures,
       omega (arith, f .few, long),
+      p .2,
     )
 
 same-length : tie.Need-same-length

@@ -41,6 +41,7 @@ search-from-requires c κs =
       images-blank _,
       at-link-begins .link-begins .ensures,
       omega (arith, long),
+      p .3,
     )
 
 same-length : tie.Need-same-length

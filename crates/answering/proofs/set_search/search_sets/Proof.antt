@@ -33,7 +33,7 @@ search-few-requires c κs =
     let at-fitting = at-if1 .before in
     let f = at-fitting .fitting .ensures .fits (not-false _ (at-if1 .if1 .left)) in
     let d = at-clear-words .clear-words in
-    (set-starting (sizes-of f) (d .ensures) (d .kept .0), f .rows, at-if2 .if2 .taken)
+    (set-starting (sizes-of f) (d .ensures) (d .kept .0), f .rows, at-if2 .if2 .taken, at-fitting .before .before .before .before .before .pre)
 
 search-middle-requires : tie.Need-search-middle-requires
 search-middle-requires c κs =
@@ -43,7 +43,7 @@ search-middle-requires c κs =
     let at-fitting = at-if1 .before in
     let f = at-fitting .fitting .ensures .fits (not-false _ (at-if1 .if1 .left)) in
     let d = at-clear-words .clear-words in
-    (set-starting (sizes-of f) (d .ensures) (d .kept .0), f .rows, at-if3 .if3 .taken)
+    (set-starting (sizes-of f) (d .ensures) (d .kept .0), f .rows, at-if3 .if3 .taken, at-fitting .before .before .before .before .before .pre)
 
 search-many-requires : tie.Need-search-many-requires
 search-many-requires c κs =
@@ -52,7 +52,7 @@ search-many-requires c κs =
     let at-fitting = at-if1 .before in
     let f = at-fitting .fitting .ensures .fits (not-false _ (at-if1 .if1 .left)) in
     let d = at-clear-words .clear-words in
-    (set-starting (sizes-of f) (d .ensures) (d .kept .0), f .rows)
+    (set-starting (sizes-of f) (d .ensures) (d .kept .0), f .rows, at-fitting .before .before .before .before .before .pre)
 
 same-length-2 : tie.Need-same-length-2
 same-length-2 c = search needs

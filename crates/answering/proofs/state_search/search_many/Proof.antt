@@ -12,7 +12,7 @@ search-lent-requires c κs =
     let at-start = c .before .before .before .before .before .before .before in
     let a = at-start .args in
     let p = at-start .pre in
-    (p, lent-most p .1, filled-none (a .lists) (a .words) _ 16384)
+    (p .0, lent-most (p .0) .1, filled-none (a .lists) (a .words) _ 16384, p .1)
 
 same-length : tie.Need-same-length
 same-length c = search needs

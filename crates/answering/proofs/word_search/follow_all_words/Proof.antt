@@ -197,6 +197,7 @@ follow-word-links-requires c κs =
           (at-index .index .ensures) (length-set (l .pending) x 0) (zeroed-one x (l .pending)),
       omega (arith, at-next-images .next-images .kept .1 .1 .1 .1 .0, v .1, at-start .pre .2),
       at-start .pre .3 .first x (below at-index),
+      at-start .pre .5,
     )
 
 move-front-requires : tie.Need-move-front-requires Inv-loop μ-loop

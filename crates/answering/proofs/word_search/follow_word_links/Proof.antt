@@ -39,7 +39,15 @@ follow-word-requires : tie.Need-follow-word-requires Inv-loop μ-loop
 follow-word-requires c κs =
     let at-loop = c .before .before .before .before in
     let at-start = at-loop .before .before .before .before .before .before .before in
-    (at-loop .loop .inv .4 .grown .ready, at-start .pre .1)
+    let at-loop-test = c .before .before .before in
+    let v = at-loop .loop .inv in
+    let l = reading-leaves (v .0) (at-loop-test .loop-test .taken) in
+    let within = at-start .pre .3 in (
+      v .4 .grown .ready,
+      at-start .pre .1,
+      omega (arith, l .label, within .label _ (l .within)),
+      omega (arith, l .end, within .end _ (l .within)),
+    )
 
 next-leaving-requires : tie.Need-next-leaving-requires Inv-loop μ-loop
 next-leaving-requires c κs = search needs
