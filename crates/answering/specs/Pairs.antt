@@ -1,18 +1,17 @@
 -- Pairs of a recording and a state as bits of words: the state s of the recording y is bit s % 64 of the word w × y + s / 64, where each
 -- recording has w words.
 use Prim.Native.Nat.{ℕ, zero, suc, _+_, _*_, _-_, _/_, _%_, _≤_, _<_}
-use mathlib.Core.Bool.{Bool, true}
 use mathlib.Core.List.{List, [], _∷_, _++_}
-use mathlib.Core.Logic.{_↔_, _⊎_, inl, inr}
+use mathlib.Core.Logic.{_⊎_, inl, inr}
 use mathlib.Core.Path.{_≡_, refl, sym, _∙_, subst}
 use native.Mathlib.Decide.{ℕ-discrete}
 use native.Mathlib.Nat.{mul-suc, mul-le-mul-left}
 use native.Mathlib.Omega.{arith}
 use lib.Count.{onesIn}
-use lib.ListN.{length, getD, set, replicate, length-set, length-replicate, getD-replicate, List·getD-append}
+use lib.ListN.{length, getD, set, replicate, length-replicate, getD-replicate, List·getD-append}
 use lib.Seq.{getD-set-same, getD-set-other}
-use Rattle.theory.specs.Places.{Member, member, one, union}
-use Rattle.theory.specs.PlacesLaws.{member-none, member-union, member-one, member-zero, member-suc, member-test}
+use Rattle.theory.specs.Places.{Member, one, union}
+use Rattle.theory.specs.PlacesLaws.{member-none, member-union, member-one, member-zero, member-suc}
 use Rattle.answering.specs.ProductLaws.{same-node, node-below}
 
 -- The place of the state s of the recording y.
@@ -23,16 +22,9 @@ place w y s = w * y + s / 64
 unfoldable pub Has : ℕ → List ℕ → ℕ → ℕ → Type 0
 Has w l y s = Member (s % 64) (getD l (place w y s) 0)
 
-unfoldable pub has : ℕ → List ℕ → ℕ → ℕ → Bool
-has w l y s = member (s % 64) (getD l (place w y s) 0)
-
 -- The recording y gets the state s.
 unfoldable pub put : ℕ → List ℕ → ℕ → ℕ → List ℕ
 put w l y s = set l (place w y s) (union (getD l (place w y s) 0) (one (s % 64)))
-
-pub has-test : (w : ℕ) (l : List ℕ) (y s : ℕ) → (has w l y s ≡ true) ↔ Has w l y s
-unfolding has Has
-has-test w l y s = member-test (s % 64) (getD l (place w y s) 0)
 
 pub place-below : (w N : ℕ) {y s : ℕ} → y < N → s < 64 * w → place w y s < w * N
 place-below w N h k = node-below w N h (omega arith)
@@ -206,10 +198,3 @@ room-less l m e h i j k b d n =
     let a = bits-new l m (sym e) h i j k b d n in
     let c = bits-at-most m in
     omega arith
-
--- One more pair leaves less room.
-pub room-put : (w : ℕ) (l : List ℕ) (y s : ℕ) → place w y s < length l → ¬ Has w l y s → room (put w l y s) < room l
-unfolding put Has
-room-put w l y s h d =
-    room-less l (put w l y s) (length-set l (place w y s) (union (getD l (place w y s) 0) (one (s % 64)))) (put-kept w l y s h)
-    (place w y s) (s % 64) h (omega arith) d (put-member w l y s h)

@@ -12,7 +12,7 @@ use lib.Seq.{getD-set-same, getD-set-other}
 use Rattle.theory.specs.Places.{Member}
 use Rattle.theory.specs.PlacesLaws.{member-none}
 use Rattle.answering.specs.Pairs.{place, Has, put, zero-at, has-put-there, has-put-new, has-put-kept}
-use Rattle.answering.specs.Useful.{InSet, nextOf, Useful, in-set, set-place}
+use Rattle.answering.specs.Useful.{InSet, nextOf, Useful, set-in, set-still}
 
 -- The ranks of the states and, by their ranks, the states that are kept.
 pub record Ranks (next : List ℕ) (lists states : ℕ) (flags ranks kept : List ℕ) (count : ℕ) : Type 0 where
@@ -25,25 +25,6 @@ pub record Ranks (next : List ℕ) (lists states : ℕ) (flags ranks kept : List
   pub closed : (s v : ℕ) → s < states → v < lists → nextOf next s v < states → getD ranks (nextOf next s v) 0 < count
       → getD ranks s 0 < count
 
--- A state comes into a set of four words.
-
-module _ (l : List ℕ) {states : ℕ} (few : states ≤ 256) (words : 4 ≤ length l) {s : ℕ} (h : s < states) where
-  pub member-room : place 4 0 s < length l
-  member-room = let e = set-place s in omega arith
-
-  pub put-in : InSet (put 4 l 0 s) s
-  put-in = in-set (put 4 l 0 s) s .0 (has-put-new 4 l 0 s (omega arith) member-room)
-
-  pub put-still : (t : ℕ) → InSet l t → InSet (put 4 l 0 s) t
-  put-still t m = in-set (put 4 l 0 s) t .0 (has-put-kept 4 l 0 s (omega arith) member-room 0 t (in-set l t .1 m))
-
-  pub put-only : (t : ℕ) → t < 256 → InSet (put 4 l 0 s) t → InSet l t ⊎ (t ≡ s)
-  put-only t k m = go (has-put-there 4 l 0 s (omega arith) member-room 0 t (omega arith) (in-set (put 4 l 0 s) t .1 m))
-    where
-      go : Has 4 l 0 t ⊎ ((_≡_ {A = ℕ} 0 0) × (t ≡ s)) → InSet l t ⊎ (t ≡ s)
-      go (inl n) = inl (in-set l t .0 n)
-      go (inr (e, f)) = inr f
-
 -- The states below n with flag 1 are added to a set.
 pub record FlaggedAdded (flags : List ℕ) (n : ℕ) (before after : List ℕ) : Type 0 where
   pub still : (s : ℕ) → InSet before s → InSet after s
@@ -52,16 +33,16 @@ pub record FlaggedAdded (flags : List ℕ) (n : ℕ) (before after : List ℕ) :
 pub flagged-none : (flags before : List ℕ) → FlaggedAdded flags 0 before before
 flagged-none flags before = record { still = λ s m. m; flagged = λ s h. absurd (omega arith) }
 
-pub flagged-put : {flags : List ℕ} {states s : ℕ} {before after : List ℕ} → states ≤ 256 → 4 ≤ length after → s < states
-    → FlaggedAdded flags s before after → FlaggedAdded flags (s + 1) before (put 4 after 0 s)
-flagged-put {flags} {states} {s} {before} {after} few words h f = record {
-  still = λ t m. put-still after few words h t (f .still t m);
+pub flagged-put : {flags : List ℕ} {s : ℕ} {before after : List ℕ} → s < length after
+    → FlaggedAdded flags s before after → FlaggedAdded flags (s + 1) before (set after s 1)
+flagged-put {flags} {s} {before} {after} h f = record {
+  still = λ t m. set-still after h t (f .still t m);
   flagged = λ t l e. go t l e (ℕ-discrete t s);
 }
   where
-    go : (t : ℕ) → t < s + 1 → getD flags t 0 ≡ 1 → Dec (t ≡ s) → InSet (put 4 after 0 s) t
-    go t l e (yes q) = subst (InSet (put 4 after 0 s)) (sym q) (put-in after few words h)
-    go t l e (no q) = put-still after few words h t (f .flagged t (omega arith) e)
+    go : (t : ℕ) → t < s + 1 → getD flags t 0 ≡ 1 → Dec (t ≡ s) → InSet (set after s 1) t
+    go t l e (yes q) = subst (InSet (set after s 1)) (sym q) (set-in after h)
+    go t l e (no q) = set-still after h t (f .flagged t (omega arith) e)
 
 pub flagged-pass : {flags : List ℕ} {s : ℕ} {before after : List ℕ} → ¬ (getD flags s 0 ≡ 1) → FlaggedAdded flags s before after
     → FlaggedAdded flags (s + 1) before after
@@ -197,9 +178,41 @@ ranks-made {next} {lists} {states} {flags} {start} {seeds} {useful} {ranks} {kep
     back' s h l (inl (a, b, m)) = (b, m)
     back' s h l (inr e) = absurd (let q = g .few in omega arith)
 
+-- The ranks of the accepting states, of at most 256, stand in four words: they are the states of recording 0 (Pairs).
+
+abbrev pub InWords : List ℕ → ℕ → Type 0
+InWords words r = Member (r % 64) (getD words (r / 64) 0)
+
+word-place : (s : ℕ) → place 4 0 s ≡ s / 64
+word-place s = omega arith
+
+in-words : (l : List ℕ) (s : ℕ) → Has 4 l 0 s ↔ InWords l s
+unfolding Has
+in-words l s = (
+  subst (λ i. Member (s % 64) (getD l i 0)) (word-place s),
+  subst (λ i. Member (s % 64) (getD l i 0)) (sym (word-place s)),
+)
+
+module _ (l : List ℕ) {states : ℕ} (few : states ≤ 256) (words : 4 ≤ length l) {s : ℕ} (h : s < states) where
+  pub member-room : place 4 0 s < length l
+  member-room = let e = word-place s in omega arith
+
+  put-in : InWords (put 4 l 0 s) s
+  put-in = in-words (put 4 l 0 s) s .0 (has-put-new 4 l 0 s (omega arith) member-room)
+
+  put-still : (t : ℕ) → InWords l t → InWords (put 4 l 0 s) t
+  put-still t m = in-words (put 4 l 0 s) t .0 (has-put-kept 4 l 0 s (omega arith) member-room 0 t (in-words l t .1 m))
+
+  put-only : (t : ℕ) → t < 256 → InWords (put 4 l 0 s) t → InWords l t ⊎ (t ≡ s)
+  put-only t k m = go (has-put-there 4 l 0 s (omega arith) member-room 0 t (omega arith) (in-words (put 4 l 0 s) t .1 m))
+    where
+      go : Has 4 l 0 t ⊎ ((_≡_ {A = ℕ} 0 0) × (t ≡ s)) → InWords l t ⊎ (t ≡ s)
+      go (inl n) = inl (in-words l t .0 n)
+      go (inr (e, f)) = inr f
+
 -- The ranks below n of states with flag 1; nothing else is in the words.
 pub record AcceptedRanks (flags kept : List ℕ) (n : ℕ) (accepts : List ℕ) : Type 0 where
-  pub exactly : (r : ℕ) → r < 256 → InSet accepts r ↔ ((r < n) × (getD flags (getD kept r 0) 0 ≡ 1))
+  pub exactly : (r : ℕ) → r < 256 → InWords accepts r ↔ ((r < n) × (getD flags (getD kept r 0) 0 ≡ 1))
 
 pub accepted-none : (flags kept : List ℕ) (n : ℕ) → AcceptedRanks flags kept 0 (replicate n 0)
 accepted-none flags kept n = record {
@@ -228,10 +241,10 @@ module _ {flags kept : List ℕ} {n : ℕ} {l : List ℕ} (a : AcceptedRanks fla
     exactly = λ r k. (λ m. there r k (put-only l few words h r k m), λ (b, f). back r k b f (ℕ-discrete r n));
   }
     where
-      there : (r : ℕ) → r < 256 → InSet l r ⊎ (r ≡ n) → (r < n + 1) × (getD flags (getD kept r 0) 0 ≡ 1)
+      there : (r : ℕ) → r < 256 → InWords l r ⊎ (r ≡ n) → (r < n + 1) × (getD flags (getD kept r 0) 0 ≡ 1)
       there r k (inl m) = let (b, f) = a .exactly r k .0 m in (omega arith, f)
       there r k (inr q) = (omega arith, subst (λ r. getD flags (getD kept r 0) 0 ≡ 1) (sym q) e)
 
-      back : (r : ℕ) → r < 256 → r < n + 1 → getD flags (getD kept r 0) 0 ≡ 1 → Dec (r ≡ n) → InSet (put 4 l 0 n) r
-      back r k b f (yes q) = subst (InSet (put 4 l 0 n)) (sym q) (put-in l few words h)
+      back : (r : ℕ) → r < 256 → r < n + 1 → getD flags (getD kept r 0) 0 ≡ 1 → Dec (r ≡ n) → InWords (put 4 l 0 n) r
+      back r k b f (yes q) = subst (InWords (put 4 l 0 n)) (sym q) (put-in l few words h)
       back r k b f (no q) = put-still l few words h r (a .exactly r k .1 (omega arith, f))

@@ -1,20 +1,47 @@
 -- Useful states: a set that has all accepting states and each state with a next state in it. A state outside it leads to no accepting one,
--- so that a search may leave it out. A set of at most 256 states is kept in four words: the state s is bit s % 64 of the word s / 64. The
--- next states of the state s over the lists stand from 16 × s on.
-use Prim.Native.Nat.{ℕ, suc, _+_, _*_, _/_, _%_, _≤_, _<_}
+-- so that a search may leave it out. A set of states is kept in bytes: the byte number s is 1 where it has the state s. The next states of
+-- the state s over the lists stand from 16 × s on.
+use Prim.Native.Nat.{ℕ, zero, suc, _+_, _*_, _≤_, _<_}
 use mathlib.Core.Bool.{Bool, true, false, false≢true}
-use mathlib.Core.List.{List}
-use mathlib.Core.Logic.{_↔_}
+use mathlib.Core.List.{List, [], _∷_}
 use mathlib.Core.Path.{_≡_, refl, sym, _∙_, subst}
 use native.Mathlib.Decide.{ℕ-discrete}
 use native.Mathlib.Omega.{arith}
-use lib.ListN.{length, getD}
-use Rattle.theory.specs.Places.{Member}
-use Rattle.answering.specs.Pairs.{place, Has, has, put, has-test, has-put-kept, room, room-put}
+use borrow.Author.Tests.{ne-eqb}
+use lib.Dec.{eqb}
+use lib.ListN.{length, getD, set}
+use lib.Seq.{getD-set-same, getD-set-other}
 
 -- The set has the state s.
 abbrev pub InSet : List ℕ → ℕ → Type 0
-InSet set s = Member (s % 64) (getD set (s / 64) 0)
+InSet set s = getD set s 0 ≡ 1
+
+-- A state comes into the set; the others stay as they are.
+pub set-in : (l : List ℕ) {s : ℕ} → s < length l → InSet (set l s 1) s
+set-in l {s} h = getD-set-same l s 1 0 h
+
+pub set-still : (l : List ℕ) {s : ℕ} → s < length l → (t : ℕ) → InSet l t → InSet (set l s 1) t
+set-still l {s} h t m = go (ℕ-discrete t s)
+  where
+    go : Dec (t ≡ s) → InSet (set l s 1) t
+    go (yes e) = subst (InSet (set l s 1)) (sym e) (set-in l h)
+    go (no d) = getD-set-other l s t 1 0 d ∙ m
+
+-- How many states the set lacks: each that comes into it leaves one less.
+
+lacking : Bool → ℕ
+lacking true = 0
+lacking false = 1
+
+pub lacks : List ℕ → ℕ
+lacks [] = 0
+lacks (x ∷ l) = lacking (eqb x 1) + lacks l
+
+set-lacks : (l : List ℕ) (s : ℕ) → s < length l → ¬ InSet l s → lacks (set l s 1) < lacks l
+unfolding lacks lacking
+set-lacks [] s h d = absurd (omega arith)
+set-lacks (x ∷ l) zero h d = rw (ne-eqb x 1 d) (omega arith)
+set-lacks (x ∷ l) (suc s) h d = omega (arith, set-lacks l s (omega arith) d)
 
 -- The next state of s over the list v.
 abbrev pub nextOf : List ℕ → ℕ → ℕ → ℕ
@@ -24,22 +51,21 @@ nextOf next s v = getD next (16 * s + v) 0
 abbrev pub ClosedUnder : List ℕ → ℕ → ℕ → List ℕ → ℕ → Type 0
 ClosedUnder next lists states set s = (v : ℕ) → v < lists → nextOf next s v < states → InSet set (nextOf next s v) → InSet set s
 
--- A set of useful states, from the words of the accepting ones.
+-- A set of useful states, from that of the accepting ones.
 pub record Useful (next : List ℕ) (lists states : ℕ) (accepts set : List ℕ) : Type 0 where
   pub accepting : (s : ℕ) → s < states → InSet accepts s → InSet set s
   pub closed : (s : ℕ) → s < states → ClosedUnder next lists states set s
 
--- The next states have their rows, and the set its words ..
+-- The next states have their rows, and the states their bytes ..
 pub record UsefulRoom (next : List ℕ) (lists states : ℕ) (set : List ℕ) : Type 0 where
   pub few-lists : lists ≤ 16
-  pub few : states ≤ 256
   pub rows : 16 * states ≤ length next
-  pub words : 4 ≤ length set
+  pub bytes : states ≤ length set
 
 -- .. as long as the set keeps its length.
 pub useful-room-kept : {next : List ℕ} {lists states : ℕ} {before after : List ℕ} → UsefulRoom next lists states before
     → length after ≡ length before → UsefulRoom next lists states after
-useful-room-kept f e = record { few-lists = f .few-lists; few = f .few; rows = f .rows; words = let w = f .words in omega arith }
+useful-room-kept f e = record { few-lists = f .few-lists; rows = f .rows; bytes = let b = f .bytes in omega arith }
 
 -- No next state of s over the first lists is in the set.
 abbrev pub LeadsNowhere : List ℕ → ℕ → ℕ → List ℕ → ℕ → Type 0
@@ -65,66 +91,43 @@ nowhere-more next v states set s f at d u h l m = go (ℕ-discrete u v)
 pub record Round (next : List ℕ) (lists states from : ℕ) (before after : List ℕ) (r : Bool) : Type 0 where
   pub kept : (s : ℕ) → InSet before s → InSet after s
   pub closed : r ≡ false → (s : ℕ) → from ≤ s → s < states → ClosedUnder next lists states after s
-  pub grown : r ≡ true → room after < room before
+  pub grown : r ≡ true → lacks after < lacks before
   pub same : r ≡ false → after ≡ before
 
 -- One state: nothing is changed where the set has it or it leads nowhere, else it is added.
 pub record StateAdded (next : List ℕ) (lists states s : ℕ) (before after : List ℕ) (r : Bool) : Type 0 where
   pub kept : (t : ℕ) → InSet before t → InSet after t
   pub closed : r ≡ false → ClosedUnder next lists states after s
-  pub grown : r ≡ true → room after < room before
+  pub grown : r ≡ true → lacks after < lacks before
   pub same : r ≡ false → after ≡ before
 
--- A set is the states of recording 0, of four words.
-
-pub set-place : (s : ℕ) → place 4 0 s ≡ s / 64
-set-place s = omega arith
-
-pub in-set : (set : List ℕ) (s : ℕ) → Has 4 set 0 s ↔ InSet set s
-unfolding Has
-in-set set s = (
-  subst (λ i. Member (s % 64) (getD set i 0)) (set-place s),
-  subst (λ i. Member (s % 64) (getD set i 0)) (sym (set-place s)),
-)
-
-pub in-set-test : (set : List ℕ) (s : ℕ) → (has 4 set 0 s ≡ true) ↔ InSet set s
-in-set-test set s =
-    (λ e. in-set set s .0 (has-test 4 set 0 s .0 e), λ m. has-test 4 set 0 s .1 (in-set set s .1 m))
-
-module _ {set : List ℕ} {next : List ℕ} {lists states : ℕ} (fits : UsefulRoom next lists states set) where
-  pub set-room : {s : ℕ} → s < states → place 4 0 s < length set
-  set-room {s} h = let a = fits .few in let b = fits .words in let e = set-place s in omega arith
-
+module _ (next : List ℕ) (lists states : ℕ) (l : List ℕ) (s : ℕ) where
   -- The state was there ..
-  pub state-there : {s : ℕ} {r : Bool} → has 4 set 0 s ≡ true → r ≡ false → StateAdded next lists states s set set r
-  state-there {s} m f = record {
+  pub state-there : {r : Bool} → InSet l s → r ≡ false → StateAdded next lists states s l l r
+  state-there m f = record {
     kept = λ t n. n;
-    closed = λ e v h l n. in-set-test set s .0 m;
+    closed = λ e v h k n. m;
     grown = λ e. absurd (false≢true (sym f ∙ e));
     same = λ e. refl;
   }
 
   -- .. or it leads nowhere ..
-  pub state-nowhere : {s : ℕ} {r : Bool} → LeadsNowhere next lists states set s → r ≡ false
-      → StateAdded next lists states s set set r
-  state-nowhere {s} m f = record {
+  pub state-nowhere : {r : Bool} → LeadsNowhere next lists states l s → r ≡ false → StateAdded next lists states s l l r
+  state-nowhere m f = record {
     kept = λ t n. n;
-    closed = λ e v h l n. absurd (m v h l n);
+    closed = λ e v h k n. absurd (m v h k n);
     grown = λ e. absurd (false≢true (sym f ∙ e));
     same = λ e. refl;
   }
 
   -- .. or it is added.
-  pub state-new : {s : ℕ} {r : Bool} → s < states → has 4 set 0 s ≡ false → r ≡ true
-      → StateAdded next lists states s set (put 4 set 0 s) r
-  state-new {s} h m f =
-      let few = fits .few in
-      record {
-        kept = λ t n. in-set (put 4 set 0 s) t .0 (has-put-kept 4 set 0 s (omega arith) (set-room h) 0 t (in-set set t .1 n));
-        closed = λ e. absurd (false≢true (sym e ∙ f));
-        grown = λ e. room-put 4 set 0 s (set-room h) (λ n. false≢true (sym m ∙ has-test 4 set 0 s .1 n));
-        same = λ e. absurd (false≢true (sym e ∙ f));
-      }
+  pub state-new : {r : Bool} → s < length l → ¬ InSet l s → r ≡ true → StateAdded next lists states s l (set l s 1) r
+  state-new h d f = record {
+    kept = set-still l h;
+    closed = λ e. absurd (false≢true (sym e ∙ f));
+    grown = λ e. set-lacks l s h d;
+    same = λ e. absurd (false≢true (sym e ∙ f));
+  }
 
 -- A round over the states.
 
@@ -147,16 +150,16 @@ module _ {next : List ℕ} {lists states from s : ℕ} {before middle after : Li
     same = λ z. absurd (false≢true (sym z ∙ f));
   }
     where
-      less : (q : Bool) → b ≡ q → room after < room before
+      less : (q : Bool) → b ≡ q → lacks after < lacks before
       less true h = omega (arith, g .grown h, a .grown e)
-      less false h = subst (λ l. room after < room l) (g .same h) (a .grown e)
+      less false h = subst (λ l. lacks after < lacks l) (g .same h) (a .grown e)
 
   -- .. or it was not.
   pub round-same : r ≡ false → Round next lists states s before after b
   round-same e = record {
     kept = λ t m. a .kept t (g .kept t m);
     closed = λ z t h l. go z t h l (ℕ-discrete t s);
-    grown = λ z. subst (λ l. room l < room before) (sym (a .same e)) (g .grown z);
+    grown = λ z. subst (λ l. lacks l < lacks before) (sym (a .same e)) (g .grown z);
     same = λ z. a .same e ∙ g .same z;
   }
     where
@@ -167,9 +170,9 @@ module _ {next : List ℕ} {lists states from s : ℕ} {before middle after : Li
 
 -- The rounds: while one adds something.
 
--- How many rounds may follow: each adds some state, of those that there is room for.
+-- How many rounds may follow: each adds some state, of those that the set lacks.
 abbrev pub roundsLeft : Bool → List ℕ → ℕ
-roundsLeft true set = suc (room set)
+roundsLeft true set = suc (lacks set)
 roundsLeft false set = 0
 
 -- No state is lost, and once a round adds nothing, the set is closed.

@@ -2,17 +2,9 @@
 ghost use mathlib.Core.Path.{_≡_};
 ghost use Prim.Native.Nat.{_+_, _*_, _≤_, _<_};
 ghost use lib.ListN.{length};
-ghost use Rattle.answering.specs.Pairs.{place, has, put};
+ghost use Rattle.answering.specs.Pairs.{place, put};
 ghost use Rattle.answering.specs.NextState.{NextState};
 ghost use Rattle.answering.specs.WordsFrom.{AnyFrom, Zeroed};
-
-// Whether the recording y has the state s.
-pub(super) fn has(pairs: &[u64], words: usize, y: usize, s: usize) -> bool
-    requires { ⌜ place words y s < length (now pairs) ⌝ }
-    ensures { λ r. ⌜ r ≡ has words (now (pairs .entry)) y s ⌝ }
-{
-    (pairs[words * y + s / 64] >> (s % 64)) & 1 == 1
-}
 
 // The recording y gets the state s.
 pub(super) fn put(pairs: &mut [u64], words: usize, y: usize, s: usize)

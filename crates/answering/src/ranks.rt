@@ -1,6 +1,5 @@
 // Ranks: the states that are kept, those from which an accepting state may be reached and the start, are numbered from 0 on in their order,
 // so that a set of them takes few words. A state that is left out has the rank 256.
-use super::pairs::has;
 use super::pairs::put;
 use super::table::index;
 use super::useful::add_useful;
@@ -9,28 +8,28 @@ ghost use lib.ListN.{length, getD};
 ghost use Rattle.answering.specs.Ranks.{FlaggedAdded, RankRoom, Ranked, Ranks, AcceptedRanks};
 
 // The states with flag 1 are added.
-fn add_flagged(flags: &[u8; 256], states: usize, set: &mut [u64])
-    requires { ⌜ (states ≤ 256) × (4 ≤ length (now set)) ⌝ }
+fn add_flagged(flags: &[u8; 256], states: usize, set: &mut [u8])
+    requires { ⌜ (states ≤ 256) × (states ≤ length (now set)) ⌝ }
     ensures { λ _. ⌜ FlaggedAdded (now (flags .entry)) states (now (set .entry)) (now (set .exit)) ⌝ }
 {
     let mut s = 0;
     while s < states {
         if flags[s] == 1 {
-            put(set, 4, 0, s);
+            set[s] = 1;
         }
         s += 1;
     }
 }
 
 // The states of the set get their ranks; `kept` lists them by their ranks. How many there are is returned.
-fn rank_states(set: &[u64], states: usize, ranks: &mut [u16], kept: &mut [u16]) -> usize
-    requires { ⌜ RankRoom states (now ranks) (now kept) × (4 ≤ length (now set)) ⌝ }
+fn rank_states(set: &[u8], states: usize, ranks: &mut [u16], kept: &mut [u16]) -> usize
+    requires { ⌜ RankRoom states (now ranks) (now kept) × (states ≤ length (now set)) ⌝ }
     ensures { λ r. ⌜ Ranked (now (set .entry)) states states (now (ranks .exit)) (now (kept .exit)) r ⌝ }
 {
     let mut count = 0;
     let mut s = 0;
     while s < states {
-        if has(set, 4, 0, s) {
+        if set[s] == 1 {
             ranks[s] = count as u16;
             kept[count] = s as u16;
             count += 1;
@@ -52,8 +51,9 @@ pub(super) fn rank_useful(
     requires { ⌜ RankRoom states (now ranks) (now kept) × (0 < states) × (lists ≤ 16) × (16 * states ≤ length (now next)) ⌝ }
     ensures { λ r. ⌜ Ranks (now (next .entry)) lists states (now (flags .entry)) (now (ranks .exit)) (now (kept .exit)) r ⌝ }
 {
+    let mut useful: [u8; 256] = [0; 256];
     // The start is kept.
-    let mut useful: [u64; 4] = [1, 0, 0, 0];
+    useful[0] = 1;
     add_flagged(flags, states, &mut useful);
     add_useful(next, lists, states, &mut useful);
     rank_states(&useful, states, ranks, kept)

@@ -1,11 +1,9 @@
 -- `rank_states` meets its contract. The loop's invariant: the states of the set below s have their ranks.
 use Prim.Native.Nat.{_-_, _≤_}
-use mathlib.Core.Bool.{false≢true}
 use mathlib.Core.Logic.{⊎-elim}
-use mathlib.Core.Path.{_≡_, refl, sym, _∙_}
+use mathlib.Core.Path.{_≡_, refl}
 use lib.ListN.{length, length-set}
-use Rattle.answering.specs.Useful.{in-set-test}
-use Rattle.answering.specs.Ranks.{Ranked, member-room, ranked-none, ranked-out, ranked-next}
+use Rattle.answering.specs.Ranks.{Ranked, ranked-none, ranked-out, ranked-next}
 use native.Mathlib.Omega.{arith}
 use borrow.Author.Needs.{needs}
 use Rattle.answering.proofs.ranks.rank_states.Statement.{statement}
@@ -19,20 +17,16 @@ abbrev μ-loop : tie.MeasureT-loop
 μ-loop set states ranks₀ kept₀ count₀ s₀ ranks kept count s = states - s
 
 loop-holds : tie.Need-loop-holds Inv-loop μ-loop
-loop-holds c =
-    let at-start = c .before .before .before in
-    (omega arith, refl, refl, ranked-none (at-start .pre .0))
+loop-holds c = (omega arith, refl, refl, ranked-none (c .pre .0))
 
-has-requires : tie.Need-has-requires Inv-loop μ-loop
-has-requires c κs =
-    let at-start = c .before .before .before .before .before in
-    let p = at-start .pre in
-    member-room (at-start .args .set .now) (p .0 .few) (p .1) (c .loop-test .taken)
+shared-slice-read-if1 : tie.Need-shared-slice-read-if1 Inv-loop μ-loop
+shared-slice-read-if1 c =
+    let at-start = c .before .before .before in omega (arith, at-start .pre .1)
 
 cast-ranks : tie.Need-cast-ranks Inv-loop μ-loop
 cast-ranks c =
     let at-loop = c .before .before .before in
-    let at-start = c .before .before .before .before .before .before .before in
+    let at-start = c .before .before .before .before in
     let b = at-start .pre .0 in
     let v = at-loop .loop .inv in
     let f = v .3 .few in
@@ -41,7 +35,7 @@ cast-ranks c =
 mul-ranks : tie.Need-mul-ranks Inv-loop μ-loop
 mul-ranks c =
     let at-loop = c .before .before .before in
-    let at-start = c .before .before .before .before .before .before .before in
+    let at-start = c .before .before .before .before in
     let b = at-start .pre .0 in
     let v = at-loop .loop .inv in
     let f = v .3 .few in
@@ -50,7 +44,7 @@ mul-ranks c =
 slice-write-ranks : tie.Need-slice-write-ranks Inv-loop μ-loop
 slice-write-ranks c =
     let at-loop = c .before .before .before in
-    let at-start = c .before .before .before .before .before .before .before in
+    let at-start = c .before .before .before .before in
     let b = at-start .pre .0 in
     let v = at-loop .loop .inv in
     let f = v .3 .few in
@@ -59,7 +53,7 @@ slice-write-ranks c =
 cast-kept : tie.Need-cast-kept Inv-loop μ-loop
 cast-kept c =
     let at-loop = c .before .before .before in
-    let at-start = c .before .before .before .before .before .before .before in
+    let at-start = c .before .before .before .before in
     let b = at-start .pre .0 in
     let v = at-loop .loop .inv in
     let f = v .3 .few in
@@ -68,7 +62,7 @@ cast-kept c =
 mul-kept : tie.Need-mul-kept Inv-loop μ-loop
 mul-kept c =
     let at-loop = c .before .before .before in
-    let at-start = c .before .before .before .before .before .before .before in
+    let at-start = c .before .before .before .before in
     let b = at-start .pre .0 in
     let v = at-loop .loop .inv in
     let f = v .3 .few in
@@ -77,7 +71,7 @@ mul-kept c =
 slice-write-kept : tie.Need-slice-write-kept Inv-loop μ-loop
 slice-write-kept c =
     let at-loop = c .before .before .before in
-    let at-start = c .before .before .before .before .before .before .before in
+    let at-start = c .before .before .before .before in
     let b = at-start .pre .0 in
     let v = at-loop .loop .inv in
     let f = v .3 .few in
@@ -86,7 +80,7 @@ slice-write-kept c =
 add-count : tie.Need-add-count Inv-loop μ-loop
 add-count c =
     let at-loop = c .before .before .before in
-    let at-start = c .before .before .before .before .before .before .before in
+    let at-start = c .before .before .before .before in
     let b = at-start .pre .0 in
     let v = at-loop .loop .inv in
     let f = v .3 .few in
@@ -100,30 +94,27 @@ loop-less c = search needs
 
 loop-again : tie.Need-loop-again Inv-loop μ-loop
 loop-again c =
-    let at-has = c .before in
     let at-loop-test = c .before .before in
     let at-loop = c .before .before .before in
-    let at-start = c .before .before .before .before .before .before .before in
-    let a = at-start .args in
+    let at-start = c .before .before .before .before in
     let b = at-start .pre .0 in
     let l = at-loop .loop in
     let v = l .inv in
     let f = v .3 .few in
     let h = at-loop-test .loop-test .taken in
-    let test = in-set-test (a .set .now) (l .s) in
     ⊎-elim
     (λ w. rw (w .1, w .2, w .3) (
       omega arith,
       simp length-set (v .1),
       simp length-set (v .2),
       ranked-next (v .3) h (b .few) (omega (arith, b .ranks-fit)) (omega (arith, b .kept-fit))
-          (test .0 (sym (at-has .has .ensures) ∙ w .0 .taken)),
+          (w .0 .taken),
     ))
     (λ w. rw (w .1, w .2, w .3) (
       omega arith,
       v .1,
       v .2,
-      ranked-out (v .3) (λ m. false≢true (sym (w .0 .left) ∙ at-has .has .ensures ∙ test .1 m)),
+      ranked-out (v .3) (w .0 .left),
     ))
     (c .if1 .came)
 
@@ -136,7 +127,7 @@ same-length-2 c = search needs
 returns : tie.Need-returns Inv-loop μ-loop
 returns c =
     let at-loop = c .before in
-    let at-start = c .before .before .before .before .before in
+    let at-start = at-loop .before in
     let e : at-loop .loop .s ≡ at-start .args .states = omega arith in
     rw e at (at-loop .loop .inv .3)
 
@@ -147,7 +138,7 @@ rank-states-spec =
     Inv-loop
     μ-loop
     loop-holds
-    has-requires
+    shared-slice-read-if1
     cast-ranks
     mul-ranks
     slice-write-ranks

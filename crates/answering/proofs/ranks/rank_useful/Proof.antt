@@ -6,13 +6,16 @@ use borrow.Author.Needs.{needs}
 use Rattle.answering.proofs.ranks.rank_useful.Statement.{statement}
 use Rattle.answering.proofs.ranks.rank_useful.Tie as tie
 
+array-write-useful : tie.Need-array-write-useful
+array-write-useful c = search needs
+
 slice-aggregate-add-flagged : tie.Need-slice-aggregate-add-flagged
 slice-aggregate-add-flagged c = search needs
 
 add-flagged-requires : tie.Need-add-flagged-requires
 add-flagged-requires c κs =
     let at-start = c .before .before .before .before in
-    (at-start .pre .0 .few, omega arith)
+    (at-start .pre .0 .few, omega (arith, at-start .pre .0 .few))
 
 slice-aggregate-add-useful : tie.Need-slice-aggregate-add-useful
 slice-aggregate-add-useful c = search needs
@@ -23,7 +26,7 @@ add-useful-requires c κs =
     let at-start = c .before .before .before .before .before .before .before in
     let p = at-start .pre in
     let e = at-add-flagged .add-flagged .kept .1 .0 in
-    record { few-lists = p .2; few = p .0 .few; rows = p .3; words = omega arith }
+    record { few-lists = p .2; rows = p .3; bytes = omega (arith, p .0 .few) }
 
 slice-aggregate-rank-states : tie.Need-slice-aggregate-rank-states
 slice-aggregate-rank-states c = search needs
@@ -32,7 +35,7 @@ rank-states-requires : tie.Need-rank-states-requires
 rank-states-requires c κs =
     let earlier = c .before .before .before .before .before .before .before .before .before .before in
     let at-start = earlier .before .before in
-    (at-start .pre .0, omega arith)
+    (at-start .pre .0, omega (arith, at-start .pre .0 .few))
 
 same-length : tie.Need-same-length
 same-length c = search needs
@@ -54,6 +57,7 @@ pub rank-useful-spec : {M : Type 1} → statement M
 rank-useful-spec =
     tie.close
     (tie.spec
+    array-write-useful
     slice-aggregate-add-flagged
     add-flagged-requires
     slice-aggregate-add-useful

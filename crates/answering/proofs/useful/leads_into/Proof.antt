@@ -44,8 +44,7 @@ index-requires c κs = search needs
 
 has-state-requires : tie.Need-has-state-requires Inv-loop μ-loop
 has-state-requires c κs =
-    let p = c .before .before .before .before .before .before .pre in
-    (p .0 .few, p .0 .words)
+    let p = c .before .before .before .before .before .before .pre in p .0 .bytes
 
 returns : tie.Need-returns Inv-loop μ-loop
 returns c = λ e. absurd (false≢true (sym e))

@@ -1,7 +1,6 @@
 -- `follow_word` meets its contract: the states of the symbol's image come to the link's end.
 use Rattle.answering.specs.SetSteps.{row-added}
 use Rattle.answering.specs.WordSteps.{word-room, image-added}
-use native.Mathlib.Omega.{arith}
 use borrow.Author.Needs.{needs}
 use Rattle.answering.proofs.word_search.follow_word.Statement.{statement}
 use Rattle.answering.proofs.word_search.follow_word.Tie as tie
