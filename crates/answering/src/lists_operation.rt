@@ -5,15 +5,18 @@ use super::links_operation::Answered;
 use super::lists_core::mark_lists;
 use super::table::is_table;
 use finding::answer::Finding;
-use finding::core::find_core;
+use finding::core::find_rows;
 use reading::Answer;
-use reading::load;
+use reading::few_lines;
+use reading::load_rows;
 use syntax::Refusal;
 ghost use mathlib.Core.Path.{_≡_};
 ghost use mathlib.Core.Bool.{true};
 ghost use Prim.Native.Nat.{_≤_};
 ghost use Rattle.theory.specs.Job.{Job, WellFormed};
 ghost use Rattle.reading.specs.Read.{read};
+ghost use Rattle.reading.specs.RowRoom.{newlines, HasRows};
+ghost use Rattle.finding.specs.RowsFit.{RowsFit};
 ghost use Rattle.finding.specs.Find.{Found, find};
 ghost use Rattle.answering.specs.Table.{isTable};
 ghost use Rattle.answering.specs.AnswerJob.{markedLists, listsJob};
@@ -64,8 +67,8 @@ fn finding_lists(
 
 // The marks by the rewriting of the job of the tables.
 fn rewriting_lists(
-    follow: &[u64; 1088],
-    enter: &[u64; 544],
+    follow: &[u64],
+    enter: &[u64],
     sizes: &[u64; 17],
     accepting: &[u64; 17],
     labels: u64,
@@ -77,7 +80,7 @@ fn rewriting_lists(
     workspace: &mut [u64],
 ) -> Answered
     requires { ⌜ (labels ≤ 32) × (lists ≤ 16) × (isTable recordings lists (now table) ≡ true)
-        × ListsLent recordings start (now marks) (now workspace) ⌝ }
+        × ListsLent recordings start (now marks) (now workspace) × RowsFit lists (now follow) (now enter) ⌝ }
     ensures { λ r. ⌜ ((J : Job) → WellFormed J
         → JobGiven J (now (follow .entry)) (now (enter .entry)) (now (sizes .entry)) (now (accepting .entry)) labels lists
         → outcome r (now (marks .exit)) (now (workspace .exit))
@@ -85,7 +88,7 @@ fn rewriting_lists(
 {
     let mut next: [u16; 4096] = [0; 4096];
     let mut flags: [u8; 256] = [0; 256];
-    let told = find_core(
+    let told = find_rows(
         labels,
         lists,
         follow,
@@ -113,8 +116,8 @@ fn rewriting_lists(
 
 // The job of the tables.
 fn job_lists(
-    follow: &[u64; 1088],
-    enter: &[u64; 544],
+    follow: &[u64],
+    enter: &[u64],
     sizes: &[u64; 17],
     accepting: &[u64; 17],
     labels: u64,
@@ -125,7 +128,8 @@ fn job_lists(
     marks: &mut [u8],
     workspace: &mut [u64],
 ) -> Answered
-    requires { ⌜ (labels ≤ 32) × (lists ≤ 16) × ListsSized recordings (now marks) (now workspace) ⌝ }
+    requires { ⌜ (labels ≤ 32) × (lists ≤ 16) × ListsSized recordings (now marks) (now workspace)
+        × RowsFit lists (now follow) (now enter) ⌝ }
     ensures { λ r. ⌜ ((J : Job) → WellFormed J
         → JobGiven J (now (follow .entry)) (now (enter .entry)) (now (sizes .entry)) (now (accepting .entry)) labels lists
         → outcome r (now (marks .exit)) (now (workspace .exit))
@@ -152,36 +156,29 @@ fn job_lists(
     )
 }
 
-// The job of a text, read into tables.
-fn read_lists(
+// The job of a text, read into lent tables that have rows for it.
+fn lists_in(
     text: &[u8],
+    follow: &mut [u64],
+    enter: &mut [u64],
     recordings: u64,
     table: &[u16],
     start: u64,
     marks: &mut [u8],
     workspace: &mut [u64],
 ) -> Answered
-    requires { ⌜ ListsSized recordings (now marks) (now workspace) ⌝ }
+    requires { ⌜ HasRows (newlines (now text)) (now follow) (now enter) × ListsSized recordings (now marks) (now workspace) ⌝ }
     ensures { λ r. ⌜ outcome r (now (marks .exit)) (now (workspace .exit))
         ≡ readLists (read (now (text .entry))) recordings (now (table .entry)) start (now (marks .entry)) (now (workspace .entry)) ⌝ }
 {
     let mut names = [0; 96];
-    let mut follow = [0; 1088];
-    let mut enter = [0; 544];
     let mut sizes = [0; 17];
     let mut accepting = [0; 17];
-    let told = load(
-        text,
-        &mut names,
-        &mut follow,
-        &mut enter,
-        &mut sizes,
-        &mut accepting,
-    );
+    let told = load_rows(text, &mut names, follow, enter, &mut sizes, &mut accepting);
     match told {
         Answer::Job(labels, lists) => job_lists(
-            &follow,
-            &enter,
+            follow,
+            enter,
             &sizes,
             &accepting,
             labels,
@@ -194,6 +191,47 @@ fn read_lists(
         ),
         Answer::Refused(refusal, line) => Answered::Refused(refusal, line),
     }
+}
+
+// The job of a text. To zero tables for 16 lists takes longer than to answer a small job, so that a text of few lines has smaller ones.
+fn read_lists(
+    text: &[u8],
+    recordings: u64,
+    table: &[u16],
+    start: u64,
+    marks: &mut [u8],
+    workspace: &mut [u64],
+) -> Answered
+    requires { ⌜ ListsSized recordings (now marks) (now workspace) ⌝ }
+    ensures { λ r. ⌜ outcome r (now (marks .exit)) (now (workspace .exit))
+        ≡ readLists (read (now (text .entry))) recordings (now (table .entry)) start (now (marks .entry)) (now (workspace .entry)) ⌝ }
+{
+    if few_lines(text) {
+        let mut follow = [0; 576];
+        let mut enter = [0; 288];
+        return lists_in(
+            text,
+            &mut follow,
+            &mut enter,
+            recordings,
+            table,
+            start,
+            marks,
+            workspace,
+        );
+    }
+    let mut follow = [0; 1088];
+    let mut enter = [0; 544];
+    lists_in(
+        text,
+        &mut follow,
+        &mut enter,
+        recordings,
+        table,
+        start,
+        marks,
+        workspace,
+    )
 }
 
 // Answer from lists (document 01): the number of recordings that are marked, or the refusal with its line.

@@ -42,7 +42,7 @@ fn search_lent(
     search_sets(sets, lists, words, count, table, recordings, start, reached);
 }
 
-// The search, where 1024 words suffice for the next states: they are zeroed sooner than those for all automata.
+// The search, where 256 words suffice for the next states: they are zeroed sooner than those for all automata.
 fn search_few(
     next: &[u16],
     lists: u64,
@@ -56,12 +56,12 @@ fn search_few(
     start: u64,
     reached: &mut [u64],
 )
-    requires { ⌜ StatesLent (now next) lists states words (now ranks) (now kept) count × (words * (lists * count) ≤ 1024)
+    requires { ⌜ StatesLent (now next) lists states words (now ranks) (now kept) count × (words * (lists * count) ≤ 256)
         × InRange lists recordings (now table) ⌝ }
     ensures { λ _. ⌜ StatesSearched (now (next .entry)) lists states words (now (ranks .entry)) (now (kept .entry)) count
         (now (table .entry)) recordings start (now (reached .entry)) (now (reached .exit)) ⌝ }
 {
-    let mut sets: [u64; 1024] = [0; 1024];
+    let mut sets: [u64; 256] = [0; 256];
     search_lent(
         next,
         lists,
@@ -132,7 +132,7 @@ pub(super) fn search_states(
     ensures { λ _. ⌜ StatesSearched (now (next .entry)) lists states words (now (ranks .entry)) (now (kept .entry)) count
         (now (table .entry)) recordings start (now (reached .entry)) (now (reached .exit)) ⌝ }
 {
-    if words * (lists * count) <= 1024 {
+    if words * (lists * count) <= 256 {
         search_few(
             next,
             lists,

@@ -14,7 +14,7 @@ is-table-requires c κs = search needs
 returns : tie.Need-returns
 returns c =
     let at-is-table = c .before in
-    let a = at-is-table .before .before .before .before .args in
+    let a = at-is-table .before .before .before .before .before .before .args in
     λ J w g.
     lists-bad-table J (a .recordings) (a .table .now) (a .start) (a .marks .now) (a .workspace .now)
     (ap (λ k. isTable (a .recordings) k (a .table .now)) (g .lists-told)
@@ -25,7 +25,7 @@ returns-2 : tie.Need-returns-2
 returns-2 c =
     let at-if1 = c .before in
     let at-is-table = at-if1 .before in
-    let a = at-is-table .before .before .before .before .args in
+    let a = at-is-table .before .before .before .before .before .before .args in
     λ J w g.
     lists-bad-start J (a .recordings) (a .table .now) (a .start) (a .marks .now) (a .workspace .now)
     (ap (λ k. isTable (a .recordings) k (a .table .now)) (g .lists-told)
@@ -36,11 +36,12 @@ rewriting-lists-requires : tie.Need-rewriting-lists-requires
 rewriting-lists-requires c κs =
     let at-if1 = c .before .before .before in
     let at-is-table = at-if1 .before in
-    let p = at-is-table .before .before .before .before .pre in (
+    let p = at-is-table .before .before .before .before .before .before .pre in (
       p .0,
       p .1,
       sym (at-is-table .is-table .ensures) ∙ not-false _ (at-if1 .if1 .left),
       record { few = p .2 .few; begins = omega arith; marks-fit = p .2 .marks-fit; room = p .2 .room },
+      p .3,
     )
 
 same-length : tie.Need-same-length
@@ -55,7 +56,7 @@ returns-3 c =
     let at-if2 = at-rewriting-lists .before .before .before in
     let at-if1 = at-if2 .before in
     let at-is-table = at-if1 .before in
-    let a = at-is-table .before .before .before .before .args in
+    let a = at-is-table .before .before .before .before .before .before .args in
     λ J w g.
     lists-marked-job J (a .recordings) (a .table .now) (a .start) (a .marks .now) (a .workspace .now)
     (ap (λ k. isTable (a .recordings) k (a .table .now)) (g .lists-told)

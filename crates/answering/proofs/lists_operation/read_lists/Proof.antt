@@ -1,27 +1,25 @@
--- `read_lists` meets its contract: the text is refused, or the tables hold its job.
-use Rattle.answering.specs.AnswerJob.{listsJob}
-use Rattle.answering.specs.ListsOperation.{listsLeft}
-use Rattle.answering.specs.AnswerReading.{read-few, read-answered, read-refused}
+-- `read_lists` meets its contract: the text is read into tables of nine rows or of 17.
+use Rattle.reading.specs.RowRoom.{enough-rows, all-rows}
+use native.Mathlib.Omega.{arith}
 use borrow.Author.Needs.{needs}
 use Rattle.answering.proofs.lists_operation.read_lists.Statement.{statement}
 use Rattle.answering.proofs.lists_operation.read_lists.Tie as tie
 
-load-requires : tie.Need-load-requires
-load-requires c κs = search needs
+few-lines-requires : tie.Need-few-lines-requires
+few-lines-requires c κs = search needs
 
-enum-known-told : tie.Need-enum-known-told
-enum-known-told c = search needs
+slice-aggregate-lists-in : tie.Need-slice-aggregate-lists-in
+slice-aggregate-lists-in c = search needs
 
-job-lists-requires : tie.Need-job-lists-requires
-job-lists-requires c κs =
-    let at-told = c .before .before .before .before .before .before .before in
-    let at-load = at-told .before .before in
-    let at-start = at-load .before .before .before .before .before .before .before .before .before .before in
-    let (a, b) = read-few (at-start .args .text .now) (at-load .load .ensures) (at-told .told .given .1) in
-    (a, b, at-start .pre)
+slice-aggregate-lists-in-2 : tie.Need-slice-aggregate-lists-in-2
+slice-aggregate-lists-in-2 c = search needs
 
-enum-known-told-2 : tie.Need-enum-known-told-2
-enum-known-told-2 c = search needs
+lists-in-requires : tie.Need-lists-in-requires
+lists-in-requires c κs =
+    let at-if1 = c .before .before .before .before in
+    let at-few-lines = at-if1 .before in
+    let few = at-few-lines .few-lines .ensures (at-if1 .if1 .taken) in
+    (enough-rows 9 _ (omega (arith, few)) (omega arith) (omega arith), at-few-lines .before .before .before .before .before .pre)
 
 same-length : tie.Need-same-length
 same-length c = search needs
@@ -30,32 +28,42 @@ same-length-2 : tie.Need-same-length-2
 same-length-2 c = search needs
 
 returns : tie.Need-returns
-returns c =
-    let at-job-lists = c .before .before .before .before in
-    let at-told = at-job-lists .before .before .before .before .before .before .before .before in
-    let at-load = at-told .before .before in
-    let a = at-load .before .before .before .before .before .before .before .before .before .before .args in
-    read-answered (a .text .now) (at-load .load .ensures)
-    (λ J. listsLeft (a .recordings) (a .marks .now) (a .workspace .now) (listsJob J (a .recordings) (a .table .now) (a .start)))
-    (a .marks .now) (a .workspace .now) (at-told .told .given .1) (at-job-lists .job-lists .ensures)
+returns c = c .before .before .before .before .before .before .lists-in .ensures
+
+slice-aggregate-lists-in-3 : tie.Need-slice-aggregate-lists-in-3
+slice-aggregate-lists-in-3 c = search needs
+
+slice-aggregate-lists-in-4 : tie.Need-slice-aggregate-lists-in-4
+slice-aggregate-lists-in-4 c = search needs
+
+lists-in-requires-2 : tie.Need-lists-in-requires-2
+lists-in-requires-2 c κs =
+    let at-few-lines = c .before .before .before .before .before in
+    (all-rows _ (omega arith) (omega arith), at-few-lines .before .before .before .before .before .pre)
+
+same-length-3 : tie.Need-same-length-3
+same-length-3 c = search needs
+
+same-length-4 : tie.Need-same-length-4
+same-length-4 c = search needs
 
 returns-2 : tie.Need-returns-2
-returns-2 c =
-    let at-load = c .before .before .before in
-    let a = at-load .before .before .before .before .before .before .before .before .before .before .args in
-    read-refused (a .text .now) (at-load .load .ensures)
-    (λ J. listsLeft (a .recordings) (a .marks .now) (a .workspace .now) (listsJob J (a .recordings) (a .table .now) (a .start)))
-    (a .marks .now) (a .workspace .now) (c .before .told2 .given .1)
+returns-2 c = c .before .before .before .before .before .before .lists-in2 .ensures
 
 pub read-lists-spec : {M : Type 1} → statement M
 read-lists-spec =
     tie.close
     (tie.spec
-    load-requires
-    enum-known-told
-    job-lists-requires
-    enum-known-told-2
+    few-lines-requires
+    slice-aggregate-lists-in
+    slice-aggregate-lists-in-2
+    lists-in-requires
     same-length
     same-length-2
     returns
+    slice-aggregate-lists-in-3
+    slice-aggregate-lists-in-4
+    lists-in-requires-2
+    same-length-3
+    same-length-4
     returns-2)

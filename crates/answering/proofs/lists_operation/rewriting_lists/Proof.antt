@@ -7,21 +7,22 @@ use borrow.Author.Needs.{needs}
 use Rattle.answering.proofs.lists_operation.rewriting_lists.Statement.{statement}
 use Rattle.answering.proofs.lists_operation.rewriting_lists.Tie as tie
 
-slice-aggregate-find-core : tie.Need-slice-aggregate-find-core
-slice-aggregate-find-core c = search needs
+slice-aggregate-find-rows : tie.Need-slice-aggregate-find-rows
+slice-aggregate-find-rows c = search needs
 
-slice-aggregate-find-core-2 : tie.Need-slice-aggregate-find-core-2
-slice-aggregate-find-core-2 c = search needs
+slice-aggregate-find-rows-2 : tie.Need-slice-aggregate-find-rows-2
+slice-aggregate-find-rows-2 c = search needs
 
-find-core-requires : tie.Need-find-core-requires
-find-core-requires c κs = search needs
+find-rows-requires : tie.Need-find-rows-requires
+find-rows-requires c κs = search needs
 
 slice-aggregate-finding-lists : tie.Need-slice-aggregate-finding-lists
 slice-aggregate-finding-lists c = search needs
 
 finding-lists-requires : tie.Need-finding-lists-requires
 finding-lists-requires c κs =
-    let start = c .before .before .before .before .before .before .before .before .before .before .before .before in
+    let at-find-rows = c .before .before .before .before .before .before in
+    let start = at-find-rows .before .before .before .before .before .before .before .before in
     let a = start .args in
     let p = start .pre in
     (p .3, table-in-range (a .lists) (a .recordings) (a .table .now) (p .2))
@@ -35,20 +36,20 @@ same-length-2 c = search needs
 returns : tie.Need-returns
 returns c =
     let at-finding-lists = c .before .before .before .before in
-    let at-find-core = at-finding-lists .before .before .before .before .before .before .before in
-    let start = at-find-core .before .before .before .before .before .before in
+    let at-find-rows = at-finding-lists .before .before .before .before .before .before .before in
+    let start = at-find-rows .before .before .before .before .before .before .before .before in
     let p = start .pre in
     λ J w g.
     at-finding-lists .finding-lists .ensures (find J)
-    (found-given J w g (p .0) (p .1) refl refl (at-find-core .find-core .ensures) (p .2))
+    (found-given J w g (p .0) (p .1) refl refl (at-find-rows .find-rows .ensures) (p .2))
 
 pub rewriting-lists-spec : {M : Type 1} → statement M
 rewriting-lists-spec =
     tie.close
     (tie.spec
-    slice-aggregate-find-core
-    slice-aggregate-find-core-2
-    find-core-requires
+    slice-aggregate-find-rows
+    slice-aggregate-find-rows-2
+    find-rows-requires
     slice-aggregate-finding-lists
     finding-lists-requires
     same-length

@@ -12,7 +12,7 @@ search-lent-requires c κs =
     let at-start = c .before .before .before .before .before .before .before in
     let a = at-start .args in
     let p = at-start .pre in
-    (p .0, p .1, filled-none (a .lists) (a .words) _ 1024, p .2)
+    (p .0, p .1, filled-none (a .lists) (a .words) _ 256, p .2)
 
 same-length : tie.Need-same-length
 same-length c = search needs
