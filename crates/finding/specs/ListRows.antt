@@ -99,6 +99,9 @@ pub paired-any : (count : ℕ) (sizes : List ℕ) (v : ℕ) → count ≤ 64 →
 paired-any count sizes v h small =
     omega (arith, mul-le-mul-left {m = getD sizes (v + 1) 0 + 1} {n = 64} count (omega arith))
 
+pub paired-more : (count : ℕ) (sizes : List ℕ) (v words room : ℕ) → words ≤ room → Paired count sizes v words → Paired count sizes v room
+paired-more count sizes v words room h p small = omega (arith, p small)
+
 -- How long the part of a table is that holds a list of so many occurrences.
 pub part-length : (from size : ℕ) (l : List ℕ) → from + (size + 1) ≤ length l
     → length (take (from + size + 1 - from) (drop from l)) ≡ size + 1

@@ -131,7 +131,17 @@ fn rows_of(
     }
 }
 
-// The rows where 128 words are enough for the pairs of each list.
+// How many words are enough for the pairs of each list; 4,096 are for any.
+fn words_for(sizes: &[u64; 17], lists: usize, count: u64) -> u64
+    requires { ⌜ (lists ≤ 16) × (count ≤ 64) ⌝ }
+    ensures { λ r. ⌜ ((v : ℕ) → v < lists → Paired count (now (sizes .entry)) v r) ⌝ }
+{
+    let most = greatest(sizes, lists);
+    if most < 64 { count * (most + 1) } else { 4096 }
+}
+
+// The rows where 512 words are enough for the pairs of each list: to zero more of them than are used takes longer than to search a small
+// list.
 fn rows_of_few(
     moves: &[u8; 2048],
     count: u64,
@@ -141,61 +151,46 @@ fn rows_of_few(
     enter: &[u64],
     sizes: &[u64; 17],
     accepting: &[u64; 17],
+    words: u64,
     rows: &mut [u64],
 )
-    requires { ⌜ (count ≤ 64) × (labels ≤ 32) × (lists ≤ 16) × ((v : ℕ) → v < lists → Paired count (now sizes) v 128)
+    requires { ⌜ (count ≤ 64) × (labels ≤ 32) × (lists ≤ 16) × ((v : ℕ) → v < lists → Paired count (now sizes) v words) × (words ≤ 512)
         × (64 * lists ≤ length (now rows)) × RowsFit lists (now follow) (now enter) ⌝ }
     ensures { λ _. ⌜ ImagesOf (jobTables (now (moves .entry)) count labels (now (follow .entry)) (now (enter .entry)) (now (sizes .entry))
         (now (accepting .entry))) lists (now (rows .exit)) ⌝ }
 {
-    let mut sources = [0; 128];
-    rows_of(
-        moves,
-        count,
-        labels,
-        lists,
-        follow,
-        enter,
-        sizes,
-        accepting,
-        &mut sources,
-        rows,
-    );
+    if words <= 128 {
+        let mut sources = [0; 128];
+        rows_of(
+            moves,
+            count,
+            labels,
+            lists,
+            follow,
+            enter,
+            sizes,
+            accepting,
+            &mut sources,
+            rows,
+        );
+    } else {
+        let mut sources = [0; 512];
+        rows_of(
+            moves,
+            count,
+            labels,
+            lists,
+            follow,
+            enter,
+            sizes,
+            accepting,
+            &mut sources,
+            rows,
+        );
+    }
 }
 
-// The same where 512 words are enough.
-fn rows_of_some(
-    moves: &[u8; 2048],
-    count: u64,
-    labels: u64,
-    lists: usize,
-    follow: &[u64],
-    enter: &[u64],
-    sizes: &[u64; 17],
-    accepting: &[u64; 17],
-    rows: &mut [u64],
-)
-    requires { ⌜ (count ≤ 64) × (labels ≤ 32) × (lists ≤ 16) × ((v : ℕ) → v < lists → Paired count (now sizes) v 512)
-        × (64 * lists ≤ length (now rows)) × RowsFit lists (now follow) (now enter) ⌝ }
-    ensures { λ _. ⌜ ImagesOf (jobTables (now (moves .entry)) count labels (now (follow .entry)) (now (enter .entry)) (now (sizes .entry))
-        (now (accepting .entry))) lists (now (rows .exit)) ⌝ }
-{
-    let mut sources = [0; 512];
-    rows_of(
-        moves,
-        count,
-        labels,
-        lists,
-        follow,
-        enter,
-        sizes,
-        accepting,
-        &mut sources,
-        rows,
-    );
-}
-
-// The rows for any lists, with 32 KiB of the thread's stack.
+// The rows for any lists, with up to 32 KiB of the thread's stack.
 fn rows_of_many(
     moves: &[u8; 2048],
     count: u64,
@@ -205,25 +200,43 @@ fn rows_of_many(
     enter: &[u64],
     sizes: &[u64; 17],
     accepting: &[u64; 17],
+    words: u64,
     rows: &mut [u64],
 )
-    requires { ⌜ (count ≤ 64) × (labels ≤ 32) × (lists ≤ 16) × (64 * lists ≤ length (now rows)) × RowsFit lists (now follow) (now enter) ⌝ }
+    requires { ⌜ (count ≤ 64) × (labels ≤ 32) × (lists ≤ 16) × ((v : ℕ) → v < lists → Paired count (now sizes) v words)
+        × (64 * lists ≤ length (now rows)) × RowsFit lists (now follow) (now enter) ⌝ }
     ensures { λ _. ⌜ ImagesOf (jobTables (now (moves .entry)) count labels (now (follow .entry)) (now (enter .entry)) (now (sizes .entry))
         (now (accepting .entry))) lists (now (rows .exit)) ⌝ }
 {
-    let mut sources = [0; 4096];
-    rows_of(
-        moves,
-        count,
-        labels,
-        lists,
-        follow,
-        enter,
-        sizes,
-        accepting,
-        &mut sources,
-        rows,
-    );
+    if words <= 1024 {
+        let mut sources = [0; 1024];
+        rows_of(
+            moves,
+            count,
+            labels,
+            lists,
+            follow,
+            enter,
+            sizes,
+            accepting,
+            &mut sources,
+            rows,
+        );
+    } else {
+        let mut sources = [0; 4096];
+        rows_of(
+            moves,
+            count,
+            labels,
+            lists,
+            follow,
+            enter,
+            sizes,
+            accepting,
+            &mut sources,
+            rows,
+        );
+    }
 }
 
 // The rows of all lists, where `rows` is long enough. There is room for 64 standings, 32 labels and 16 lists.
@@ -255,47 +268,32 @@ pub fn list_images(
     if labels > 32 {
         return;
     }
-    let most = greatest(sizes, lists as usize);
-    if most < 64 {
-        let words = count * (most + 1);
-        if words <= 128 {
-            rows_of_few(
-                moves,
-                count,
-                labels,
-                lists as usize,
-                follow,
-                enter,
-                sizes,
-                accepting,
-                rows,
-            );
-            return;
-        }
-        if words <= 512 {
-            rows_of_some(
-                moves,
-                count,
-                labels,
-                lists as usize,
-                follow,
-                enter,
-                sizes,
-                accepting,
-                rows,
-            );
-            return;
-        }
+    let words = words_for(sizes, lists as usize, count);
+    if words <= 512 {
+        rows_of_few(
+            moves,
+            count,
+            labels,
+            lists as usize,
+            follow,
+            enter,
+            sizes,
+            accepting,
+            words,
+            rows,
+        );
+    } else {
+        rows_of_many(
+            moves,
+            count,
+            labels,
+            lists as usize,
+            follow,
+            enter,
+            sizes,
+            accepting,
+            words,
+            rows,
+        );
     }
-    rows_of_many(
-        moves,
-        count,
-        labels,
-        lists as usize,
-        follow,
-        enter,
-        sizes,
-        accepting,
-        rows,
-    );
 }
