@@ -48,10 +48,10 @@ const HIGHS: [u64; 16] = [
     1016,
 ];
 
-// The bucket of a pair whose cover set stands in the first `used` words: the halves of the words are summed, each with what it counts, and
-// divided once.
-pub fn bucket(standing: u64, cover: &[u64; 16], used: usize) -> usize
-    requires { ⌜ (used ≤ 16) × (numberOf (now cover) < 2 ^ (64 * used)) ⌝ }
+// The remainder of a pair whose cover set stands in the first `count` words: the halves of the words are summed, each with what it counts,
+// and divided once.
+fn remainder(standing: u64, cover: &[u64; 16], count: usize) -> usize
+    requires { ⌜ (count ≤ 16) × (numberOf (now cover) < 2 ^ (64 * count)) ⌝ }
     ensures { λ r. ⌜ r ≡ bucketOf (pair standing (now (cover .entry))) ⌝ }
 {
     let words: &[u64] = cover;
@@ -59,12 +59,25 @@ pub fn bucket(standing: u64, cover: &[u64; 16], used: usize) -> usize
     let highs = HIGHS;
     let mut sum: u64 = standing % 4093;
     let mut j = 0;
-    while j < used {
+    while j < count {
         let word = words[j];
         sum += (word % 4294967296) * lows[j] + (word / 4294967296) * highs[j];
         j += 1;
     }
     (sum % 4093) as usize
+}
+
+// The bucket of a pair whose cover set stands in the first `used` words. With a number of words that is known when the code is compiled,
+// what the words count is in the code.
+pub fn bucket(standing: u64, cover: &[u64; 16], used: usize) -> usize
+    requires { ⌜ (used ≤ 16) × (numberOf (now cover) < 2 ^ (64 * used)) ⌝ }
+    ensures { λ r. ⌜ r ≡ bucketOf (pair standing (now (cover .entry))) ⌝ }
+{
+    if used <= 4 {
+        remainder(standing, cover, 4)
+    } else {
+        remainder(standing, cover, 16)
+    }
 }
 
 // Puts the pair number m in front of the chain of the bucket `at`.
