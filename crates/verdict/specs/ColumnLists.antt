@@ -20,9 +20,9 @@ use Rattle.verdict.specs.Columns.{StatesWithin}
 use Rattle.verdict.specs.RowEndsLaws.{mask}
 use Rattle.verdict.specs.TurnedColumns.{Puts}
 
--- The offsets of a set's places after `base` are in the columns.
-abbrev pub Below : ℕ → ℕ → Type 0
-Below base places = (o : ℕ) → Member o places → base + o < 1024
+-- The offsets of a set's places after `base` are below `room`.
+abbrev pub Below : ℕ → ℕ → ℕ → Type 0
+Below base places room = (o : ℕ) → Member o places → base + o < room
 
 -- The entries of the list v have places of the list alone.
 abbrev pub PlacesOf : ℕ → ℕ → List ℕ → Type 0
@@ -159,9 +159,13 @@ joined-inner columns base from d =
 pub inner-exactly : (s size : ℕ) → size < 64 → bitAnd (s / 2) ((1 * 2 ^ size) % 2 ^ 64 - 1) ≡ innerOf s size
 inner-exactly s size h = ap (λ z. bitAnd (s / 2) (z - 1)) (mask size 0 (omega arith)) ∙ and-mask (s / 2) size
 
--- The occurrences of a set whose offsets are in the columns.
-pub below-after : (base from : ℕ) → Below base from → Below (base + 1) (from / 2)
-below-after base from h o m = omega (arith, h (suc o) (member-suc o from .1 m))
+-- The occurrences of a set whose offsets are below a bound.
+pub below-after : (base from room : ℕ) → Below base from room → Below (base + 1) (from / 2) room
+below-after base from room h o m = omega (arith, h (suc o) (member-suc o from .1 m))
+
+-- Where the start is among the places, there is a column: the first, of the states alone.
+pub start-below : (base from room : ℕ) → Below base from room → bitAnd from 1 ≡ 1 → 0 < room
+start-below base from room h e = omega (arith, h 0 (member-zero from .1 (sym (and-mask from 1) ∙ e)))
 
 -- The states of a list's places.
 pub member-joined : (columns : List ℕ) (base from q : ℕ) → ((o : ℕ) → Member o from → o ≤ 63)

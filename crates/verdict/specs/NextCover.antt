@@ -4,6 +4,7 @@ use Prim.Native.Nat.{ℕ, suc, _+_, _*_, _^_, _≤_, _<_}
 use mathlib.Core.List.{List, [], _∷_}
 use mathlib.Core.Path.{_≡_, sym, ap, _∙_, subst}
 use native.Mathlib.Omega.{arith}
+use lib.ListN.{length}
 use Rattle.theory.specs.Places.{Member, one}
 use Rattle.theory.specs.PlacesLaws.{one-below}
 use Rattle.theory.specs.ClosureLaws.{closure-below}
@@ -22,10 +23,11 @@ use Rattle.verdict.specs.Turned.{Turned, Stacked}
 use Rattle.verdict.specs.TurnedColumns.{columnIn, member-column}
 use Rattle.verdict.specs.TurnedLaws.{turn, turn-made}
 
--- What a step needs of a set: its columns, where it stands turned.
+-- What a step needs of a set: its columns, where it stands turned, and room for them.
 pub record Laid (states n : ℕ) (follow enter sizes accepting table : List ℕ) (w : ℕ) (before ended set laid : List ℕ) : Type 0 where
   pub prepared : 0 < w → Prepared states n follow enter sizes accepting table w before ended
   pub stacked : 0 < w → Stacked w states laid (numberOf set)
+  pub room : w ≤ length laid
 
 -- How many words have all places of a set as it stands.
 pub record Used (states w r : ℕ) : Type 0 where

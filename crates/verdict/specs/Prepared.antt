@@ -1,7 +1,8 @@
 -- Steps by columns (Columns) are prepared: the tables have room, there are at most 64 states, and it is known which places lead to each place
 -- of a list and which states are reached where a path of a list ends.
-use Prim.Native.Nat.{ℕ, _≤_, _<_}
+use Prim.Native.Nat.{ℕ, _*_, _≤_, _<_}
 use mathlib.Core.List.{List}
+use lib.ListN.{length}
 use Rattle.verdict.specs.Tables.{Ready}
 use Rattle.verdict.specs.Columns.{Leading, Finishing}
 
@@ -11,3 +12,5 @@ pub record Prepared (states n : ℕ) (follow enter sizes accepting table : List 
   pub few : states ≤ 64
   pub leading : Leading n follow sizes before
   pub finishing : Finishing states n accepting table ended
+  pub before-room : 64 * n ≤ length before
+  pub ended-room : 64 * n ≤ length ended

@@ -12,8 +12,8 @@ ghost use Rattle.verdict.specs.TurnedColumns.{columnIn};
 use crate::columns::put_at;
 
 // The columns after the offset `base` of the places of a set, all in one; place 0 has the first of them.
-fn joined_after(columns: &[u64; 1024], base: usize, places: u64) -> u64
-    requires { ⌜ Below (base + 1) places ⌝ }
+fn joined_after(columns: &[u64], base: usize, places: u64) -> u64
+    requires { ⌜ Below (base + 1) places (length (now columns)) ⌝ }
     ensures { λ r. ⌜ r ≡ unionOver (λ o. getD (now (columns .entry)) (base + 1 + o) 0) 64 places ⌝ }
 {
     let mut all: u64 = 0;
@@ -26,8 +26,8 @@ fn joined_after(columns: &[u64; 1024], base: usize, places: u64) -> u64
 }
 
 // The columns of the places of a list, all in one: the start's is that of the states alone, the occurrences' come after the offset `base`.
-fn joined(columns: &[u64; 1024], base: usize, from: u64) -> u64
-    requires { ⌜ Below base from ⌝ }
+fn joined(columns: &[u64], base: usize, from: u64) -> u64
+    requires { ⌜ Below base from (length (now columns)) ⌝ }
     ensures { λ r. ⌜ r ≡ joinedOf (now (columns .entry)) base from ⌝ }
 {
     let inner = joined_after(columns, base, from >> 1);
@@ -59,18 +59,18 @@ fn ending(accepting: u64, p: u64, states: u64) -> u64
 // The columns of the occurrences of the list v that the label enters, each of n states, are put into the turned set `words`. The states at
 // whose occurrences a path of the list may end are returned.
 fn list_columns(
-    before: &[u64; 1024],
+    before: &[u64],
     entered: u64,
     accepting: u64,
     size: u64,
     v: usize,
     base: usize,
-    columns: &[u64; 1024],
+    columns: &[u64],
     n: u64,
     words: &mut [u64],
 ) -> u64
-    requires { ⌜ (v < 16) × (size < 64) × (base + size < 1024) × PlacesOf v size (now before) × (length (now words) ≡ 16) × (0 < n) × (n ≤ 64)
-        × (n * (base + size + 1) ≤ 1024) × StatesWithin (base + size + 1) n (now columns) ⌝ }
+    requires { ⌜ (v < 16) × (size < 64) × (base + size < length (now columns)) × PlacesOf v size (now before) × (length (now words) ≡ 16) × (0 < n) × (n ≤ 64)
+        × (n * (base + size + 1) ≤ 1024) × StatesWithin (base + size + 1) n (now columns) × (64 * v + 64 ≤ length (now before)) ⌝ }
     ensures { λ r. ⌜ ListColumns v size base entered accepting (now (before .entry)) (now (columns .entry)) (columnIn n (now (words .entry)))
         (columnIn n (now (words .exit))) r ⌝ }
 {
@@ -90,8 +90,8 @@ fn list_columns(
 }
 
 // The states that are reached from the states of a set where a path of the list v ends.
-fn ended_from(ended: &[u64; 1024], v: usize, ends: u64) -> u64
-    requires { ⌜ v < 16 ⌝ }
+fn ended_from(ended: &[u64], v: usize, ends: u64) -> u64
+    requires { ⌜ 64 * v + 64 ≤ length (now ended) ⌝ }
     ensures { λ r. ⌜ r ≡ unionOver (λ q. getD (now (ended .entry)) (64 * v + q) 0) 64 ends ⌝ }
 {
     let mut all: u64 = 0;
@@ -108,19 +108,20 @@ pub fn step_columns(
     enter: &[u64],
     sizes: &[u64],
     accepting: &[u64],
-    before: &[u64; 1024],
-    ended: &[u64; 1024],
+    before: &[u64],
+    ended: &[u64],
     lists: usize,
     a: usize,
     w: u64,
-    columns: &[u64; 1024],
+    columns: &[u64],
     n: u64,
     words: &mut [u64],
 )
     requires { ⌜ Counted lists (now sizes) × (a < 32) × (32 * lists + 32 ≤ length (now enter)) × (lists < length (now accepting))
         × (w ≡ suc (occupied (now sizes) 0 lists)) × PlacesWithin lists (now sizes) (now before) × (length (now words) ≡ 16)
         × (numberOf (now words) ≡ 0) × (0 < n) × (n ≤ 64) × (n * w ≤ 1024) × StatesWithin w n (now columns)
-        × EndedWithin n lists (now ended) ⌝ }
+        × EndedWithin n lists (now ended) × (w ≤ length (now columns)) × (64 * lists ≤ length (now before))
+        × (64 * lists ≤ length (now ended)) ⌝ }
     ensures { λ _. ⌜ Stepped lists a (now (enter .entry)) (now (sizes .entry)) (now (accepting .entry)) (now (before .entry))
         (now (ended .entry)) (now (columns .entry)) (columnIn n (now (words .exit))) × (numberOf (now (words .exit)) < 2 ^ (n * w)) ⌝ }
 {

@@ -14,8 +14,8 @@ use places::wide::Wide;
 use places::words::next_place;
 
 // The columns of a cover set: its places in their order, the state q and its first place `base` moving on with them.
-pub fn columns_of(places: &[u64], w: u64, states: u64, columns: &mut [u64; 1024])
-    requires { ⌜ (length (now places) ≡ 16) × (0 < w) × (0 < states) × (states ≤ 64) × (states * w ≤ 1024) ⌝ }
+pub fn columns_of(places: &[u64], w: u64, states: u64, columns: &mut [u64])
+    requires { ⌜ (length (now places) ≡ 16) × (0 < w) × (0 < states) × (states ≤ 64) × (states * w ≤ 1024) × (w ≤ length (now columns)) ⌝ }
     ensures { λ _. ⌜ ColumnsOf w states (now (places .entry)) (now (columns .exit)) ⌝ }
 {
     clear_words(columns, w as usize);
@@ -36,15 +36,14 @@ pub fn columns_of(places: &[u64], w: u64, states: u64, columns: &mut [u64; 1024]
 }
 
 // The columns of a turned set: that of the offset o stands at n × o.
-pub fn columns_at(words: &[u64], w: u64, n: u64, columns: &mut [u64; 1024])
-    requires { ⌜ (length (now words) ≡ 16) × (0 < w) × (0 < n) × (n ≤ 64) × (n * w ≤ 1024) ⌝ }
+pub fn columns_at(words: &[u64], w: u64, n: u64, columns: &mut [u64])
+    requires { ⌜ (length (now words) ≡ 16) × (0 < w) × (0 < n) × (n ≤ 64) × (n * w ≤ 1024) × (w ≤ length (now columns)) ⌝ }
     ensures { λ _. ⌜ Stacked w n (now (columns .exit)) (numberOf (now (words .entry))) ⌝ }
 {
-    let stack: &mut [u64] = columns;
     let mut at: u64 = 0;
     let mut o: u64 = 0;
     while o < w {
-        stack[o as usize] = row_at(words, at, n);
+        columns[o as usize] = row_at(words, at, n);
         at += n;
         o += 1;
     }
@@ -72,9 +71,9 @@ pub fn put_at(words: &mut [u64], column: u64, at: u64, n: u64)
 }
 
 // The turned set of columns.
-pub fn pack(columns: &[u64; 1024], w: u64, n: u64) -> Wide
+pub fn pack(columns: &[u64], w: u64, n: u64) -> Wide
     requires { ⌜ (0 < w) × (0 < n) × (n ≤ 64) × (n * w ≤ 1024)
-        × ((q o : ℕ) → o < w → Member q (getD (now columns) o 0) → q < n) ⌝ }
+        × ((q o : ℕ) → o < w → Member q (getD (now columns) o 0) → q < n) × (w ≤ length (now columns)) ⌝ }
     ensures { λ r. ⌜ Stacked w n (now (columns .entry)) (numberOf (r .words)) × (numberOf (r .words) < 2 ^ (n * w)) ⌝ }
 {
     let mut words = [0; 16];

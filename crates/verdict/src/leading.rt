@@ -23,8 +23,8 @@ fn lead_from(set: u64, base: usize, o: u64, before: &mut [u64])
 
 // Adds the places of the list v, which has `size` occurrences, to the entries of those that they lead to; false where one leads to the
 // start.
-fn list_leading(follow: &[u64], v: usize, size: u64, before: &mut [u64; 1024]) -> bool
-    requires { ⌜ (v < 16) × (size ≤ 63) × (64 * v + 128 ≤ length (now follow)) ⌝ }
+fn list_leading(follow: &[u64], v: usize, size: u64, before: &mut [u64]) -> bool
+    requires { ⌜ (v < 16) × (size ≤ 63) × (64 * v + 128 ≤ length (now follow)) × (64 * v + 64 ≤ length (now before)) ⌝ }
     ensures { λ r. ⌜ (r ≡ true → ListLed v size (now (follow .entry)) (now (before .entry)) (now (before .exit))) ⌝ }
 {
     let base = 64 * v;
@@ -41,8 +41,8 @@ fn list_leading(follow: &[u64], v: usize, size: u64, before: &mut [u64; 1024]) -
 }
 
 // The places that lead to each place of each list; false where one leads to the start.
-pub fn leading(follow: &[u64], sizes: &[u64], lists: usize, before: &mut [u64; 1024]) -> bool
-    requires { ⌜ Counted lists (now sizes) × (64 * lists + 64 ≤ length (now follow)) ⌝ }
+pub fn leading(follow: &[u64], sizes: &[u64], lists: usize, before: &mut [u64]) -> bool
+    requires { ⌜ Counted lists (now sizes) × (64 * lists + 64 ≤ length (now follow)) × (64 * lists ≤ length (now before)) ⌝ }
     ensures { λ r. ⌜ (r ≡ true → Leading lists (now (follow .entry)) (now (sizes .entry)) (now (before .exit))) ⌝ }
 {
     clear_words(before, 64 * lists);

@@ -44,11 +44,12 @@ pub fn first_cover(
     accepting: &[u64],
     lists: usize,
     w: u64,
-    before: &[u64; 1024],
-    ended: &[u64; 1024],
-    laid: &mut [u64; 1024],
+    before: &[u64],
+    ended: &[u64],
+    laid: &mut [u64],
 ) -> Wide
-    requires { ⌜ (0 < w → Prepared states lists (now follow) (now enter) (now sizes) (now accepting) (now table) w (now before) (now ended)) ⌝ }
+    requires { ⌜ (0 < w → Prepared states lists (now follow) (now enter) (now sizes) (now accepting) (now table) w (now before) (now ended))
+        × (w ≤ length (now laid)) ⌝ }
     ensures { λ r. ⌜ StartStands w states lists (now (follow .entry)) (now (enter .entry)) (now (sizes .entry)) (now (accepting .entry)) (now (table .entry))
         (r .words) ⌝ }
 {
@@ -74,8 +75,8 @@ pub fn used_words(states: u64, w: u64) -> usize
 }
 
 // The columns of the cover set of the pair number i, where it stands turned, for all labels.
-pub fn lay(states: u64, w: u64, workspace: &[u64], i: usize, laid: &mut [u64; 1024])
-    requires { ⌜ (0 < w → (0 < states) × (states ≤ 64) × (states * w ≤ 1024)) × (18 * i + 18 ≤ length (now workspace)) ⌝ }
+pub fn lay(states: u64, w: u64, workspace: &[u64], i: usize, laid: &mut [u64])
+    requires { ⌜ (0 < w → (0 < states) × (states ≤ 64) × (states * w ≤ 1024)) × (18 * i + 18 ≤ length (now workspace)) × (w ≤ length (now laid)) ⌝ }
     ensures { λ _. ⌜ (0 < w → Stacked w states (now (laid .exit)) (numberOf (wordsAt (now (workspace .entry)) (18 * i + 1) 16))) ⌝ }
 {
     if 0 < w {
@@ -93,9 +94,9 @@ fn step_turned(
     lists: usize,
     a: usize,
     w: u64,
-    before: &[u64; 1024],
-    ended: &[u64; 1024],
-    laid: &[u64; 1024],
+    before: &[u64],
+    ended: &[u64],
+    laid: &[u64],
     states: u64,
     used: usize,
     cover: &mut [u64; 16],
@@ -103,7 +104,8 @@ fn step_turned(
     requires { ⌜ Counted lists (now sizes) × (a < 32) × (32 * lists + 32 ≤ length (now enter)) × (lists < length (now accepting))
         × (w ≡ suc (occupied (now sizes) 0 lists)) × PlacesWithin lists (now sizes) (now before) × (0 < states) × (states ≤ 64)
         × (states * w ≤ 1024) × StatesWithin w states (now laid) × EndedWithin states lists (now ended) × (used ≤ 16)
-        × (numberOf (now cover) < 2 ^ (64 * used)) ⌝ }
+        × (numberOf (now cover) < 2 ^ (64 * used)) × (w ≤ length (now laid)) × (64 * lists ≤ length (now before))
+        × (64 * lists ≤ length (now ended)) ⌝ }
     ensures { λ _. ⌜ Stepped lists a (now (enter .entry)) (now (sizes .entry)) (now (accepting .entry)) (now (before .entry))
         (now (ended .entry)) (now (laid .entry)) (columnIn states (now (cover .exit))) × (numberOf (now (cover .exit)) < 2 ^ (states * w))
         × (length (now (cover .exit)) ≡ 16) ⌝ }
@@ -138,9 +140,9 @@ pub fn next_cover(
     workspace: &[u64],
     i: usize,
     w: u64,
-    before: &[u64; 1024],
-    ended: &[u64; 1024],
-    laid: &[u64; 1024],
+    before: &[u64],
+    ended: &[u64],
+    laid: &[u64],
     used: usize,
     cover: &mut [u64; 16],
 )

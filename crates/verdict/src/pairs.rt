@@ -113,16 +113,17 @@ fn row(
     i: usize,
     n: usize,
     w: u64,
-    before: &[u64; 1024],
-    ended: &[u64; 1024],
-    laid: &mut [u64; 1024],
+    before: &[u64],
+    ended: &[u64],
+    laid: &mut [u64],
     workspace: &mut [u64],
     heads: &mut [u16; 4093],
     nexts: &mut [u16; 4096],
 ) -> Explored
     requires { ⌜ (i < n) × (n ≤ limit) × (limit ≤ 4096) × (labels ≤ 32) × (18 * limit ≤ length (now workspace))
         × Indexed (now workspace) n (now heads) (now nexts)
-        × (0 < w → Prepared states lists (now follow) (now enter) (now sizes) (now accepting) (now table) w (now before) (now ended)) ⌝ }
+        × (0 < w → Prepared states lists (now follow) (now enter) (now sizes) (now accepting) (now table) w (now before) (now ended))
+        × (w ≤ length (now laid)) ⌝ }
     ensures { λ r. ⌜ RowTold (lent states labels lists (now (follow .entry)) (now (enter .entry)) (now (sizes .entry)) (now (accepting .entry)) (now (table .entry)))
         w limit i n (now (workspace .entry)) r (now (workspace .exit)) ⌝ }
     ensures indexed { λ r. ⌜ IndexedAll (now (workspace .exit)) (now (heads .exit)) (now (nexts .exit)) r ⌝ }
@@ -168,8 +169,8 @@ fn row(
     Explored::All(m as u64)
 }
 
-// All pairs from the first on, as long as there are no more than the limit. The index and the columns take about 25 KiB of the thread's
-// stack.
+// All pairs from the first on, as long as there are no more than the limit. The index takes 16 KiB of the thread's stack; `laid` is for
+// columns.
 fn sweep(
     states: u64,
     table: &[u16],
@@ -181,18 +182,19 @@ fn sweep(
     labels: usize,
     limit: usize,
     w: u64,
-    before: &[u64; 1024],
-    ended: &[u64; 1024],
+    before: &[u64],
+    ended: &[u64],
+    laid: &mut [u64],
     workspace: &mut [u64],
 ) -> Explored
     requires { ⌜ (0 < limit) × (limit ≤ 4096) × (labels ≤ 32) × (18 * limit ≤ length (now workspace))
-        × (0 < w → Prepared states lists (now follow) (now enter) (now sizes) (now accepting) (now table) w (now before) (now ended)) ⌝ }
+        × (0 < w → Prepared states lists (now follow) (now enter) (now sizes) (now accepting) (now table) w (now before) (now ended))
+        × (w ≤ length (now laid)) ⌝ }
     ensures { λ r. ⌜ PairsTold (lent states labels lists (now (follow .entry)) (now (enter .entry)) (now (sizes .entry)) (now (accepting .entry)) (now (table .entry)))
         w limit (now (workspace .entry)) r (now (workspace .exit)) ⌝ }
 {
     let mut heads: [u16; 4093] = [0; 4093];
     let mut nexts: [u16; 4096] = [0; 4096];
-    let mut laid: [u64; 1024] = [0; 1024];
     let first = first_cover(
         states,
         table,
@@ -204,7 +206,7 @@ fn sweep(
         w,
         before,
         ended,
-        &mut laid,
+        laid,
     );
     let cover = first.words;
     let at = bucket(1, &cover, 16);
@@ -227,7 +229,7 @@ fn sweep(
             w,
             before,
             ended,
-            &mut laid,
+            laid,
             workspace,
             &mut heads,
             &mut nexts,
@@ -253,11 +255,13 @@ pub fn pairs(
     labels: usize,
     allowance: u64,
     w: u64,
-    before: &[u64; 1024],
-    ended: &[u64; 1024],
+    before: &[u64],
+    ended: &[u64],
+    laid: &mut [u64],
     workspace: &mut [u64],
 ) -> Explored
-    requires { ⌜ (0 < w → Prepared states lists (now follow) (now enter) (now sizes) (now accepting) (now table) w (now before) (now ended)) ⌝ }
+    requires { ⌜ (0 < w → Prepared states lists (now follow) (now enter) (now sizes) (now accepting) (now table) w (now before) (now ended))
+        × (w ≤ length (now laid)) ⌝ }
     ensures { λ r. ⌜ PairsTold (lent states labels lists (now (follow .entry)) (now (enter .entry)) (now (sizes .entry)) (now (accepting .entry)) (now (table .entry)))
         w allowance (now (workspace .entry)) r (now (workspace .exit)) ⌝ }
 {
@@ -287,6 +291,7 @@ pub fn pairs(
         w,
         before,
         ended,
+        laid,
         workspace,
     )
 }

@@ -1,5 +1,6 @@
 // What steps by columns need, computed once for all pairs.
-ghost use Prim.Native.Nat.{_<_};
+ghost use Prim.Native.Nat.{_*_, _≤_, _<_};
+ghost use lib.ListN.{length};
 ghost use Rattle.verdict.specs.Prepared.{Prepared};
 use crate::cover::ready;
 use crate::leading::leading;
@@ -15,9 +16,10 @@ pub fn prepared(
     sizes: &[u64],
     accepting: &[u64],
     lists: usize,
-    before: &mut [u64; 1024],
-    ended: &mut [u64; 1024],
+    before: &mut [u64],
+    ended: &mut [u64],
 ) -> u64
+    requires { ⌜ (64 * lists ≤ length (now before)) × (64 * lists ≤ length (now ended)) ⌝ }
     ensures { λ r. ⌜ (0 < r → Prepared states lists (now (follow .entry)) (now (enter .entry)) (now (sizes .entry)) (now (accepting .entry))
         (now (table .entry)) r (now (before .exit)) (now (ended .exit))) ⌝ }
 {

@@ -1,10 +1,11 @@
 // The verdict (document 01, "Verdict"): complete, or the first missed path.
-ghost use Prim.Native.Nat.{_+_, _*_, _≤_, _<_};
+ghost use Prim.Native.Nat.{suc, _+_, _*_, _≤_, _<_};
 ghost use mathlib.Core.Path.{_≡_};
 ghost use lib.ListN.{length};
 ghost use Rattle.places.specs.Words.{numberOf};
 ghost use Rattle.verdict.specs.PairTable.{pairAt};
-ghost use Rattle.verdict.specs.PairsTold.{lent};
+ghost use Rattle.verdict.specs.PairsTold.{lent, PairsTold};
+ghost use Rattle.verdict.specs.Tables.{Counted, occupied};
 ghost use Rattle.verdict.specs.Missing.{gap, Yields, missesWith, FirstTold};
 ghost use Rattle.verdict.specs.VerdictTold.{Placed, Judged, VerdictTold};
 use crate::cover::width;
@@ -121,6 +122,123 @@ fn placed(states: u64, sizes: &[u64], lists: usize, most: u64) -> u64
     w
 }
 
+// What is known once the pairs are explored: the width where their cover sets stand turned, else 0; and how many there are.
+struct Search {
+    turned: u64,
+    found: Explored,
+}
+
+// Explores the pairs, with lent words for what steps by columns need: `before` and `ended` are prepared, `laid` is for columns.
+fn explore_in(
+    states: u64,
+    table: &[u16],
+    follow: &[u64],
+    enter: &[u64],
+    sizes: &[u64],
+    accepting: &[u64],
+    lists: usize,
+    labels: usize,
+    allowance: u64,
+    before: &mut [u64],
+    ended: &mut [u64],
+    laid: &mut [u64],
+    workspace: &mut [u64],
+) -> Search
+    requires { ⌜ (64 * lists ≤ length (now before)) × (64 * lists ≤ length (now ended)) × (occupied (now sizes) 0 lists < length (now laid)) ⌝ }
+    ensures { λ r. ⌜ (0 < r .turned → r .turned ≡ suc (occupied (now (sizes .entry)) 0 lists))
+        × PairsTold (lent states labels lists (now (follow .entry)) (now (enter .entry)) (now (sizes .entry)) (now (accepting .entry)) (now (table .entry)))
+        (r .turned) allowance (now (workspace .entry)) (r .found) (now (workspace .exit)) ⌝ }
+{
+    let turned = prepared(
+        states,
+        table,
+        follow,
+        enter,
+        sizes,
+        accepting,
+        lists,
+        before,
+        ended,
+    );
+    let found = pairs(
+        states,
+        table,
+        follow,
+        enter,
+        sizes,
+        accepting,
+        lists,
+        labels,
+        allowance,
+        turned,
+        before,
+        ended,
+        laid,
+        workspace,
+    );
+    Search { turned, found }
+}
+
+// Explores the pairs. A list needs 64 words of each prepared table and at most 63 columns, so where there are at most four lists, 256
+// words of each suffice: to clear 1,024 takes longer than the verdict of a small job.
+fn explore(
+    states: u64,
+    table: &[u16],
+    follow: &[u64],
+    enter: &[u64],
+    sizes: &[u64],
+    accepting: &[u64],
+    lists: usize,
+    labels: usize,
+    allowance: u64,
+    workspace: &mut [u64],
+) -> Search
+    requires { ⌜ Counted lists (now sizes) ⌝ }
+    ensures { λ r. ⌜ (0 < r .turned → r .turned ≡ suc (occupied (now (sizes .entry)) 0 lists))
+        × PairsTold (lent states labels lists (now (follow .entry)) (now (enter .entry)) (now (sizes .entry)) (now (accepting .entry)) (now (table .entry)))
+        (r .turned) allowance (now (workspace .entry)) (r .found) (now (workspace .exit)) ⌝ }
+{
+    if lists <= 4 {
+        let mut before = [0; 256];
+        let mut ended = [0; 256];
+        let mut laid = [0; 256];
+        explore_in(
+            states,
+            table,
+            follow,
+            enter,
+            sizes,
+            accepting,
+            lists,
+            labels,
+            allowance,
+            &mut before,
+            &mut ended,
+            &mut laid,
+            workspace,
+        )
+    } else {
+        let mut before = [0; 1024];
+        let mut ended = [0; 1024];
+        let mut laid = [0; 1024];
+        explore_in(
+            states,
+            table,
+            follow,
+            enter,
+            sizes,
+            accepting,
+            lists,
+            labels,
+            allowance,
+            &mut before,
+            &mut ended,
+            &mut laid,
+            workspace,
+        )
+    }
+}
+
 // The verdict, with at most so many cover places and at most `allowance` pairs.
 pub fn verdict(
     states: u64,
@@ -150,20 +268,7 @@ pub fn verdict(
     if accepting.len() == 0 {
         return Told::Refused(Refusal::TooManyPlaces);
     }
-    let mut before: [u64; 1024] = [0; 1024];
-    let mut ended: [u64; 1024] = [0; 1024];
-    let turned = prepared(
-        states,
-        table,
-        follow,
-        enter,
-        sizes,
-        accepting,
-        lists,
-        &mut before,
-        &mut ended,
-    );
-    let found = pairs(
+    let search = explore(
         states,
         table,
         follow,
@@ -173,11 +278,9 @@ pub fn verdict(
         lists,
         labels,
         allowance,
-        turned,
-        &before,
-        &ended,
         workspace,
     );
+    let found = search.found;
     let Explored::All(n) = found else {
         return Told::Refused(Refusal::TooManyPairs);
     };
@@ -185,7 +288,7 @@ pub fn verdict(
         states,
         flags,
         w,
-        turned,
+        search.turned,
         accepting[0],
         n as usize,
         workspace,

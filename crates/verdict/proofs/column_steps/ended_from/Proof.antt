@@ -23,7 +23,7 @@ cast-all : tie.Need-cast-all Inv-loop μ-loop
 cast-all c = omega (arith, trailing-le 64 (c .before .loop .rest))
 
 mul-all : tie.Need-mul-all Inv-loop μ-loop
-mul-all c = omega (arith, trailing-le 64 (c .before .loop .rest))
+mul-all c = omega (arith, c .before .before .pre)
 
 add-all : tie.Need-add-all Inv-loop μ-loop
 add-all c = omega (arith, trailing-le 64 (c .before .loop .rest), c .before .before .pre)
@@ -31,10 +31,10 @@ add-all c = omega (arith, trailing-le 64 (c .before .loop .rest), c .before .bef
 mul-all-2 : tie.Need-mul-all-2 Inv-loop μ-loop
 mul-all-2 c = omega (arith, trailing-le 64 (c .before .loop .rest), c .before .before .pre)
 
-element-copy-out-all : tie.Need-element-copy-out-all Inv-loop μ-loop
-element-copy-out-all c =
-    let l = c .before .loop in
-    omega (arith, least-small (l .rest) (c .loop-test .taken) (l .inv .0), c .before .before .pre)
+shared-slice-read-all : tie.Need-shared-slice-read-all Inv-loop μ-loop
+shared-slice-read-all c =
+    let l = c .before .before .loop in
+    omega (arith, least-small (l .rest) (c .before .loop-test .taken) (l .inv .0), c .before .before .before .pre)
 
 sub-rest : tie.Need-sub-rest Inv-loop μ-loop
 sub-rest c = search needs
@@ -69,7 +69,7 @@ ended-from-spec =
     cast-all
     add-all
     mul-all-2
-    element-copy-out-all
+    shared-slice-read-all
     sub-rest
     loop-less
     loop-again

@@ -2,7 +2,7 @@
 use Prim.Native.Nat.{_+_, _-_, _<_, _^_}
 use lib.Count.{trailingZeros, trailing-le}
 use lib.Bits.{and-le-r}
-use lib.ListN.{getD}
+use lib.ListN.{length, getD}
 use Rattle.places.specs.NextPlace.{trailing-here}
 use Rattle.places.specs.Followed.{FollowedLeft, followed-start, followed-turn, followed-end, least-left}
 use Rattle.verdict.specs.ColumnLists.{Below}
@@ -13,7 +13,7 @@ use Rattle.verdict.proofs.column_steps.joined_after.Tie as tie
 
 abbrev Inv-loop : tie.InvT-loop
 Inv-loop columns base places all₀ rest₀ all rest =
-    (rest < 2 ^ 64) × Below (base + 1) rest × FollowedLeft (λ o. getD columns (base + 1 + o) 0) places all rest
+    (rest < 2 ^ 64) × Below (base + 1) rest (length columns) × FollowedLeft (λ o. getD columns (base + 1 + o) 0) places all rest
 
 abbrev μ-loop : tie.MeasureT-loop
 μ-loop columns base places all₀ rest₀ all rest = rest
@@ -39,10 +39,10 @@ mul-all c =
     let l = c .before .loop in
     omega (arith, l .inv .1 (trailingZeros 64 (l .rest)) (trailing-here 64 (l .rest) (c .loop-test .taken) (l .inv .0)))
 
-element-copy-out-all : tie.Need-element-copy-out-all Inv-loop μ-loop
-element-copy-out-all c =
-    let l = c .before .loop in
-    l .inv .1 (trailingZeros 64 (l .rest)) (trailing-here 64 (l .rest) (c .loop-test .taken) (l .inv .0))
+shared-slice-read-all : tie.Need-shared-slice-read-all Inv-loop μ-loop
+shared-slice-read-all c =
+    let l = c .before .before .loop in
+    l .inv .1 (trailingZeros 64 (l .rest)) (trailing-here 64 (l .rest) (c .before .loop-test .taken) (l .inv .0))
 
 sub-rest : tie.Need-sub-rest Inv-loop μ-loop
 sub-rest c = search needs
@@ -79,7 +79,7 @@ joined-after-spec =
     cast-all
     add-all-2
     mul-all
-    element-copy-out-all
+    shared-slice-read-all
     sub-rest
     loop-less
     loop-again

@@ -26,11 +26,11 @@ abbrev μ-loop : tie.MeasureT-loop
 μ-loop before entered accepting size v base columns n words₀ ends₀ rest₀ words ends rest = rest
 
 inner-requires : tie.Need-inner-requires Inv-loop μ-loop
-inner-requires c κs = c .before .pre .1
+inner-requires c κs = c .before .before .before .pre .1
 
 loop-holds : tie.Need-loop-holds Inv-loop μ-loop
 loop-holds c =
-    let s = c .before .before in (
+    let s = c .before .before .before .before in (
       omega arith,
       s .pre .4,
       columns-start (s .args .v) (s .args .size) (s .args .base) (s .args .entered) (s .args .accepting) (s .args .before .now)
@@ -44,42 +44,42 @@ add-p : tie.Need-add-p Inv-loop μ-loop
 add-p c = omega (arith, trailing-le 64 (c .before .loop .rest))
 
 mul-joined : tie.Need-mul-joined Inv-loop μ-loop
-mul-joined c = omega (arith, c .before .before .before .before .pre .0)
+mul-joined c = omega (arith, c .before .before .before .before .before .before .pre .0)
 
 add-joined : tie.Need-add-joined Inv-loop μ-loop
-add-joined c = omega (arith, trailing-le 64 (c .before .loop .rest), c .before .before .before .before .pre .0)
+add-joined c = omega (arith, trailing-le 64 (c .before .loop .rest), c .before .before .before .before .before .before .pre .0)
 
 mul-joined-2 : tie.Need-mul-joined-2 Inv-loop μ-loop
-mul-joined-2 c = omega (arith, trailing-le 64 (c .before .loop .rest), c .before .before .before .before .pre .0)
+mul-joined-2 c = omega (arith, trailing-le 64 (c .before .loop .rest), c .before .before .before .before .before .before .pre .0)
 
-element-copy-out-joined : tie.Need-element-copy-out-joined Inv-loop μ-loop
-element-copy-out-joined c =
-    let s = c .before .before .before .before in
-    let l = c .before .loop in
-    omega (arith, least-inside _ _ _ _ _ _ _ _ _ _ (l .rest) (c .loop-test .taken) (l .inv .0) (l .inv .2), s .pre .0, s .pre .1)
+shared-slice-read-joined : tie.Need-shared-slice-read-joined Inv-loop μ-loop
+shared-slice-read-joined c =
+    let s = c .before .before .before .before .before .before .before in
+    let l = c .before .before .loop in
+    omega (arith, least-inside _ _ _ _ _ _ _ _ _ _ (l .rest) (c .before .loop-test .taken) (l .inv .0) (l .inv .2), s .pre .1, s .pre .9)
 
 joined-requires : tie.Need-joined-requires Inv-loop μ-loop
 joined-requires c κs o m =
-    let s = c .before .before .before .before .before in
+    let s = c .before .before .before .before .before .before .before in
     let l = c .before .before .loop in
     let h = least-inside _ _ _ _ _ _ _ _ _ _ (l .rest) (c .before .loop-test .taken) (l .inv .0) (l .inv .2) in
     omega (arith, s .pre .2, s .pre .3 o (1 + trailingZeros 64 (l .rest)) (omega (arith, h, s .pre .1)) m)
 
 ending-requires : tie.Need-ending-requires Inv-loop μ-loop
 ending-requires c κs =
-    let s = c .before .before .before .before .before .before in
+    let s = c .before .before .before .before .before .before .before .before in
     let l = c .before .before .before .loop in
     omega (arith, least-inside _ _ _ _ _ _ _ _ _ _ (l .rest) (c .before .before .loop-test .taken) (l .inv .0) (l .inv .2), s .pre .1)
 
 add-put-at : tie.Need-add-put-at Inv-loop μ-loop
 add-put-at c =
-    let s = c .before .before .before .before .before .before .before .before .before in
+    let s = c .before .before .before .before .before .before .before .before .before .before .before in
     let l = c .before .before .before .before .before .before .loop in
     omega (arith, least-inside _ _ _ _ _ _ _ _ _ _ (l .rest) (c .before .before .before .before .before .loop-test .taken) (l .inv .0) (l .inv .2), s .pre .2)
 
 mul-put-at : tie.Need-mul-put-at Inv-loop μ-loop
 mul-put-at c =
-    let s = c .before .before .before .before .before .before .before .before .before in
+    let s = c .before .before .before .before .before .before .before .before .before .before .before in
     let l = c .before .before .before .before .before .before .loop in
     let h = least-inside _ _ _ _ _ _ _ _ _ _ (l .rest) (c .before .before .before .before .before .loop-test .taken) (l .inv .0) (l .inv .2) in
     omega (
@@ -90,7 +90,7 @@ mul-put-at c =
 
 put-at-requires : tie.Need-put-at-requires Inv-loop μ-loop
 put-at-requires c κs =
-    let s = c .before .before .before .before .before .before .before .before .before in
+    let s = c .before .before .before .before .before .before .before .before .before .before .before in
     let l = c .before .before .before .before .before .before .loop in
     let h = least-inside _ _ _ _ _ _ _ _ _ _ (l .rest) (c .before .before .before .before .before .loop-test .taken) (l .inv .0) (l .inv .2) in (
       l .inv .1,
@@ -112,7 +112,7 @@ loop-less c =
 
 loop-again : tie.Need-loop-again Inv-loop μ-loop
 loop-again c =
-    let s = c .before .before .before .before .before .before .before .before in
+    let s = c .before .before .before .before .before .before .before .before .before .before in
     let l = c .before .before .before .before .before .loop in
     let d = c .before .before .before .before .loop-test .taken in
     let joined = c .before .before .joined in
@@ -136,7 +136,7 @@ loop-again c =
     )
 
 same-length : tie.Need-same-length Inv-loop μ-loop
-same-length c = c .before .loop .inv .1 ∙ sym (c .before .before .before .before .pre .4)
+same-length c = c .before .loop .inv .1 ∙ sym (c .before .before .before .before .before .before .pre .4)
 
 returns : tie.Need-returns Inv-loop μ-loop
 returns c =
@@ -156,7 +156,7 @@ list-columns-spec =
     mul-joined
     add-joined
     mul-joined-2
-    element-copy-out-joined
+    shared-slice-read-joined
     joined-requires
     ending-requires
     add-put-at

@@ -19,53 +19,53 @@ abbrev μ-loop : tie.MeasureT-loop
 
 loop-holds : tie.Need-loop-holds Inv-loop μ-loop
 loop-holds c =
-    let s = c .before .before .before .before in
+    let s = c .before .before .before .before .before .before .before in
     (s .pre .6, lists-start _ _ _ _ _ _ _ _ _ (no-columns (s .args .n) (s .args .words .now) (s .pre .7)))
 
 add-x : tie.Need-add-x Inv-loop μ-loop
-add-x c = omega (arith, c .loop-test .taken, c .before .before .before .before .before .before .pre .0 .few)
+add-x c = omega (arith, c .loop-test .taken, c .before .before .before .before .before .before .before .before .before .pre .0 .few)
 
 mul-size : tie.Need-mul-size Inv-loop μ-loop
-mul-size c = omega (arith, c .loop-test .taken, c .before .before .before .before .before .before .pre .0 .few)
+mul-size c = omega (arith, c .loop-test .taken, c .before .before .before .before .before .before .before .before .before .pre .0 .few)
 
 shared-slice-read-size : tie.Need-shared-slice-read-size Inv-loop μ-loop
 shared-slice-read-size c =
-    let s = c .before .before .before .before .before .before .before in
+    let s = c .before .before .before .before .before .before .before .before .before .before in
     omega (arith, c .before .loop-test .taken, s .pre .0 .room)
 
 mul-list-columns : tie.Need-mul-list-columns Inv-loop μ-loop
 mul-list-columns c =
-    let s = c .before .before .before .before .before .before .before in
+    let s = c .before .before .before .before .before .before .before .before .before .before in
     omega (arith, c .before .loop-test .taken, s .pre .0 .few)
 
 add-list-columns : tie.Need-add-list-columns Inv-loop μ-loop
 add-list-columns c =
-    let s = c .before .before .before .before .before .before .before in
+    let s = c .before .before .before .before .before .before .before .before .before .before in
     omega (arith, c .before .loop-test .taken, s .pre .0 .few, s .pre .1)
 
 mul-list-columns-2 : tie.Need-mul-list-columns-2 Inv-loop μ-loop
 mul-list-columns-2 c =
-    let s = c .before .before .before .before .before .before .before in
+    let s = c .before .before .before .before .before .before .before .before .before .before in
     omega (arith, c .before .loop-test .taken, s .pre .0 .few, s .pre .1)
 
 shared-slice-read-list-columns : tie.Need-shared-slice-read-list-columns Inv-loop μ-loop
 shared-slice-read-list-columns c =
-    let s = c .before .before .before .before .before .before .before .before in
+    let s = c .before .before .before .before .before .before .before .before .before .before .before in
     omega (arith, c .before .before .loop-test .taken, s .pre .1, s .pre .2)
 
 mul-list-columns-3 : tie.Need-mul-list-columns-3 Inv-loop μ-loop
 mul-list-columns-3 c =
-    let s = c .before .before .before .before .before .before .before .before in
+    let s = c .before .before .before .before .before .before .before .before .before .before .before in
     omega (arith, c .before .before .loop-test .taken, s .pre .0 .few)
 
 shared-slice-read-list-columns-2 : tie.Need-shared-slice-read-list-columns-2 Inv-loop μ-loop
 shared-slice-read-list-columns-2 c =
-    let s = c .before .before .before .before .before .before .before .before .before in
+    let s = c .before .before .before .before .before .before .before .before .before .before .before .before in
     omega (arith, c .before .before .before .loop-test .taken, s .pre .3)
 
 list-columns-requires : tie.Need-list-columns-requires Inv-loop μ-loop
 list-columns-requires c κs =
-    let s = c .before .before .before .before .before .before .before .before .before .before in
+    let s = c .before .before .before .before .before .before .before .before .before .before .before .before .before in
     let l = c .before .before .before .before .before .loop in
     let h = c .before .before .before .before .loop-test .taken in
     let size = getD (s .args .sizes .now) (l .v + 1) 0 in
@@ -73,33 +73,34 @@ list-columns-requires c κs =
     omega (arith, s .pre .4, lists-room _ _ _ _ _ _ _ _ _ (l .base) (l .alone) (l .v) h (l .inv .1)) in (
       omega (arith, h, s .pre .0 .few),
       omega (arith, s .pre .0 .small (l .v) h),
-      omega (arith, room, few-columns (s .args .w) (s .args .n) (s .pre .8) (s .pre .10)),
+      omega (arith, room, s .pre .13),
       λ o p k m. s .pre .5 (l .v) o p h k m,
       l .inv .0,
       s .pre .8,
       s .pre .9,
       omega (arith, s .pre .10, mul-le-mul-left (s .args .n) room),
       λ q o k m. s .pre .11 q o (omega (arith, room)) m,
+      omega (arith, h, s .pre .14),
     )
 
 ended-from-requires : tie.Need-ended-from-requires Inv-loop μ-loop
-ended-from-requires c κs = omega (arith, c .before .before .before .before .before .before .before .loop-test .taken, c .before .before .before .before .before .before .before .before .before .before .before .before .before .pre .0 .few)
+ended-from-requires c κs = omega (arith, c .before .before .before .before .before .before .before .loop-test .taken, c .before .before .before .before .before .before .before .before .before .before .before .before .before .before .before .before .pre .15)
 
 add-base : tie.Need-add-base Inv-loop μ-loop
 add-base c =
-    let s = c .before .before .before .before .before .before .before .before .before .before .before .before .before .before in
+    let s = c .before .before .before .before .before .before .before .before .before .before .before .before .before .before .before .before .before in
     let l = c .before .before .before .before .before .before .before .before .before .loop in
     omega (arith, s .pre .4, few-columns (s .args .w) (s .args .n) (s .pre .8) (s .pre .10), lists-room _ _ _ _ _ _ _ _ _ (l .base) (l .alone) (l .v) (c .before .before .before .before .before .before .before .before .loop-test .taken) (l .inv .1))
 
 add-v : tie.Need-add-v Inv-loop μ-loop
-add-v c = omega (arith, c .before .before .before .before .before .before .before .before .loop-test .taken, c .before .before .before .before .before .before .before .before .before .before .before .before .before .before .pre .0 .few)
+add-v c = omega (arith, c .before .before .before .before .before .before .before .before .loop-test .taken, c .before .before .before .before .before .before .before .before .before .before .before .before .before .before .before .before .before .pre .0 .few)
 
 loop-less : tie.Need-loop-less Inv-loop μ-loop
 loop-less c = omega (arith, c .before .before .before .before .before .before .before .before .loop-test .taken)
 
 loop-again : tie.Need-loop-again Inv-loop μ-loop
 loop-again c =
-    let s = c .before .before .before .before .before .before .before .before .before .before .before .before .before .before in
+    let s = c .before .before .before .before .before .before .before .before .before .before .before .before .before .before .before .before .before in
     let l = c .before .before .before .before .before .before .before .before .before .loop in
     let h = c .before .before .before .before .before .before .before .before .loop-test .taken in
     let list = c .before .before .before .list-columns in (
@@ -111,7 +112,7 @@ loop-again c =
 
 put-at-requires : tie.Need-put-at-requires Inv-loop μ-loop
 put-at-requires c κs =
-    let s = c .before .before .before .before .before .before .before in
+    let s = c .before .before .before .before .before .before .before .before .before .before in
     let l = c .before .before .loop in (
       l .inv .0,
       alone-within _ _ _ _ _ _ _ _ _ (s .args .n) _ (l .base) (l .alone) (l .v) (l .inv .1) (s .pre .0) (s .pre .4) (s .pre .5) (s .pre .11)
@@ -122,11 +123,11 @@ put-at-requires c κs =
     )
 
 same-length : tie.Need-same-length Inv-loop μ-loop
-same-length c = c .before .before .put-at .kept .0 ∙ c .before .before .before .before .before .loop .inv .0 ∙ sym (c .before .before .before .before .before .before .before .before .before .before .pre .6)
+same-length c = c .before .before .put-at .kept .0 ∙ c .before .before .before .before .before .loop .inv .0 ∙ sym (c .before .before .before .before .before .before .before .before .before .before .before .before .before .pre .6)
 
 returns : tie.Need-returns Inv-loop μ-loop
 returns c =
-    let s = c .before .before .before .before .before .before .before .before .before .before in
+    let s = c .before .before .before .before .before .before .before .before .before .before .before .before .before in
     let l = c .before .before .before .before .before .loop in
     let call = c .before .before .put-at in
     let small =

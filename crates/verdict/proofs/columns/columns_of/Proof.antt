@@ -2,7 +2,7 @@
 -- number of places and states left.
 use Prim.Native.Nat.{ℕ, _+_, _*_, _-_, _≤_}
 use mathlib.Core.List.{List}
-use mathlib.Core.Path.{_≡_, sym, ap, _∙_, subst}
+use mathlib.Core.Path.{_≡_, refl, sym, ap, _∙_, subst}
 use native.Mathlib.Nat.{mul-suc}
 use native.Mathlib.Numerals.{add-one}
 use lib.ListN.{length, getD, length-set}
@@ -16,7 +16,7 @@ use Rattle.verdict.proofs.columns.columns_of.Tie as tie
 
 abbrev Inv-loop : tie.InvT-loop
 Inv-loop places w states columns₀ count q₀ base₀ p₀ columns q base p =
-    (base ≡ w * q) × (base ≤ p) × (p ≤ 1024) × (length columns ≡ 1024) × Filled w count places columns p
+    (base ≡ w * q) × (base ≤ p) × (p ≤ 1024) × (length columns ≡ length columns₀) × Filled w count places columns p
 
 abbrev μ-loop : tie.MeasureT-loop
 μ-loop places w states columns₀ count q₀ base₀ p₀ columns q base p = (1024 - p) + (64 - q)
@@ -32,23 +32,22 @@ next-place-requires c κs = search needs
 
 loop-holds : tie.Need-loop-holds Inv-loop μ-loop
 loop-holds c =
-    let s = c .before .before .before .before in
-    let few : s .args .w ≤ 1024 = few-columns (s .args .w) (s .args .states) (s .pre .2) (s .pre .4) in (
+    let s = c .before .before .before .before .before .before .before in (
       omega arith,
       omega arith,
       c .next-place .ensures .bound,
-      c .before .clear-words .kept .0 ∙ c .before .before .clear-words-arg .given .0 .1,
-      filled-start (s .args .w) (s .args .states * s .args .w) (s .args .places .now) (c .before .clear-words .last .0)
+      refl,
+      filled-start (s .args .w) (s .args .states * s .args .w) (s .args .places .now) (c .before .before .before .clear-words .last .0)
           (c .next-place .result)
           (λ o h. subst (λ (z : List ℕ). getD z o 0 ≡ 0)
-          (sym (c .before .clear-words .ensures (omega (arith, c .before .before .clear-words-arg .given .0 .1))))
+          (sym (c .before .before .before .clear-words .ensures (s .pre .5)))
           (cleared-zero (s .args .w) _ o h))
           (c .next-place .ensures),
     )
 
 add-if1 : tie.Need-add-if1 Inv-loop μ-loop
 add-if1 c =
-    let s = c .before .before .before .before .before .before in
+    let s = c .before .before .before .before .before .before .before .before .before in
     omega (arith, few-columns (s .args .w) (s .args .states) (s .pre .2) (s .pre .4), c .before .loop .inv .1, c .before .loop .inv .2)
 
 sub-o : tie.Need-sub-o Inv-loop μ-loop
@@ -57,13 +56,16 @@ sub-o c = search needs
 mul-columns : tie.Need-mul-columns Inv-loop μ-loop
 mul-columns c = search needs
 
-element-copy-out-columns : tie.Need-element-copy-out-columns Inv-loop μ-loop
-element-copy-out-columns c = search needs
+slice-read-columns : tie.Need-slice-read-columns Inv-loop μ-loop
+slice-read-columns c =
+    let s = c .before .before .before .before .before .before .before .before .before .before .before in
+    let l = c .before .before .before .loop in
+    omega (arith, s .pre .5, l .inv .3, c .before .before .before .before .before .before .before .clear-words .kept .0, c .before .if1 .taken)
 
 shl-columns : tie.Need-shl-columns Inv-loop μ-loop
 shl-columns c =
     let l = c .before .before .before .loop in
-    let s = c .before .before .before .before .before .before .before .before in
+    let s = c .before .before .before .before .before .before .before .before .before .before .before in
     omega (
       arith,
       s .pre .3,
@@ -74,8 +76,11 @@ shl-columns c =
 mul-columns-2 : tie.Need-mul-columns-2 Inv-loop μ-loop
 mul-columns-2 c = search needs
 
-element-write-columns : tie.Need-element-write-columns Inv-loop μ-loop
-element-write-columns c = search needs
+slice-write-columns : tie.Need-slice-write-columns Inv-loop μ-loop
+slice-write-columns c =
+    let s = c .before .before .before .before .before .before .before .before .before .before .before in
+    let l = c .before .before .before .loop in
+    omega (arith, s .pre .5, l .inv .3, c .before .before .before .before .before .before .before .clear-words .kept .0, c .before .if1 .taken)
 
 add-next-place : tie.Need-add-next-place Inv-loop μ-loop
 add-next-place c = search needs
@@ -86,7 +91,7 @@ next-place-requires-2 c κs = search needs
 loop-less : tie.Need-loop-less Inv-loop μ-loop
 loop-less c =
     let l = c .before .before .before .before .loop in
-    let s = c .before .before .before .before .before .before .before .before .before in
+    let s = c .before .before .before .before .before .before .before .before .before .before .before .before in
     omega (
       arith,
       c .next-place2 .ensures .bound,
@@ -97,7 +102,7 @@ loop-less c =
 loop-again : tie.Need-loop-again Inv-loop μ-loop
 loop-again c =
     let l = c .before .before .before .before .loop in
-    let s = c .before .before .before .before .before .before .before .before .before in
+    let s = c .before .before .before .before .before .before .before .before .before .before .before .before in
     let onward : l .p + 1 ≤ c .next-place2 .result = c .next-place2 .ensures .onward
     (omega (arith, s .pre .4, c .before .before .before .loop-test .taken)) in (
       l .inv .0,
@@ -113,14 +118,14 @@ loop-again c =
             state-below (s .args .w) (s .args .states) (l .q) 0
                 (omega (arith, l .inv .0, l .inv .1, c .before .before .before .loop-test .taken)),
           ))
-          (omega (arith, l .inv .3, few-columns (s .args .w) (s .args .states) (s .pre .2) (s .pre .4), c .before .before .if1 .taken))
+          (omega (arith, s .pre .5, l .inv .3, c .before .before .before .before .before .before .before .before .clear-words .kept .0, c .before .before .if1 .taken))
           (l .inv .4) (c .next-place2 .ensures),
     )
 
 add-q : tie.Need-add-q Inv-loop μ-loop
 add-q c =
     let l = c .before .before .loop in
-    let s = c .before .before .before .before .before .before .before in
+    let s = c .before .before .before .before .before .before .before .before .before .before in
     omega (
       arith,
       s .pre .3,
@@ -134,7 +139,7 @@ add-base c = search needs
 loop-less-2 : tie.Need-loop-less-2 Inv-loop μ-loop
 loop-less-2 c =
     let l = c .before .before .loop in
-    let s = c .before .before .before .before .before .before .before in
+    let s = c .before .before .before .before .before .before .before .before .before .before in
     omega (
       arith,
       s .pre .3,
@@ -145,7 +150,7 @@ loop-less-2 c =
 loop-again-2 : tie.Need-loop-again-2 Inv-loop μ-loop
 loop-again-2 c =
     let l = c .before .before .loop in
-    let s = c .before .before .before .before .before .before .before in (
+    let s = c .before .before .before .before .before .before .before .before .before .before in (
       omega (arith, l .inv .0, add-one (l .q), mul-suc (s .args .w) (l .q), ap (λ (z : ℕ). s .args .w * z) (add-one (l .q))),
       omega (arith, c .if1 .left),
       l .inv .2,
@@ -153,10 +158,13 @@ loop-again-2 c =
       l .inv .4,
     )
 
+same-length : tie.Need-same-length Inv-loop μ-loop
+same-length c = c .before .loop .inv .3 ∙ c .before .before .before .before .before .clear-words .kept .0
+
 returns : tie.Need-returns Inv-loop μ-loop
 returns c =
     let l = c .before .loop in
-    let s = c .before .before .before .before .before .before in
+    let s = c .before .before .before .before .before .before .before .before .before in
     filled-end (s .args .w) (s .args .states) (s .args .places .now) (l .columns) (l .p) (omega (arith, c .loop-test .left)) (l .inv .4)
 
 pub columns-of-spec : {M : Type 1} → statement M
@@ -172,10 +180,10 @@ columns-of-spec =
     add-if1
     sub-o
     mul-columns
-    element-copy-out-columns
+    slice-read-columns
     shl-columns
     mul-columns-2
-    element-write-columns
+    slice-write-columns
     add-next-place
     next-place-requires-2
     loop-less
@@ -184,4 +192,5 @@ columns-of-spec =
     add-base
     loop-less-2
     loop-again-2
+    same-length
     returns)

@@ -28,20 +28,18 @@ loop-holds c = (omega arith, omega arith, refl, packed-start _ _ _ refl)
 
 mul-column : tie.Need-mul-column Inv-loop μ-loop
 mul-column c =
-    let s = c .before .before in
+    let s = c .before .before .before in
     omega (arith, c .loop-test .taken, few-columns (s .args .w) (s .args .n) (s .pre .1) (s .pre .3))
 
-element-copy-out-column : tie.Need-element-copy-out-column Inv-loop μ-loop
-element-copy-out-column c =
-    let s = c .before .before in
-    omega (arith, c .loop-test .taken, few-columns (s .args .w) (s .args .n) (s .pre .1) (s .pre .3))
+shared-slice-read-column : tie.Need-shared-slice-read-column Inv-loop μ-loop
+shared-slice-read-column c = omega (arith, c .before .loop-test .taken, c .before .before .before .before .pre .5)
 
 slice-aggregate-put-at : tie.Need-slice-aggregate-put-at Inv-loop μ-loop
 slice-aggregate-put-at c = search needs
 
 put-at-requires : tie.Need-put-at-requires Inv-loop μ-loop
 put-at-requires c κs =
-    let s = c .before .before .before .before .before in
+    let s = c .before .before .before .before .before .before in
     let l = c .before .before .before .before .loop in
     let h = c .before .before .before .loop-test .taken in (
       l .inv .2,
@@ -53,7 +51,7 @@ put-at-requires c κs =
 
 add-at : tie.Need-add-at Inv-loop μ-loop
 add-at c =
-    let s = c .before .before .before .before in
+    let s = c .before .before .before .before .before in
     let l = c .before .before .before .loop in
     omega (arith, column-room (s .args .w) (s .args .n) (l .at) (l .o) (c .before .before .loop-test .taken) (s .pre .3) (l .inv .1))
 
@@ -65,7 +63,7 @@ loop-less c = search needs
 
 loop-again : tie.Need-loop-again Inv-loop μ-loop
 loop-again c =
-    let s = c .before .before .before .before in
+    let s = c .before .before .before .before .before in
     let l = c .before .before .before .loop in (
       omega (arith, c .before .before .loop-test .taken),
       next-column (s .args .n) (l .at) (l .o) (l .inv .1),
@@ -81,7 +79,7 @@ loop-again c =
 
 returns : tie.Need-returns Inv-loop μ-loop
 returns c =
-    let s = c .before .before in
+    let s = c .before .before .before in
     let l = c .before .loop in
     packed-end (s .args .w) (s .args .n) (s .args .columns .now) (l .words) (l .o) (omega (arith, l .inv .0, c .loop-test .left)) (s .pre .4)
     (l .inv .3)
@@ -94,7 +92,7 @@ pack-spec =
     μ-loop
     loop-holds
     mul-column
-    element-copy-out-column
+    shared-slice-read-column
     slice-aggregate-put-at
     put-at-requires
     add-at

@@ -14,19 +14,22 @@ slice-aggregate-columns-of c = search needs
 columns-of-requires : tie.Need-columns-of-requires
 columns-of-requires c κs =
     let w = c .before .before .before .if1 .taken in
-    let p = c .before .before .before .before .before .before .before .before .before .before .pre w in
-    (search needs, w, p .some, p .few, p .ready .few-places)
+    let p = c .before .before .before .before .before .before .before .before .before .before .before .before .before .pre .0 w in
+    (search needs, w, p .some, p .few, p .ready .few-places, c .before .before .before .before .before .before .before .before .before .before .before .before .before .pre .1)
 
 pack-requires : tie.Need-pack-requires
 pack-requires c κs =
-    let w = c .before .before .before .before .before .if1 .taken in
-    let p = c .before .before .before .before .before .before .before .before .before .before .before .before .pre w in
-    (w, p .some, p .few, p .ready .few-places, c .before .columns-of .ensures .within)
+    let w = c .before .before .before .before .before .before .before .if1 .taken in
+    let p = c .before .before .before .before .before .before .before .before .before .before .before .before .before .before .before .before .before .pre .0 w in
+    (w, p .some, p .few, p .ready .few-places, c .before .before .before .columns-of .ensures .within, omega (arith, c .before .before .before .columns-of .kept .1 .1 .1 .0, c .before .before .before .before .before .before .before .before .before .before .before .before .before .before .before .before .before .pre .1))
+
+same-length : tie.Need-same-length
+same-length c = c .before .before .before .before .columns-of .kept .1 .1 .1 .0
 
 returns : tie.Need-returns
 returns c =
-    let p = c .before .before .before .before .before .before .before .before .before .before .before .before .before .pre (c .before .before .before .before .before .before .if1 .taken) in
-    start-stands p (c .before .before .before .before .before .before .before .cover-start .ensures) (c .before .before .columns-of .ensures) (c .pack .ensures .0) (c .pack .ensures .1)
+    let p = c .before .before .before .before .before .before .before .before .before .before .before .before .before .before .before .before .before .before .pre .0 (c .before .before .before .before .before .before .before .before .if1 .taken) in
+    start-stands p (c .before .before .before .before .before .before .before .before .before .cover-start .ensures) (c .before .before .before .before .columns-of .ensures) (c .pack .ensures .0) (c .pack .ensures .1)
 
 returns-2 : tie.Need-returns-2
 returns-2 c = start-plain (omega (arith, c .if1 .left)) (c .before .cover-start .ensures)
@@ -39,5 +42,6 @@ first-cover-spec =
     slice-aggregate-columns-of
     columns-of-requires
     pack-requires
+    same-length
     returns
     returns-2)

@@ -34,18 +34,21 @@ part-columns-at-end c = search needs
 columns-at-requires : tie.Need-columns-at-requires
 columns-at-requires c κs =
     let w = c .before .before .if1 .taken in
-    let (some, states, places) = c .before .before .before .before .pre .0 w in
-    (simp (length-take, length-drop) (omega (arith, c .before .before .before .before .pre .1)), w, some, states, places)
+    let (some, states, places) = c .before .before .before .before .before .pre .0 w in
+    (simp (length-take, length-drop) (omega (arith, c .before .before .before .before .before .pre .1)), w, some, states, places, c .before .before .before .before .before .pre .2)
+
+same-length : tie.Need-same-length
+same-length c = c .before .before .columns-at .kept .1 .1 .1 .0
 
 returns : tie.Need-returns
 returns c =
-    let s = c .before .before .before .before .before in
+    let s = c .before .before .before .before .before .before .before .before in
     let from = 18 * s .args .i + 1 in
     let count : from + 16 - from ≡ 16 = omega arith in
-    λ w. subst (λ l. Stacked (s .args .w) (s .args .states) (c .columns-at .last .1 .1 .1 .0) (numberOf l))
+    λ w. subst (λ l. Stacked (s .args .w) (s .args .states) (c .before .before .columns-at .last .1 .1 .1 .0) (numberOf l))
     (ap (λ k. take k (drop from (s .args .workspace .now))) count
     ∙ sym (words-part (s .args .workspace .now) from 16 (omega (arith, s .pre .1))))
-    (c .columns-at .ensures)
+    (c .before .before .columns-at .ensures)
 
 returns-2 : tie.Need-returns-2
 returns-2 c = λ w. absurd (omega (arith, c .if1 .left))
@@ -62,5 +65,6 @@ lay-spec =
     part-columns-at-start
     part-columns-at-end
     columns-at-requires
+    same-length
     returns
     returns-2)

@@ -14,7 +14,7 @@ use Rattle.verdict.proofs.next_cover.next_cover.Tie as tie
 
 step-turned-requires : tie.Need-step-turned-requires
 step-turned-requires c κs =
-    let s = c .before .before .before .before .before .before .before .before in
+    let s = c .before .before .before .before .before .before .before .before .before .before .before in
     let w = c .before .if1 .taken in
     let p = s .pre .0 .prepared w in
     let r = p .ready in (
@@ -31,11 +31,14 @@ step-turned-requires c κs =
       p .finishing .within,
       s .pre .3 .within,
       s .pre .4,
+      s .pre .0 .room,
+      p .before-room,
+      p .ended-room,
     )
 
 returns : tie.Need-returns
 returns c =
-    let s = c .before .before .before .before .before .before .before .before .before in
+    let s = c .before .before .before .before .before .before .before .before .before .before .before .before in
     let w = c .before .before .if1 .taken in
     let told = c .step-turned .ensures in (
       next-stands (s .pre .0 .prepared w) (wordsAt (s .args .workspace .now) (18 * s .args .i + 1) 16) (s .pre .0 .stacked w) _ (told .0)
@@ -55,7 +58,7 @@ copy-requires c κs = c .copy-arg .given .0 .1
 
 returns-2 : tie.Need-returns-2
 returns-2 c =
-    let s = c .before .before .before .before .before .before .before .before .before .before .before in
+    let s = c .before .before .before .before .before .before .before .before .before .before .before .before .before .before in
     let made = c .before .before .cover-step in
     let plain : s .args .w ≡ 0 = omega (arith, c .before .before .before .before .if1 .left) in
     let size = array-count 16 (made .result .words) _ (made .ok .1 .1 .0) in

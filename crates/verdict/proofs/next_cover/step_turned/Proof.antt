@@ -12,7 +12,7 @@ clear-words-requires c κs = search needs
 
 step-columns-requires : tie.Need-step-columns-requires
 step-columns-requires c κs =
-    let s = c .before .before .before .before .before .before in
+    let s = c .before .before .before .before .before .before .before .before .before in
     let words = c .before .before .clear-words-arg .given .0 .1 in (
       s .pre .0,
       s .pre .1,
@@ -28,6 +28,9 @@ step-columns-requires c κs =
       s .pre .8,
       s .pre .9,
       s .pre .10,
+      s .pre .13,
+      s .pre .14,
+      s .pre .15,
     )
 
 returns : tie.Need-returns

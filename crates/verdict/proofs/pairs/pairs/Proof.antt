@@ -26,10 +26,22 @@ sweep-requires c κs = search needs
 same-length : tie.Need-same-length
 same-length c = search needs
 
+same-length-2 : tie.Need-same-length-2
+same-length-2 c = search needs
+
 returns-5 : tie.Need-returns-5
 returns-5 c = search needs
 
 pub pairs-spec : {M : Type 1} → statement M
 pairs-spec =
     tie.close
-    (tie.spec returns returns-2 returns-3 mul-if4 returns-4 sweep-requires same-length returns-5)
+    (tie.spec
+    returns
+    returns-2
+    returns-3
+    mul-if4
+    returns-4
+    sweep-requires
+    same-length
+    same-length-2
+    returns-5)

@@ -28,21 +28,21 @@ abbrev μ-loop : tie.MeasureT-loop
     labels - a
 
 mul-from : tie.Need-mul-from Inv-loop μ-loop
-mul-from c = let s = c .before .before .before .before .before .before in omega (arith, s .pre .0, s .pre .1, s .pre .2)
+mul-from c = let s = c .before .before .before .before .before .before .before .before .before in omega (arith, s .pre .0, s .pre .1, s .pre .2)
 
 mul-from-2 : tie.Need-mul-from-2 Inv-loop μ-loop
 mul-from-2 c = search needs
 
 slice-read-from : tie.Need-slice-read-from Inv-loop μ-loop
-slice-read-from c = let s = c .before .before .before .before .before .before .before in omega (arith, s .pre .0, s .pre .1, s .pre .4)
+slice-read-from c = let s = c .before .before .before .before .before .before .before .before .before .before in omega (arith, s .pre .0, s .pre .1, s .pre .4)
 
 lay-requires : tie.Need-lay-requires Inv-loop μ-loop
 lay-requires c κs =
-    let s = c .before .before .before .before .before .before .before .before .before in
-    (λ h. let p = s .pre .6 h in (p .some, p .few, p .ready .few-places), omega (arith, s .pre .0, s .pre .1, s .pre .4))
+    let s = c .before .before .before .before .before .before .before .before .before .before .before .before in
+    (λ h. let p = s .pre .6 h in (p .some, p .few, p .ready .few-places), omega (arith, s .pre .0, s .pre .1, s .pre .4), s .pre .7)
 
 used-words-requires : tie.Need-used-words-requires Inv-loop μ-loop
-used-words-requires c κs = λ h. c .before .before .before .before .before .before .before .before .before .before .pre .6 h .ready .few-places
+used-words-requires c κs = λ h. c .before .before .before .before .before .before .before .before .before .before .before .before .before .before .before .pre .6 h .ready .few-places
 
 query-follows-requires : tie.Need-query-follows-requires Inv-loop μ-loop
 query-follows-requires c κs = search needs
@@ -50,7 +50,7 @@ query-follows-requires c κs = search needs
 loop-holds : tie.Need-loop-holds Inv-loop μ-loop
 unfolding numberOf
 loop-holds c =
-    let s = c .before .before .before .before .before .before .before .before .before .before .before .before in
+    let s = c .before .before .before .before .before .before .before .before .before .before .before .before .before .before .before .before .before in
     (row-start _ _ _ _ _ _ (s .pre .1), s .pre .5, pow-pos (64 * c .before .used-words .result))
 
 query-step-requires : tie.Need-query-step-requires Inv-loop μ-loop
@@ -59,12 +59,13 @@ query-step-requires c κs = search needs
 next-cover-requires : tie.Need-next-cover-requires Inv-loop μ-loop
 next-cover-requires c κs =
     let in-loop = c .before .before .before .before in
-    let lay = in-loop .before .before .before .before .lay in
+    let lay = in-loop .before .before .before .before .before .before .lay in
     let l = in-loop .before .loop in
-    let s = in-loop .before .before .before .before .before .before .before .before .before .before .before .before .before .before in (
+    let s = in-loop .before .before .before .before .before .before .before .before .before .before .before .before .before .before .before .before .before .before .before in (
       record {
         prepared = s .pre .6;
         stacked = λ h. subst (λ z. Stacked (s .args .w) (s .args .states) (lay .last .1 .1 .1 .1 .0) (numberOf z)) (sym (l .inv .0 .words)) (lay .ensures h);
+        room = omega (arith, lay .kept .1 .1 .1 .1 .0, s .pre .7);
       },
       omega (arith, in-loop .loop-test .taken, s .pre .3),
       omega (arith, l .inv .0 .size, s .pre .0, s .pre .1, s .pre .4),
@@ -77,7 +78,7 @@ bucket-requires c κs = (c .before .before .before .before .before .before .befo
 
 seen-requires : tie.Need-seen-requires Inv-loop μ-loop
 seen-requires c κs =
-    let s = c .before .before .before .before .before .before .before .before .before .before .before .before .before .before .before .before .before .before .before .before .before .before .before .before .before in
+    let s = c .before .before .before .before .before .before .before .before .before .before .before .before .before .before .before .before .before .before .before .before .before .before .before .before .before .before .before .before .before .before in
     let l = c .before .before .before .before .before .before .before .before .before .before .before .before .loop in (
       omega (arith, l .inv .0 .within, l .inv .0 .size, s .pre .4),
       omega (arith, l .inv .0 .within, s .pre .2),
@@ -86,7 +87,10 @@ seen-requires c κs =
     )
 
 same-length : tie.Need-same-length Inv-loop μ-loop
-same-length c = c .before .before .before .before .before .before .before .before .before .before .before .before .before .before .before .loop .inv .0 .size
+same-length c = c .before .before .before .before .before .before .before .before .before .before .before .before .before .before .before .before .before .before .before .before .lay .kept .1 .1 .1 .1 .0
+
+same-length-2 : tie.Need-same-length-2 Inv-loop μ-loop
+same-length-2 c = c .before .before .before .before .before .before .before .before .before .before .before .before .before .before .before .loop .inv .0 .size
 
 returns : tie.Need-returns Inv-loop μ-loop
 returns c =
@@ -95,7 +99,7 @@ returns c =
     let q = c .before .before .before .before .before .before .before .before .before .before .before .before .before .query-step in
     let in-loop = c .before .before .before .before .before .before .before .before .before .before .before .before .before .before in
     let l = in-loop .before .loop in
-    let s = in-loop .before .before .before .before .before .before .before .before .before .before .before .before .before .before in (
+    let s = in-loop .before .before .before .before .before .before .before .before .before .before .before .before .before .before .before .before .before .before .before in (
       row-exceeds _ _ _ _ _ _ (l .a) (l .m) _ (l .inv .0) (in-loop .loop-test .taken) (s .pre .0) (q .result) _
           (record {
             from = getD (s .args .workspace .now) (18 * s .args .i) 0;
@@ -112,19 +116,19 @@ returns c =
 mul-link : tie.Need-mul-link Inv-loop μ-loop
 mul-link c =
     let in-loop = c .before .before .before .before .before .before .before .before .before .before .before .before .before .before in
-    let s = in-loop .before .before .before .before .before .before .before .before .before .before .before .before .before .before in
+    let s = in-loop .before .before .before .before .before .before .before .before .before .before .before .before .before .before .before .before .before .before .before in
     omega (arith, in-loop .loop-test .taken, s .pre .3)
 
 add-link : tie.Need-add-link Inv-loop μ-loop
 add-link c =
     let in-loop = c .before .before .before .before .before .before .before .before .before .before .before .before .before .before in
-    let s = in-loop .before .before .before .before .before .before .before .before .before .before .before .before .before .before in
+    let s = in-loop .before .before .before .before .before .before .before .before .before .before .before .before .before .before .before .before .before .before .before in
     omega (arith, in-loop .loop-test .taken, s .pre .0, s .pre .1, s .pre .2, s .pre .3)
 
 add-requires : tie.Need-add-requires Inv-loop μ-loop
 add-requires c κs =
     let in-loop = c .before .before .before .before .before .before .before .before .before .before .before .before .before .before .before .before .before .before in
-    let s = in-loop .before .before .before .before .before .before .before .before .before .before .before .before .before .before in
+    let s = in-loop .before .before .before .before .before .before .before .before .before .before .before .before .before .before .before .before .before .before .before in
     let l = in-loop .before .loop in
     let m : l .m < s .args .limit = omega (arith, l .inv .0 .within, c .before .before .before .before .if2 .left) in (
       omega (arith, m, l .inv .0 .size, s .pre .4),
@@ -137,13 +141,13 @@ add-requires c κs =
 add-m : tie.Need-add-m Inv-loop μ-loop
 add-m c =
     let in-loop = c .before .before .before .before .before .before .before .before .before .before .before .before .before .before .before .before .before .before .before .before .before in
-    let s = in-loop .before .before .before .before .before .before .before .before .before .before .before .before .before .before in
+    let s = in-loop .before .before .before .before .before .before .before .before .before .before .before .before .before .before .before .before .before .before .before in
     omega (arith, in-loop .before .loop .inv .0 .within, s .pre .2)
 
 add-a : tie.Need-add-a Inv-loop μ-loop
 add-a c =
     let in-loop = c .before .before .before .before .before .before .before .before .before .before .before .before .before in
-    let s = in-loop .before .before .before .before .before .before .before .before .before .before .before .before .before .before in
+    let s = in-loop .before .before .before .before .before .before .before .before .before .before .before .before .before .before .before .before .before .before .before in
     omega (arith, in-loop .loop-test .taken, s .pre .3)
 
 loop-less : tie.Need-loop-less Inv-loop μ-loop
@@ -157,7 +161,7 @@ loop-again c =
     let q = c .before .before .before .before .before .before .before .before .before .before .before .before .query-step in
     let in-loop = c .before .before .before .before .before .before .before .before .before .before .before .before .before in
     let l = in-loop .before .loop in
-    let s = in-loop .before .before .before .before .before .before .before .before .before .before .before .before .before .before in
+    let s = in-loop .before .before .before .before .before .before .before .before .before .before .before .before .before .before .before .before .before .before .before in
     let D =
     lent (s .args .states) (s .args .labels) (s .args .lists) (s .args .follow .now) (s .args .enter .now) (s .args .sizes .now)
     (s .args .accepting .now) (s .args .table .now) in
@@ -188,8 +192,11 @@ loop-again c =
     ))
     (c .if1 .came)
 
-same-length-2 : tie.Need-same-length-2 Inv-loop μ-loop
-same-length-2 c = c .before .loop .inv .0 .size
+same-length-3 : tie.Need-same-length-3 Inv-loop μ-loop
+same-length-3 c = c .before .before .before .before .before .before .lay .kept .1 .1 .1 .1 .0
+
+same-length-4 : tie.Need-same-length-4 Inv-loop μ-loop
+same-length-4 c = c .before .loop .inv .0 .size
 
 returns-2 : tie.Need-returns-2 Inv-loop μ-loop
 returns-2 c =
@@ -214,6 +221,7 @@ row-spec =
     bucket-requires
     seen-requires
     same-length
+    same-length-2
     returns
     mul-link
     add-link
@@ -222,5 +230,6 @@ row-spec =
     add-a
     loop-less
     loop-again
-    same-length-2
+    same-length-3
+    same-length-4
     returns-2)
