@@ -6,7 +6,7 @@ pub mod first;
 pub mod flags;
 mod image;
 mod index;
-pub mod list_images;
+mod list_images;
 pub mod number;
 pub mod operation;
 pub mod rewriting;

@@ -7,7 +7,7 @@ ghost use Rattle.places.specs.Words.{numberOf};
 ghost use Rattle.places.specs.NextPlace.{NextPlace};
 
 // Adds the places of one word, as the word number `index`; nothing where there is no such word.
-pub fn add_word(words: &mut [u64], index: usize, word: u64)
+fn add_word(words: &mut [u64], index: usize, word: u64)
     requires { ⌜ length (now words) ≡ 16 ⌝ }
     ensures { λ _. ⌜ numberOf (now (words .exit)) ≡ union (numberOf (now (words .entry))) ((word * 2 ^ (64 * index)) % 2 ^ 1024) ⌝ }
 {
