@@ -19,7 +19,7 @@ use Rattle.verdict.specs.ColumnLists.{innerOf, columnOf, endingOf, ListC
 use Rattle.verdict.specs.TurnedColumns.{Puts}
 
 -- The occurrences in a set of places, from 1 on.
-member-inner : (s size i : ℕ) → Member i (innerOf s size) ↔ ((i < size) × Member (1 + i) s)
+pub member-inner : (s size i : ℕ) → Member i (innerOf s size) ↔ ((i < size) × Member (1 + i) s)
 member-inner s size i =
     let e : 1 + i ≡ suc i = omega arith in (
       λ m. let (h, k) = member-cut size i (s / 2) .0 m in (h, subst (λ z. Member z s) (sym e) (member-suc i s .1 k)),

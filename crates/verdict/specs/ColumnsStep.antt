@@ -31,16 +31,16 @@ first-step (onward {y = y} r p) = inr (y, r, p)
 
 module _ (states n a : ℕ) (follow enter sizes accepting table flags : List ℕ) (proper : Proper states n follow enter sizes accepting table)
     (label : a < 32) where
-  abbrev w : ℕ
+  abbrev pub w : ℕ
   w = suc (occupied sizes 0 n)
 
-  abbrev R : Rewritten
+  abbrev pub R : Rewritten
   R = rewritten states table flags
 
-  abbrev lists : List Automaton
+  abbrev pub lists : List Automaton
   lists = automataOf follow enter sizes accepting n
 
-  abbrev Ends : ℕ → ℕ → Type 0
+  abbrev pub Ends : ℕ → ℕ → Type 0
   Ends x y = Member y (ends R lists x)
 
   counted : Counted n sizes
@@ -53,7 +53,7 @@ module _ (states n a : ℕ) (follow enter sizes accepting table flags : List ℕ
   count = places-ready states n follow enter sizes accepting table w (proper .ready) flags
 
   -- What the step of a set has: the places reached from those that its places lead to.
-  step-exactly : (s y : ℕ) → Member y (coverStep R lists s a)
+  pub step-exactly : (s y : ℕ) → Member y (coverStep R lists s a)
       ↔ ((x : ℕ) × (z : ℕ) × (x < states * w) × Member x s × TableMove n a follow enter sizes x z × Reaches Ends z y)
   unfolding coverStep settled
   step-exactly s y = (there, back)

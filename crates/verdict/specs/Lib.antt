@@ -44,6 +44,11 @@ pub mod ColumnOffsets
 pub mod TableMoves
 pub mod TableEnds
 pub mod ColumnsStep
+pub mod WideRows
+pub mod WideRowsLaws
+pub mod WideRowsTurns
+pub mod WideRowsPrepared
+pub mod WideRowsStep
 pub mod Prepared
 pub mod NextCover
 pub mod ColumnLists

@@ -1,5 +1,5 @@
 -- Cover sets as they stand in the workspace (Coded): the first one and the step over a label. Where sets are turned they go by columns
--- (Prepared), and the step by columns is the step of the cover set.
+-- (Prepared), and the step by columns is the step of the cover set; so is the step by rows of two words, of a set that stands as it is.
 use Prim.Native.Nat.{ℕ, suc, _+_, _*_, _^_, _≤_, _<_}
 use mathlib.Core.List.{List, [], _∷_}
 use mathlib.Core.Path.{_≡_, sym, ap, _∙_, subst}
@@ -18,16 +18,20 @@ use Rattle.verdict.specs.CoverTold.{StartTold, StepTold, StartStands, St
 use Rattle.verdict.specs.Columns.{ColumnsOf, SetOf, Stepped}
 use Rattle.verdict.specs.ColumnsStep.{columns-step}
 use Rattle.verdict.specs.CodedLaws.{stands-turned, turned-stands, stands-same, same-stands}
-use Rattle.verdict.specs.Prepared.{Prepared}
+use Rattle.verdict.specs.Prepared.{Prepared, RowsReady}
 use Rattle.verdict.specs.Turned.{Turned, Stacked}
 use Rattle.verdict.specs.TurnedColumns.{columnIn, member-column}
 use Rattle.verdict.specs.TurnedLaws.{turn, turn-made}
+use Rattle.verdict.specs.WideRows.{RowsLaid, LaidWithin, RowsStepped}
+use Rattle.verdict.specs.WideRowsStep.{laid-within, rows-step}
 
--- What a step needs of a set: its columns, where it stands turned, and room for them.
-pub record Laid (states n : ℕ) (follow enter sizes accepting table : List ℕ) (w : ℕ) (before ended set laid : List ℕ) : Type 0 where
+-- What a step needs of a set: its columns, where it stands turned, and room for them; the rows that can come next, where steps go by rows.
+pub record Laid (states n : ℕ) (follow enter sizes accepting table : List ℕ) (w rows : ℕ) (before ended set laid : List ℕ) : Type 0 where
   pub prepared : 0 < w → Prepared states n follow enter sizes accepting table w before ended
-  pub stacked : 0 < w → Stacked w states laid (numberOf set)
+  pub stacked : rows ≡ 0 → 0 < w → Stacked w states laid (numberOf set)
   pub room : w ≤ length laid
+  pub by-rows : 0 < rows → RowsReady states n follow enter sizes accepting table w rows before ended laid
+  pub rows-laid : 0 < rows → RowsLaid rows states before (numberOf set) laid
 
 -- How many words have all places of a set as it stands.
 pub record Used (states w r : ℕ) : Type 0 where
@@ -136,3 +140,29 @@ step-plain {states} {n} {follow} {enter} {sizes} {accepting} {table} {a} set r {
           (ap (λ z. coverStep (rewritten states table flags) (automataOf follow enter sizes accepting n) z a) (stands-same w states C (numberOf set) e s)
           ∙ sym (t .told proper l flags));
     }
+
+-- Where steps go by rows.
+module _ {states n : ℕ} {follow enter sizes accepting table : List ℕ} {w rows : ℕ} {before ended laid : List ℕ}
+    (ready : RowsReady states n follow enter sizes accepting table w rows before ended laid)
+    (set : List ℕ) (rows-laid : RowsLaid rows states before (numberOf set) laid) where
+  wide-rows : rows ≡ suc (occupied sizes 0 n)
+  wide-rows = ready .ready .wide
+
+  short-rows : suc (occupied sizes 0 n) ≤ 128
+  short-rows = omega (arith, wide-rows, ready .short)
+
+  laid-wide : RowsLaid (suc (occupied sizes 0 n)) states before (numberOf set) laid
+  laid-wide = subst (λ z. RowsLaid z states before (numberOf set) laid) wide-rows rows-laid
+
+  -- What comes next is an occurrence.
+  pub rows-within : LaidWithin rows states laid
+  rows-within =
+      subst (λ z. LaidWithin z states laid) (sym wide-rows)
+      (laid-within states n follow enter sizes accepting before (numberOf set) laid short-rows (ready .prepared) laid-wide)
+
+  pub rows-stand : {a : ℕ} (r : List ℕ) → RowsStepped rows states n a before ended laid (numberOf r)
+      → StepStands w states n follow enter sizes accepting table a set r
+  rows-stand {a} r stepped =
+      step-plain set r (ready .plain)
+      (rows-step states n a follow enter sizes accepting table before ended set laid r short-rows (ready .prepared) laid-wide
+      (subst (λ z. RowsStepped z states n a before ended laid (numberOf r)) wide-rows stepped) (ready .finishing))

@@ -38,7 +38,7 @@ fn joined(columns: &[u64], base: usize, from: u64) -> u64
 }
 
 // The occurrences in a set of places, those of a list that has `size` of them, counted from 0.
-fn inner(set: u64, size: u64) -> u64
+pub fn inner(set: u64, size: u64) -> u64
     requires { ⌜ size < 64 ⌝ }
     ensures { λ r. ⌜ r ≡ innerOf set size ⌝ }
 {

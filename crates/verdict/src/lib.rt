@@ -14,4 +14,5 @@ mod prepared;
 mod row_ends;
 mod rows;
 pub mod verdict;
+mod wide_rows;
 pub mod workspace;

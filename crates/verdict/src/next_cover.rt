@@ -11,6 +11,7 @@ ghost use Rattle.verdict.specs.Prepared.{Prepared};
 ghost use Rattle.verdict.specs.Tables.{Counted, occupied};
 ghost use Rattle.verdict.specs.Turned.{Stacked};
 ghost use Rattle.verdict.specs.TurnedColumns.{columnIn};
+ghost use Rattle.verdict.specs.WideRows.{RowsLaid};
 use crate::clear::clear_words;
 use crate::column_steps::step_columns;
 use crate::columns::columns_at;
@@ -18,6 +19,8 @@ use crate::columns::columns_of;
 use crate::columns::pack;
 use crate::cover::cover_start;
 use crate::cover::cover_step;
+use crate::wide_rows::lay_rows;
+use crate::wide_rows::step_rows;
 use crate::workspace::load;
 use places::wide::Wide;
 
@@ -74,14 +77,29 @@ pub fn used_words(states: u64, w: u64) -> usize
     }
 }
 
-// The columns of the cover set of the pair number i, where it stands turned, for all labels.
-pub fn lay(states: u64, w: u64, workspace: &[u64], i: usize, laid: &mut [u64])
-    requires { ⌜ (0 < w → (0 < states) × (states ≤ 64) × (states * w ≤ 1024)) × (18 * i + 18 ≤ length (now workspace)) × (w ≤ length (now laid)) ⌝ }
-    ensures { λ _. ⌜ (0 < w → Stacked w states (now (laid .exit)) (numberOf (wordsAt (now (workspace .entry)) (18 * i + 1) 16))) ⌝ }
+// What all labels have in common of a step from the cover set of the pair number i: its columns, where it stands turned; the rows that can
+// come next, where steps go by rows.
+pub fn lay(
+    states: u64,
+    w: u64,
+    rows: u64,
+    before: &[u64],
+    workspace: &[u64],
+    i: usize,
+    laid: &mut [u64],
+)
+    requires { ⌜ (0 < w → (0 < states) × (states ≤ 64) × (states * w ≤ 1024)) × (18 * i + 18 ≤ length (now workspace)) × (w ≤ length (now laid))
+        × (0 < rows → (64 < rows) × (rows ≤ 128) × (states * rows ≤ 1024) × (352 ≤ length (now before)) × (2 * states ≤ length (now laid))) ⌝ }
+    ensures { λ _. ⌜ (rows ≡ 0 → 0 < w → Stacked w states (now (laid .exit)) (numberOf (wordsAt (now (workspace .entry)) (18 * i + 1) 16)))
+        × (0 < rows → RowsLaid rows states (now (before .entry)) (numberOf (wordsAt (now (workspace .entry)) (18 * i + 1) 16)) (now (laid .exit))) ⌝ }
 {
+    let from = 18 * i + 1;
+    let to = from + 16;
+    if 0 < rows {
+        lay_rows(before, rows, states, &workspace[from..to], laid);
+        return;
+    }
     if 0 < w {
-        let from = 18 * i + 1;
-        let to = from + 16;
         columns_at(&workspace[from..to], w, states, laid);
     }
 }
@@ -126,8 +144,8 @@ fn step_turned(
     );
 }
 
-// The step of the cover set of the pair number i over the label a, as sets stand. `laid` has the columns of the set; `cover` has a set of
-// before, in its first `used` words.
+// The step of the cover set of the pair number i over the label a, as sets stand. `laid` has the columns of the set, or the rows that can
+// come next; `cover` has a set of before, in its first `used` words.
 pub fn next_cover(
     states: u64,
     table: &[u16],
@@ -140,19 +158,25 @@ pub fn next_cover(
     workspace: &[u64],
     i: usize,
     w: u64,
+    rows: u64,
     before: &[u64],
     ended: &[u64],
     laid: &[u64],
     used: usize,
     cover: &mut [u64; 16],
 )
-    requires { ⌜ Laid states lists (now follow) (now enter) (now sizes) (now accepting) (now table) w (now before) (now ended)
+    requires { ⌜ Laid states lists (now follow) (now enter) (now sizes) (now accepting) (now table) w rows (now before) (now ended)
         (wordsAt (now workspace) (18 * i + 1) 16) (now laid) × (a < 32) × (18 * i + 18 ≤ length (now workspace)) × Used states w used
         × (numberOf (now cover) < 2 ^ (64 * used)) ⌝ }
     ensures { λ _. ⌜ StepStands w states lists (now (follow .entry)) (now (enter .entry)) (now (sizes .entry)) (now (accepting .entry)) (now (table .entry)) a
         (wordsAt (now (workspace .entry)) (18 * i + 1) 16) (now (cover .exit)) × (numberOf (now (cover .exit)) < 2 ^ (64 * used))
         × (length (now (cover .exit)) ≡ 16) ⌝ }
 {
+    if 0 < rows {
+        clear_words(cover, 16);
+        step_rows(before, ended, lists, a, rows, states, laid, cover);
+        return;
+    }
     if 0 < w {
         step_turned(
             enter,

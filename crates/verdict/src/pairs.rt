@@ -7,7 +7,7 @@ ghost use Rattle.verdict.specs.PairTable.{Stored};
 ghost use Rattle.verdict.specs.Workspace.{Put, pair};
 ghost use Rattle.verdict.specs.PairIndex.{bucketOf, Indexed, IndexedAll};
 ghost use Rattle.verdict.specs.PairsTold.{lent, QueryFollows, QueryStep, RowTold, PairsTold};
-ghost use Rattle.verdict.specs.Prepared.{Prepared};
+ghost use Rattle.verdict.specs.Prepared.{Prepared, RowsReady};
 use crate::index::bucket;
 use crate::index::note;
 use crate::index::seen;
@@ -99,7 +99,8 @@ fn query_step(after: u64, enter: &[u64], a: usize) -> u64
 }
 
 // The pairs that the labels lead to from the pair number i: those that are new go behind the n that are found. Where w is not 0, cover sets
-// stand turned and steps by columns are prepared; `laid` is for the columns of one of them.
+// stand turned and steps by columns are prepared; where `rows` is not 0, steps by rows are. `laid` is for the columns of one set, or for the
+// rows that can come next.
 fn row(
     states: u64,
     table: &[u16],
@@ -113,6 +114,7 @@ fn row(
     i: usize,
     n: usize,
     w: u64,
+    rows: u64,
     before: &[u64],
     ended: &[u64],
     laid: &mut [u64],
@@ -123,13 +125,14 @@ fn row(
     requires { ⌜ (i < n) × (n ≤ limit) × (limit ≤ 4096) × (labels ≤ 32) × (18 * limit ≤ length (now workspace))
         × Indexed (now workspace) n (now heads) (now nexts)
         × (0 < w → Prepared states lists (now follow) (now enter) (now sizes) (now accepting) (now table) w (now before) (now ended))
-        × (w ≤ length (now laid)) ⌝ }
+        × (w ≤ length (now laid))
+        × (0 < rows → RowsReady states lists (now follow) (now enter) (now sizes) (now accepting) (now table) w rows (now before) (now ended) (now laid)) ⌝ }
     ensures { λ r. ⌜ RowTold (lent states labels lists (now (follow .entry)) (now (enter .entry)) (now (sizes .entry)) (now (accepting .entry)) (now (table .entry)))
         w limit i n (now (workspace .entry)) r (now (workspace .exit)) ⌝ }
     ensures indexed { λ r. ⌜ IndexedAll (now (workspace .exit)) (now (heads .exit)) (now (nexts .exit)) r ⌝ }
 {
     let from = workspace[18 * i];
-    lay(states, w, workspace, i, laid);
+    lay(states, w, rows, before, workspace, i, laid);
     let used = used_words(states, w);
     let mut cover: [u64; 16] = [0; 16];
     let after = query_follows(follow, sizes, from);
@@ -149,6 +152,7 @@ fn row(
             workspace,
             i,
             w,
+            rows,
             before,
             ended,
             laid,
@@ -170,7 +174,7 @@ fn row(
 }
 
 // All pairs from the first on, as long as there are no more than the limit. The index takes 16 KiB of the thread's stack; `laid` is for
-// columns.
+// columns or rows.
 fn sweep(
     states: u64,
     table: &[u16],
@@ -182,6 +186,7 @@ fn sweep(
     labels: usize,
     limit: usize,
     w: u64,
+    rows: u64,
     before: &[u64],
     ended: &[u64],
     laid: &mut [u64],
@@ -189,7 +194,8 @@ fn sweep(
 ) -> Explored
     requires { ⌜ (0 < limit) × (limit ≤ 4096) × (labels ≤ 32) × (18 * limit ≤ length (now workspace))
         × (0 < w → Prepared states lists (now follow) (now enter) (now sizes) (now accepting) (now table) w (now before) (now ended))
-        × (w ≤ length (now laid)) ⌝ }
+        × (w ≤ length (now laid))
+        × (0 < rows → RowsReady states lists (now follow) (now enter) (now sizes) (now accepting) (now table) w rows (now before) (now ended) (now laid)) ⌝ }
     ensures { λ r. ⌜ PairsTold (lent states labels lists (now (follow .entry)) (now (enter .entry)) (now (sizes .entry)) (now (accepting .entry)) (now (table .entry)))
         w limit (now (workspace .entry)) r (now (workspace .exit)) ⌝ }
 {
@@ -227,6 +233,7 @@ fn sweep(
             i,
             n,
             w,
+            rows,
             before,
             ended,
             laid,
@@ -243,7 +250,8 @@ fn sweep(
     Explored::All(n as u64)
 }
 
-// All pairs, as long as there are no more than the allowance, which is at most 4,096. Where w is not 0, cover sets stand turned.
+// All pairs, as long as there are no more than the allowance, which is at most 4,096. Where w is not 0, cover sets stand turned; where `rows`
+// is not 0, steps go by rows.
 pub fn pairs(
     states: u64,
     table: &[u16],
@@ -255,13 +263,15 @@ pub fn pairs(
     labels: usize,
     allowance: u64,
     w: u64,
+    rows: u64,
     before: &[u64],
     ended: &[u64],
     laid: &mut [u64],
     workspace: &mut [u64],
 ) -> Explored
     requires { ⌜ (0 < w → Prepared states lists (now follow) (now enter) (now sizes) (now accepting) (now table) w (now before) (now ended))
-        × (w ≤ length (now laid)) ⌝ }
+        × (w ≤ length (now laid))
+        × (0 < rows → RowsReady states lists (now follow) (now enter) (now sizes) (now accepting) (now table) w rows (now before) (now ended) (now laid)) ⌝ }
     ensures { λ r. ⌜ PairsTold (lent states labels lists (now (follow .entry)) (now (enter .entry)) (now (sizes .entry)) (now (accepting .entry)) (now (table .entry)))
         w allowance (now (workspace .entry)) r (now (workspace .exit)) ⌝ }
 {
@@ -289,6 +299,7 @@ pub fn pairs(
         labels,
         limit,
         w,
+        rows,
         before,
         ended,
         laid,

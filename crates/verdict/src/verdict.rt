@@ -5,6 +5,7 @@ ghost use lib.ListN.{length};
 ghost use Rattle.places.specs.Words.{numberOf};
 ghost use Rattle.verdict.specs.PairTable.{pairAt};
 ghost use Rattle.verdict.specs.PairsTold.{lent, PairsTold};
+ghost use Rattle.verdict.specs.Prepared.{WayChosen};
 ghost use Rattle.verdict.specs.Tables.{Counted, occupied};
 ghost use Rattle.verdict.specs.Missing.{gap, Yields, missesWith, FirstTold};
 ghost use Rattle.verdict.specs.VerdictTold.{Placed, Judged, VerdictTold};
@@ -14,6 +15,7 @@ use crate::pairs::pairs;
 use crate::path::depth;
 use crate::path::write_path;
 use crate::prepared::prepared;
+use crate::wide_rows::prepare_rows;
 use crate::workspace::load;
 use places::wide::Wide;
 use syntax::Refusal;
@@ -128,7 +130,49 @@ struct Search {
     found: Explored,
 }
 
-// Explores the pairs, with lent words for what steps by columns need: `before` and `ended` are prepared, `laid` is for columns.
+// How steps go: by columns, of sets that stand turned, or by rows of two words, of sets as they stand; in each case the width, else 0.
+struct Way {
+    turned: u64,
+    rows: u64,
+}
+
+// By rows where the width has two words: these are prepared in place of what columns need.
+fn chosen_way(
+    follow: &[u64],
+    enter: &[u64],
+    sizes: &[u64],
+    accepting: &[u64],
+    lists: usize,
+    width: u64,
+    before: &mut [u64],
+) -> Way
+    requires { ⌜ (0 < width → Counted lists (now sizes) × (width ≡ suc (occupied (now sizes) 0 lists)) × (64 * lists + 64 ≤ length (now follow))
+        × (32 * lists + 32 ≤ length (now enter)) × (lists < length (now accepting))) × (352 ≤ length (now before)) ⌝ }
+    ensures { λ r. ⌜ WayChosen lists (now (follow .entry)) (now (enter .entry)) (now (sizes .entry)) (now (accepting .entry)) width
+        (now (before .entry)) (now (before .exit)) (r .turned) (r .rows) ⌝ }
+{
+    if width <= 64 {
+        return Way {
+            turned: width,
+            rows: 0,
+        };
+    }
+    if 128 < width {
+        return Way {
+            turned: width,
+            rows: 0,
+        };
+    }
+    if prepare_rows(follow, enter, sizes, accepting, lists, before) {
+        return Way {
+            turned: 0,
+            rows: width,
+        };
+    }
+    Way { turned: 0, rows: 0 }
+}
+
+// Explores the pairs, with lent words for what steps need: `before` and `ended` are prepared, `laid` is for columns or rows.
 fn explore_in(
     states: u64,
     table: &[u16],
@@ -144,12 +188,13 @@ fn explore_in(
     laid: &mut [u64],
     workspace: &mut [u64],
 ) -> Search
-    requires { ⌜ (64 * lists ≤ length (now before)) × (64 * lists ≤ length (now ended)) × (occupied (now sizes) 0 lists < length (now laid)) ⌝ }
+    requires { ⌜ (64 * lists ≤ length (now before)) × (64 * lists ≤ length (now ended)) × (occupied (now sizes) 0 lists < length (now laid))
+        × (352 ≤ length (now before)) × (256 ≤ length (now laid)) ⌝ }
     ensures { λ r. ⌜ (0 < r .turned → r .turned ≡ suc (occupied (now (sizes .entry)) 0 lists))
         × PairsTold (lent states labels lists (now (follow .entry)) (now (enter .entry)) (now (sizes .entry)) (now (accepting .entry)) (now (table .entry)))
         (r .turned) allowance (now (workspace .entry)) (r .found) (now (workspace .exit)) ⌝ }
 {
-    let turned = prepared(
+    let width = prepared(
         states,
         table,
         follow,
@@ -160,6 +205,8 @@ fn explore_in(
         before,
         ended,
     );
+    let chosen = chosen_way(follow, enter, sizes, accepting, lists, width, before);
+    let turned = chosen.turned;
     let found = pairs(
         states,
         table,
@@ -171,6 +218,7 @@ fn explore_in(
         labels,
         allowance,
         turned,
+        chosen.rows,
         before,
         ended,
         laid,
@@ -180,7 +228,7 @@ fn explore_in(
 }
 
 // Explores the pairs. A list needs 64 words of each prepared table and at most 63 columns, so where there are at most four lists, 256
-// words of each suffice: to clear 1,024 takes longer than the verdict of a small job.
+// words of each suffice, and 352 where rows may be prepared: to clear 1,024 takes longer than the verdict of a small job.
 fn explore(
     states: u64,
     table: &[u16],
@@ -199,7 +247,7 @@ fn explore(
         (r .turned) allowance (now (workspace .entry)) (r .found) (now (workspace .exit)) ⌝ }
 {
     if lists <= 4 {
-        let mut before = [0; 256];
+        let mut before = [0; 352];
         let mut ended = [0; 256];
         let mut laid = [0; 256];
         explore_in(

@@ -12,19 +12,21 @@ use Rattle.verdict.specs.PairRows.{not-true, not-false}
 use Rattle.verdict.specs.PairRows.{RowLoop, Stepped, row-start, row-known, row-new, row-exceeds, row-told}
 use Rattle.verdict.specs.PairTable.{wordsAt}
 use Rattle.verdict.specs.PairsTold.{lent}
+use Rattle.verdict.specs.Prepared.{rows-kept}
 use Rattle.verdict.specs.Turned.{Stacked}
+use Rattle.verdict.specs.WideRows.{RowsLaid}
 use native.Mathlib.Omega.{arith}
 use borrow.Author.Needs.{needs}
 use Rattle.verdict.proofs.pairs.row.Statement.{statement}
 use Rattle.verdict.proofs.pairs.row.Tie as tie
 
 abbrev Inv-loop : tie.InvT-loop
-Inv-loop states table follow enter sizes accepting lists labels limit i n w before ended laid workspace₀ heads₀ nexts₀ from used cover₀ after m₀ a₀ workspace heads nexts cover m a =
+Inv-loop states table follow enter sizes accepting lists labels limit i n w rows before ended laid workspace₀ heads₀ nexts₀ from used cover₀ after m₀ a₀ workspace heads nexts cover m a =
     RowLoop (lent states labels lists follow enter sizes accepting table) w limit i n workspace₀ a m workspace
     × Indexed workspace m heads nexts × (numberOf cover < 2 ^ (64 * used))
 
 abbrev μ-loop : tie.MeasureT-loop
-μ-loop states table follow enter sizes accepting lists labels limit i n w before ended laid workspace₀ heads₀ nexts₀ from used cover₀ after m₀ a₀ workspace heads nexts cover m a =
+μ-loop states table follow enter sizes accepting lists labels limit i n w rows before ended laid workspace₀ heads₀ nexts₀ from used cover₀ after m₀ a₀ workspace heads nexts cover m a =
     labels - a
 
 mul-from : tie.Need-mul-from Inv-loop μ-loop
@@ -39,7 +41,7 @@ slice-read-from c = let s = c .before .before .before .before .before .before .b
 lay-requires : tie.Need-lay-requires Inv-loop μ-loop
 lay-requires c κs =
     let s = c .before .before .before .before .before .before .before .before .before .before .before .before in
-    (λ h. let p = s .pre .6 h in (p .some, p .few, p .ready .few-places), omega (arith, s .pre .0, s .pre .1, s .pre .4), s .pre .7)
+    (λ h. let p = s .pre .6 h in (p .some, p .few, p .ready .few-places), omega (arith, s .pre .0, s .pre .1, s .pre .4), s .pre .7, λ h. let r = s .pre .8 h in (r .long, r .short, r .ready .few-places, r .before-room, r .laid-room))
 
 used-words-requires : tie.Need-used-words-requires Inv-loop μ-loop
 used-words-requires c κs = λ h. c .before .before .before .before .before .before .before .before .before .before .before .before .before .before .before .pre .6 h .ready .few-places
@@ -64,8 +66,10 @@ next-cover-requires c κs =
     let s = in-loop .before .before .before .before .before .before .before .before .before .before .before .before .before .before .before .before .before .before .before in (
       record {
         prepared = s .pre .6;
-        stacked = λ h. subst (λ z. Stacked (s .args .w) (s .args .states) (lay .last .1 .1 .1 .1 .0) (numberOf z)) (sym (l .inv .0 .words)) (lay .ensures h);
-        room = omega (arith, lay .kept .1 .1 .1 .1 .0, s .pre .7);
+        stacked = λ z h. subst (λ z. Stacked (s .args .w) (s .args .states) (lay .last .1 .1 .1 .1 .1 .1 .0) (numberOf z)) (sym (l .inv .0 .words)) (lay .ensures .0 z h);
+        room = omega (arith, lay .kept .1 .1 .1 .1 .1 .1 .0, s .pre .7);
+        by-rows = λ h. rows-kept (s .pre .8 h) (lay .kept .1 .1 .1 .1 .1 .1 .0);
+        rows-laid = λ h. subst (λ z. RowsLaid (s .args .rows) (s .args .states) (s .args .before .now) (numberOf z) (lay .last .1 .1 .1 .1 .1 .1 .0)) (sym (l .inv .0 .words)) (lay .ensures .1 h);
       },
       omega (arith, in-loop .loop-test .taken, s .pre .3),
       omega (arith, l .inv .0 .size, s .pre .0, s .pre .1, s .pre .4),
@@ -87,7 +91,7 @@ seen-requires c κs =
     )
 
 same-length : tie.Need-same-length Inv-loop μ-loop
-same-length c = c .before .before .before .before .before .before .before .before .before .before .before .before .before .before .before .before .before .before .before .before .lay .kept .1 .1 .1 .1 .0
+same-length c = c .before .before .before .before .before .before .before .before .before .before .before .before .before .before .before .before .before .before .before .before .lay .kept .1 .1 .1 .1 .1 .1 .0
 
 same-length-2 : tie.Need-same-length-2 Inv-loop μ-loop
 same-length-2 c = c .before .before .before .before .before .before .before .before .before .before .before .before .before .before .before .loop .inv .0 .size
@@ -157,7 +161,7 @@ loop-again : tie.Need-loop-again Inv-loop μ-loop
 loop-again c =
     let seen = c .before in
     let next = c .before .before .before .before .before .before .before .before .next-cover in
-    let cover = next .last .1 .1 .1 .1 .1 .1 .1 .1 .1 .1 .1 .1 .1 .1 .1 .0 in
+    let cover = next .last .1 .1 .1 .1 .1 .1 .1 .1 .1 .1 .1 .1 .1 .1 .1 .1 .0 in
     let q = c .before .before .before .before .before .before .before .before .before .before .before .before .query-step in
     let in-loop = c .before .before .before .before .before .before .before .before .before .before .before .before .before in
     let l = in-loop .before .loop in
@@ -193,7 +197,7 @@ loop-again c =
     (c .if1 .came)
 
 same-length-3 : tie.Need-same-length-3 Inv-loop μ-loop
-same-length-3 c = c .before .before .before .before .before .before .lay .kept .1 .1 .1 .1 .0
+same-length-3 c = c .before .before .before .before .before .before .lay .kept .1 .1 .1 .1 .1 .1 .0
 
 same-length-4 : tie.Need-same-length-4 Inv-loop μ-loop
 same-length-4 c = c .before .loop .inv .0 .size

@@ -9,18 +9,19 @@ use Rattle.verdict.specs.PairsTold.{lent}
 use Rattle.verdict.specs.PairIndex.{Indexed}
 use Rattle.verdict.specs.PairIndexLaws.{indexed-none}
 use Rattle.verdict.specs.PairRows.{SweepLoop, sweep-start, sweep-turn, sweep-exceeds, pairs-told, told-before}
+use Rattle.verdict.specs.Prepared.{rows-kept}
 use native.Mathlib.Omega.{arith}
 use borrow.Author.Needs.{needs}
 use Rattle.verdict.proofs.pairs.sweep.Statement.{statement}
 use Rattle.verdict.proofs.pairs.sweep.Tie as tie
 
 abbrev Inv-loop : tie.InvT-loop
-Inv-loop states table follow enter sizes accepting lists labels limit w before ended laid₀ workspace₀ heads₀ nexts₀ at n₀ i₀ laid workspace heads nexts n i =
+Inv-loop states table follow enter sizes accepting lists labels limit w rows before ended laid₀ workspace₀ heads₀ nexts₀ at n₀ i₀ laid workspace heads nexts n i =
     SweepLoop (lent states labels lists follow enter sizes accepting table) w limit workspace₀ i n workspace × Indexed workspace n heads nexts
     × (length laid ≡ length laid₀)
 
 abbrev μ-loop : tie.MeasureT-loop
-μ-loop states table follow enter sizes accepting lists labels limit w before ended laid₀ workspace₀ heads₀ nexts₀ at n₀ i₀ laid workspace heads nexts n i = limit - i
+μ-loop states table follow enter sizes accepting lists labels limit w rows before ended laid₀ workspace₀ heads₀ nexts₀ at n₀ i₀ laid workspace heads nexts n i = limit - i
 
 first-cover-requires : tie.Need-first-cover-requires Inv-loop μ-loop
 first-cover-requires c κs =
@@ -68,6 +69,7 @@ row-requires c κs =
       l .inv .1,
       s .pre .4,
       omega (arith, l .inv .2, c .before .before .before .before .before .before .before .before .before .before .before .before .before .before .before .before .before .before .first-cover .kept .1 .1 .1 .1 .1 .1 .1 .1 .1 .1 .0, s .pre .5),
+      λ h. rows-kept (s .pre .6 h) (l .inv .2 ∙ c .before .before .before .before .before .before .before .before .before .before .before .before .before .before .before .before .before .before .first-cover .kept .1 .1 .1 .1 .1 .1 .1 .1 .1 .1 .0),
     )
 
 enum-known-found : tie.Need-enum-known-found Inv-loop μ-loop
@@ -77,10 +79,10 @@ enum-told : tie.Need-enum-told Inv-loop μ-loop
 enum-told c = search needs
 
 same-length : tie.Need-same-length Inv-loop μ-loop
-same-length c = c .before .before .before .before .before .before .row .kept .1 .1 .1 .1 .1 .1 .1 .1 .1 .1 .1 .1 .1 .1 .0 ∙ c .before .before .before .before .before .before .before .before .before .before .before .before .loop .inv .2 ∙ c .before .before .before .before .before .before .before .before .before .before .before .before .before .before .before .before .before .before .before .before .before .before .before .before .before .first-cover .kept .1 .1 .1 .1 .1 .1 .1 .1 .1 .1 .0
+same-length c = c .before .before .before .before .before .before .row .kept .1 .1 .1 .1 .1 .1 .1 .1 .1 .1 .1 .1 .1 .1 .1 .0 ∙ c .before .before .before .before .before .before .before .before .before .before .before .before .loop .inv .2 ∙ c .before .before .before .before .before .before .before .before .before .before .before .before .before .before .before .before .before .before .before .before .before .before .before .before .before .first-cover .kept .1 .1 .1 .1 .1 .1 .1 .1 .1 .1 .0
 
 same-length-2 : tie.Need-same-length-2 Inv-loop μ-loop
-same-length-2 c = c .before .before .before .before .before .before .row .kept .1 .1 .1 .1 .1 .1 .1 .1 .1 .1 .1 .1 .1 .1 .1 .0 ∙ c .before .before .before .before .before .before .before .before .before .before .before .before .loop .inv .0 .size ∙ c .before .before .before .before .before .before .before .before .before .before .before .before .before .before .before .add .ensures .0 .size
+same-length-2 c = c .before .before .before .before .before .before .row .kept .1 .1 .1 .1 .1 .1 .1 .1 .1 .1 .1 .1 .1 .1 .1 .1 .0 ∙ c .before .before .before .before .before .before .before .before .before .before .before .before .loop .inv .0 .size ∙ c .before .before .before .before .before .before .before .before .before .before .before .before .before .before .before .add .ensures .0 .size
 
 returns : tie.Need-returns Inv-loop μ-loop
 returns c =
@@ -88,9 +90,9 @@ returns c =
     let first = c .before .before .before .before .before .before .before .before .before .before .before .before .before .before .before in
     let s = c .before .before .before .before .before .before .before .before .before .before .before .before .before .before .before .before .before .before .before .before .before .before .before .before .before .before .before .before .before .before .before .before .before .before .before .before in
     let r = c .before .before .before .before .before .before .row in
-    told-before _ _ _ _ (first .add .last .0) _ _ (r .last .1 .1 .1 .1 .1 .1 .1 .1 .1 .1 .1 .1 .1 .1 .1 .0) (s .pre .0) (first .add .ensures .0)
+    told-before _ _ _ _ (first .add .last .0) _ _ (r .last .1 .1 .1 .1 .1 .1 .1 .1 .1 .1 .1 .1 .1 .1 .1 .1 .0) (s .pre .0) (first .add .ensures .0)
     (sweep-exceeds _ _ _ (first .add .last .0) (l .i) (l .n) (l .workspace) (l .inv .0) (c .before .before .before .before .before .before .before .before .before .before .before .loop-test .taken)
-    (r .result) (r .last .1 .1 .1 .1 .1 .1 .1 .1 .1 .1 .1 .1 .1 .1 .1 .0) (r .ensures .0) (c .enum-told .given .1))
+    (r .result) (r .last .1 .1 .1 .1 .1 .1 .1 .1 .1 .1 .1 .1 .1 .1 .1 .1 .0) (r .ensures .0) (c .enum-told .given .1))
 
 add-i : tie.Need-add-i Inv-loop μ-loop
 add-i c = omega (arith, c .before .before .before .before .before .before .before .before .before .before .before .before .loop-test .taken, c .before .before .before .before .before .before .before .before .before .before .before .before .before .loop .inv .0 .within, c .before .before .before .before .before .before .before .before .before .before .before .before .before .before .before .before .before .before .before .before .before .before .before .before .before .before .before .before .before .before .before .before .before .before .before .before .before .pre .1)
@@ -104,9 +106,9 @@ loop-again c =
     let first = c .before .before .before .before .before .before .before .before .before .before .before .before .before .before .before .before in
     let r = c .before .before .before .before .before .before .before .row in (
       sweep-turn _ _ _ (first .add .last .0) (l .i) (l .n) (l .workspace) (l .inv .0) (c .before .before .before .before .before .before .before .before .before .before .before .before .loop-test .taken) (r .result)
-          (r .last .1 .1 .1 .1 .1 .1 .1 .1 .1 .1 .1 .1 .1 .1 .1 .0) (r .ensures .0) _ (c .before .found .given .1) (r .kept .1 .1 .1 .1 .1 .1 .1 .1 .1 .1 .1 .1 .1 .1 .1 .0),
+          (r .last .1 .1 .1 .1 .1 .1 .1 .1 .1 .1 .1 .1 .1 .1 .1 .1 .0) (r .ensures .0) _ (c .before .found .given .1) (r .kept .1 .1 .1 .1 .1 .1 .1 .1 .1 .1 .1 .1 .1 .1 .1 .1 .0),
       r .ensures .1 _ (c .before .found .given .1),
-      r .kept .1 .1 .1 .1 .1 .1 .1 .1 .1 .1 .1 .1 .1 .1 .0 ∙ l .inv .2,
+      r .kept .1 .1 .1 .1 .1 .1 .1 .1 .1 .1 .1 .1 .1 .1 .1 .0 ∙ l .inv .2,
     )
 
 same-length-3 : tie.Need-same-length-3 Inv-loop μ-loop

@@ -18,7 +18,7 @@ explore-in-requires : tie.Need-explore-in-requires
 explore-in-requires c κs =
     let s = c .before .before .before .before .before .before .before .before .before .before .before in
     let few = occupied-few (s .args .sizes .now) (s .args .lists) 0 (s .args .lists) (omega arith) (s .pre) in
-    (omega arith, omega arith, omega (arith, few))
+    (omega arith, omega arith, omega (arith, few), omega arith, omega arith)
 
 slice-aggregate-explore-in-4 : tie.Need-slice-aggregate-explore-in-4
 slice-aggregate-explore-in-4 c = search needs
@@ -33,7 +33,7 @@ explore-in-requires-2 : tie.Need-explore-in-requires-2
 explore-in-requires-2 c κs =
     let s = c .before .before .before .before .before .before .before .before .before .before .before in
     let few = occupied-few (s .args .sizes .now) (s .args .lists) 0 (s .args .lists) (omega arith) (s .pre) in
-    (omega (arith, s .pre .few), omega (arith, s .pre .few), omega (arith, few, s .pre .few))
+    (omega (arith, s .pre .few), omega (arith, s .pre .few), omega (arith, few, s .pre .few), omega arith, omega arith)
 
 same-length : tie.Need-same-length
 same-length c = c .before .before .before .before .before .explore-in .kept .1 .1 .1 .1 .1 .1 .1 .1 .1 .1 .1 .1 .0

@@ -1,7 +1,8 @@
 -- The columns have room where sets stand turned: then the width is one more than the occurrences.
 use Prim.Native.Nat.{ℕ, zero, suc, _≤_, _<_}
-use mathlib.Core.Path.{_≡_}
+use mathlib.Core.Path.{_≡_, _∙_}
 use native.Mathlib.Omega.{arith}
+use Rattle.verdict.specs.Prepared.{columns-chosen, rows-chosen}
 use Rattle.verdict.proofs.verdict.explore_in.Statement.{statement}
 use Rattle.verdict.proofs.verdict.explore_in.Tie as tie
 
@@ -14,31 +15,46 @@ prepared-requires c κs =
     let s = c .before .before .before .before .before .before .before .before .before .before .before in
     (s .pre .0, s .pre .1)
 
+chosen-way-requires : tie.Need-chosen-way-requires
+chosen-way-requires c κs =
+    let s = c .before .before .before .before .before .before .before .before .before .before .before .before .before .before .before .before .before in
+    let p = c .before .before .before .before .before .prepared in (
+      λ h. let r = p .ensures h .ready in (r .counted, r .wide, r .follow-room, r .enter-room, r .accepting-room),
+      omega (arith, p .kept .1 .1 .1 .1 .1 .1 .1 .0, s .pre .3),
+    )
+
 pairs-requires : tie.Need-pairs-requires
 pairs-requires c κs =
-    let made = c .before .before .before .before .before .before .before .before .prepared .ensures in
-    (made, turned-fits _ _ _ (λ h. made h .ready .wide) (c .before .before .before .before .before .before .before .before .before .before .before .before .before .before .before .before .before .before .before .before .pre .2))
+    let s = c .before .before .before .before .before .before .before .before .before .before .before .before .before .before .before .before .before .before .before .before .before .before .before .before in
+    let p = c .before .before .before .before .before .before .before .before .before .before .before .before .prepared in
+    let way = c .before .before .before .before .before .before .chosen-way in
+    let by-columns = columns-chosen (p .ensures) (way .ensures) in (
+      by-columns,
+      turned-fits _ _ _ (λ h. by-columns h .ready .wide) (s .pre .2),
+      rows-chosen (p .ensures) (way .ensures) (omega (arith, way .kept .1 .1 .1 .1 .1 .1 .0, p .kept .1 .1 .1 .1 .1 .1 .1 .0, s .pre .3)) (omega (arith, s .pre .4)),
+    )
 
 same-length : tie.Need-same-length
-same-length c = c .before .before .before .before .before .before .before .before .before .before .before .before .before .prepared .kept .1 .1 .1 .1 .1 .1 .1 .0
+same-length c = c .before .before .before .before .before .before .before .before .before .before .before .chosen-way .kept .1 .1 .1 .1 .1 .1 .0 ∙ c .before .before .before .before .before .before .before .before .before .before .before .before .before .before .before .before .before .prepared .kept .1 .1 .1 .1 .1 .1 .1 .0
 
 same-length-2 : tie.Need-same-length-2
-same-length-2 c = c .before .before .before .before .before .before .before .before .before .before .before .before .before .prepared .kept .1 .1 .1 .1 .1 .1 .1 .1 .0
+same-length-2 c = c .before .before .before .before .before .before .before .before .before .before .before .before .before .before .before .before .before .prepared .kept .1 .1 .1 .1 .1 .1 .1 .1 .0
 
 same-length-3 : tie.Need-same-length-3
-same-length-3 c = c .before .before .before .before .pairs .kept .1 .1 .1 .1 .1 .1 .1 .1 .1 .1 .1 .1 .0
+same-length-3 c = c .before .before .before .before .pairs .kept .1 .1 .1 .1 .1 .1 .1 .1 .1 .1 .1 .1 .1 .0
 
 same-length-4 : tie.Need-same-length-4
-same-length-4 c = c .before .before .before .before .pairs .kept .1 .1 .1 .1 .1 .1 .1 .1 .1 .1 .1 .1 .1 .0
+same-length-4 c = c .before .before .before .before .pairs .kept .1 .1 .1 .1 .1 .1 .1 .1 .1 .1 .1 .1 .1 .1 .0
 
 returns : tie.Need-returns
-returns c = (λ h. c .before .before .before .before .before .before .before .before .before .before .before .before .before .prepared .ensures h .ready .wide, c .before .before .before .before .pairs .ensures)
+returns c = (λ h. columns-chosen (c .before .before .before .before .before .before .before .before .before .before .before .before .before .before .before .before .before .prepared .ensures) (c .before .before .before .before .before .before .before .before .before .before .before .chosen-way .ensures) h .ready .wide, c .before .before .before .before .pairs .ensures)
 
 pub explore-in-spec : {M : Type 1} → statement M
 explore-in-spec =
     tie.close
     (tie.spec
     prepared-requires
+    chosen-way-requires
     pairs-requires
     same-length
     same-length-2
