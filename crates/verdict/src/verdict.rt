@@ -136,7 +136,8 @@ struct Way {
     rows: u64,
 }
 
-// By rows where the width has two words: these are prepared in place of what columns need.
+// By rows where the width has two words: these are prepared in place of what columns need. The ends of a row are looked for list by list, so
+// that with many lists columns are the shorter way.
 fn chosen_way(
     follow: &[u64],
     enter: &[u64],
@@ -151,6 +152,12 @@ fn chosen_way(
     ensures { λ r. ⌜ WayChosen lists (now (follow .entry)) (now (enter .entry)) (now (sizes .entry)) (now (accepting .entry)) width
         (now (before .entry)) (now (before .exit)) (r .turned) (r .rows) ⌝ }
 {
+    if 4 < lists {
+        return Way {
+            turned: width,
+            rows: 0,
+        };
+    }
     if width <= 64 {
         return Way {
             turned: width,
