@@ -17,7 +17,7 @@ use Rattle.theory.specs.PlacesShift.{member-cut}
 use Rattle.places.specs.NextPlace.{trailing-here}
 use Rattle.places.specs.Followed.{FollowedLeft, followed-start, followed-turn, followed-end, least-left}
 use Rattle.verdict.specs.Columns.{StatesWithin}
-use Rattle.verdict.specs.RowEndsLaws.{mask}
+use Rattle.verdict.specs.WordBits.{one-bit}
 use Rattle.verdict.specs.TurnedColumns.{Puts}
 
 -- The offsets of a set's places after `base` are below `room`.
@@ -157,7 +157,7 @@ joined-inner columns base from d =
 
 -- The occurrences of a set as a word has them.
 pub inner-exactly : (s size : ℕ) → size < 64 → bitAnd (s / 2) ((1 * 2 ^ size) % 2 ^ 64 - 1) ≡ innerOf s size
-inner-exactly s size h = ap (λ z. bitAnd (s / 2) (z - 1)) (mask size 0 (omega arith)) ∙ and-mask (s / 2) size
+inner-exactly s size h = ap (λ z. bitAnd (s / 2) (z - 1)) (one-bit size (omega arith)) ∙ and-mask (s / 2) size
 
 -- The occurrences of a set whose offsets are below a bound.
 pub below-after : (base from room : ℕ) → Below base from room → Below (base + 1) (from / 2) room

@@ -6,7 +6,7 @@ use native.Mathlib.Decide.{decLe}
 use native.Mathlib.Omega.{arith}
 use lib.ListN.{getD}
 use Rattle.verdict.specs.Tables.{occupied}
-use Rattle.verdict.specs.RowEndsLaws.{occupied-more, occupied-grows}
+use Rattle.verdict.specs.TablesLaws.{occupied-more, occupied-grows}
 use Rattle.verdict.specs.Columns.{offsetIn}
 
 module _ (sizes : List ℕ) where

@@ -12,7 +12,7 @@ use Rattle.theory.specs.PlacesLaws.{member-none, member-suc, member-below, memb
 use Rattle.theory.specs.PlacesLaws.{member-unionOver, members-below, decMember}
 use Rattle.theory.specs.PlacesShift.{member-cut}
 use Rattle.verdict.specs.Tables.{occupied, Counted}
-use Rattle.verdict.specs.RowEndsLaws.{occupied-more, occupied-grows}
+use Rattle.verdict.specs.TablesLaws.{occupied-more, occupied-grows}
 use Rattle.verdict.specs.Columns.{offsetIn, StatesWithin, PlacesWithin, EndedWithin, Stepped}
 use Rattle.verdict.specs.ColumnOffsets.{occupied-room, offset-below}
 use Rattle.verdict.specs.ColumnLists.{innerOf, columnOf, endingOf, ListColumns, when-has, when-lacks, member-joined}

@@ -1,13 +1,12 @@
 -- Cover sets by columns, where there are at most 64 states: the column of an offset is the set of the states that have a place with this
 -- offset in the set. What is prepared for steps by columns, and what a step promises.
-use Prim.Native.Nat.{ℕ, zero, suc, _+_, _*_, _^_, _≤_, _<_}
+use Prim.Native.Nat.{ℕ, zero, suc, _+_, _*_, _/_, _%_, _^_, _≤_, _<_}
 use mathlib.Core.List.{List}
 use mathlib.Core.Logic.{_↔_}
 use mathlib.Core.Path.{_≡_}
 use lib.ListN.{getD}
 use Rattle.theory.specs.Places.{Member}
 use Rattle.theory.specs.Closure.{Reaches}
-use Rattle.places.specs.Words.{numberOf}
 use Rattle.verdict.specs.Tables.{occupied}
 
 -- The offset of the place o of the list v: its start is the state alone, an occurrence comes after those of the lists before.
@@ -19,16 +18,16 @@ offsetIn sizes v (suc o) = occupied sizes 0 v + suc o
 abbrev pub StatesWithin : ℕ → ℕ → List ℕ → Type 0
 StatesWithin w states columns = (q o : ℕ) → o < w → Member q (getD columns o 0) → q < states
 
--- The columns of a cover set.
-pub record ColumnsOf (w states : ℕ) (set columns : List ℕ) : Type 0 where
-  pub exact : (q o : ℕ) → q < states → o < w → Member q (getD columns o 0) ↔ Member (w * q + o) (numberOf set)
+-- The columns of the cover set C.
+pub record ColumnsOf (w states C : ℕ) (columns : List ℕ) : Type 0 where
+  pub exact : (q o : ℕ) → q < states → o < w → Member q (getD columns o 0) ↔ Member (w * q + o) C
   pub within : StatesWithin w states columns
 
--- The set of columns, which has no other places; `next` gives the column of each offset.
-pub record SetOf (w states : ℕ) (next : ℕ → ℕ) (set : List ℕ) : Type 0 where
-  pub exact : (q o : ℕ) → q < states → o < w → Member q (next o) ↔ Member (w * q + o) (numberOf set)
+-- The set C of columns, which has no other places; `next` gives the column of each offset.
+pub record SetOf (w states : ℕ) (next : ℕ → ℕ) (C : ℕ) : Type 0 where
+  pub exact : (q o : ℕ) → q < states → o < w → Member q (next o) ↔ Member (w * q + o) C
   pub within : (q o : ℕ) → o < w → Member q (next o) → q < states
-  pub below : numberOf set < 2 ^ (states * w)
+  pub below : C < 2 ^ (states * w)
 
 -- The entry 64 × v + p has places of the list v alone.
 abbrev pub PlacesWithin : ℕ → List ℕ → List ℕ → Type 0
@@ -45,10 +44,18 @@ pub record Leading (n : ℕ) (follow sizes before : List ℕ) : Type 0 where
 abbrev pub Passes : ℕ → List ℕ → List ℕ → ℕ → ℕ → Type 0
 Passes n accepting table q t = (v : ℕ) × (v < n) × Member 0 (getD accepting (v + 1) 0) × (t ≡ getD table (16 * q + v) 0)
 
--- The entry t has the states that lists with the empty path lead to from the state t.
-pub record Passing (states n : ℕ) (accepting table passes : List ℕ) : Type 0 where
-  pub exact : (q t : ℕ) → q < states → Member t (getD passes q 0) ↔ Reaches (Passes n accepting table) q t
-  pub within : (q t : ℕ) → q < states → Member t (getD passes q 0) → t < states
+-- Each next state is one of the states.
+abbrev pub NextBelow : ℕ → ℕ → List ℕ → Type 0
+NextBelow states n table = (q v : ℕ) → q < states → v < n → getD table (16 * q + v) 0 < states
+
+-- The state t is in the k words of the state q.
+abbrev pub LeadsIn : ℕ → List ℕ → ℕ → ℕ → Type 0
+LeadsIn k passes q t = (t / 64 < k) × Member (t % 64) (getD passes (k * q + t / 64) 0)
+
+-- The k words at k × state have the states that lists with the empty path lead to from that state.
+pub record Passing (k states n : ℕ) (accepting table passes : List ℕ) : Type 0 where
+  pub exact : (q t : ℕ) → q < states → LeadsIn k passes q t ↔ Reaches (Passes n accepting table) q t
+  pub within : (q t : ℕ) → q < states → LeadsIn k passes q t → t < states
 
 -- The entry 64 × v + q has states below `states` alone.
 abbrev pub EndedWithin : ℕ → ℕ → List ℕ → Type 0

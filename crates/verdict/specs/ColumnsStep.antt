@@ -13,7 +13,6 @@ use Rattle.theory.specs.PlacesLaws.{member-below, member-unionOver, unionOver-b
 use Rattle.theory.specs.Closure.{Reaches, here, onward, closure}
 use Rattle.theory.specs.ClosureLaws.{closure-exactly}
 use Rattle.theory.specs.Automaton.{Automaton}
-use Rattle.places.specs.Words.{numberOf}
 use Rattle.verdict.specs.Cover.{Rewritten, places, moves, ends, settled, coverStep}
 use Rattle.verdict.specs.Tables.{automataOf, occupied, rewritten, Counted, Proper}
 use Rattle.verdict.specs.CoverBounds.{moves-below, ends-below, state-of-place}
@@ -95,12 +94,12 @@ module _ (states n a : ℕ) (follow enter sizes accepting table flags : List ℕ
             r,
           )
 
-  module _ (before ended set columns : List ℕ) (next : ℕ → ℕ) (set′ : List ℕ) (leading : Leading n follow sizes before)
-      (finishing : Finishing states n accepting table ended) (of : ColumnsOf w states set columns)
-      (stepped : Stepped n a enter sizes accepting before ended columns next) (set-of : SetOf w states next set′) where
+  module _ (before ended columns : List ℕ) (C : ℕ) (next : ℕ → ℕ) (D : ℕ) (leading : Leading n follow sizes before)
+      (finishing : Finishing states n accepting table ended) (of : ColumnsOf w states C columns)
+      (stepped : Stepped n a enter sizes accepting before ended columns next) (set-of : SetOf w states next D) where
     -- A state in the column of an occurrence: a place of the set leads there.
     moved-from : (v p q : ℕ) → v < n → 0 < p → p ≤ getD sizes (v + 1) 0 → Member q (next (occupied sizes 0 v + p))
-        → (q < states) × ((x : ℕ) × (x < states * w) × Member x (numberOf set)
+        → (q < states) × ((x : ℕ) × (x < states * w) × Member x C
         × TableMove n a follow enter sizes x (w * q + (occupied sizes 0 v + p)))
     moved-from v p q h s k m =
         let (i, (o, j, c)) = stepped .moved v p q h s k .0 m in
@@ -128,7 +127,7 @@ module _ (states n a : ℕ) (follow enter sizes accepting table flags : List ℕ
         )
 
     -- Every place of the stepped columns is one of the step.
-    column-there : (q o : ℕ) → q < states → o < w → Member q (next o) → Member (w * q + o) (coverStep R lists (numberOf set) a)
+    column-there : (q o : ℕ) → q < states → o < w → Member q (next o) → Member (w * q + o) (coverStep R lists C a)
     column-there q zero h k m =
         let (v, p, r, l, s, i, c, j, d) = stepped .alone q .0 m in
         let (inside, (x, b, e, t)) = moved-from v p r l s i j in
@@ -137,17 +136,17 @@ module _ (states n a : ℕ) (follow enter sizes accepting table flags : List ℕ
         let onwards = table-reached-back states n follow enter sizes accepting table flags counted room
         (getD table (16 * r + v) 0) q (finishing .exact r v q inside l .0 d) in
         let same : w * q ≡ w * q + 0 = omega arith in
-        subst (λ y. Member y (coverStep R lists (numberOf set) a)) same
-        (step-exactly (numberOf set) (w * q) .1 (x, z, b, e, t, onward ends-here onwards))
+        subst (λ y. Member y (coverStep R lists C a)) same
+        (step-exactly C (w * q) .1 (x, z, b, e, t, onward ends-here onwards))
     column-there q (suc o) h k m =
         let (v, i, l, s, e) = occurrence-at sizes n (suc o) (omega arith) (omega arith) in
         let (inside, (x, b, j, t)) = moved-from v (suc i) q l (omega arith) s (subst (λ y. Member q (next y)) e m) in
-        subst (λ y. Member (w * q + y) (coverStep R lists (numberOf set) a)) (sym e)
-        (step-exactly (numberOf set) (w * q + (occupied sizes 0 v + suc i)) .1 (x, w * q + (occupied sizes 0 v + suc i), b, j, t, here))
+        subst (λ y. Member (w * q + y) (coverStep R lists C a)) (sym e)
+        (step-exactly C (w * q + (occupied sizes 0 v + suc i)) .1 (x, w * q + (occupied sizes 0 v + suc i), b, j, t, here))
 
     -- A place that the label leads to is in its column, and so are the states alone that are reached from it.
 
-    move-column : (x z : ℕ) → x < states * w → Member x (numberOf set) → (t : TableMove n a follow enter sizes x z)
+    move-column : (x z : ℕ) → x < states * w → Member x C → (t : TableMove n a follow enter sizes x z)
         → (t .state < states) × (0 < t .to) × (t .to ≤ getD sizes (t .list + 1) 0)
         × Member (t .state) (next (occupied sizes 0 (t .list) + t .to))
     move-column x z l m t =
@@ -167,7 +166,7 @@ module _ (states n a : ℕ) (follow enter sizes accepting table flags : List ℕ
             (
               t .from,
               leading .exact v (t .from) (t .to) (t .inside) (t .within) (omega (arith, counted .small v (t .inside))) .1 (t .follows),
-              of .exact (t .state) (offsetIn sizes v (t .from)) inside low .1 (subst (λ y. Member y (numberOf set)) (t .starts) m),
+              of .exact (t .state) (offsetIn sizes v (t .from)) inside low .1 (subst (λ y. Member y C) (t .starts) m),
             ),
           ),
         )
@@ -178,8 +177,8 @@ module _ (states n a : ℕ) (follow enter sizes accepting table flags : List ℕ
             (subst (λ y. Member y (getD follow (64 * (t .list + 1) + t .from) 0)) e (t .follows)))
         not-start (no d) = omega arith
 
-    reached-column : (x z y : ℕ) → x < states * w → Member x (numberOf set) → TableMove n a follow enter sizes x z → Reaches Ends z y
-        → Member y (numberOf set′)
+    reached-column : (x z y : ℕ) → x < states * w → Member x C → TableMove n a follow enter sizes x z → Reaches Ends z y
+        → Member y D
     reached-column x z y l m t r = go (first-step r)
       where
         q : ℕ
@@ -194,10 +193,10 @@ module _ (states n a : ℕ) (follow enter sizes accepting table flags : List ℕ
         held : (q < states) × (0 < t .to) × (t .to ≤ getD sizes (v + 1) 0) × Member q (next place)
         held = move-column x z l m t
 
-        go : (z ≡ y) ⊎ ((u : ℕ) × Ends z u × Reaches Ends u y) → Member y (numberOf set′)
+        go : (z ≡ y) ⊎ ((u : ℕ) × Ends z u × Reaches Ends u y) → Member y D
         go (inl e) =
             let (inside, some, small, c) = held in
-            subst (λ u. Member u (numberOf set′)) (sym (t .stops) ∙ e)
+            subst (λ u. Member u D) (sym (t .stops) ∙ e)
             (set-of .exact q place inside (omega (arith, occupied-room sizes v n (t .inside))) .0 c)
         go (inr (u, e, f)) =
             let (inside, some, small, c) = held in
@@ -209,30 +208,30 @@ module _ (states n a : ℕ) (follow enter sizes accepting table flags : List ℕ
             stepped .alone s .1 (v, t .to, q, t .inside, some, small, i, c, finishing .exact q v s inside (t .inside) .1 p) in
             let state : s < states = set-of .within s 0 (omega arith) alone in
             let same : w * s + 0 ≡ y = omega arith in
-            subst (λ u. Member u (numberOf set′)) same (set-of .exact s 0 state (omega arith) .0 alone)
+            subst (λ u. Member u D) same (set-of .exact s 0 state (omega arith) .0 alone)
 
-    same-step : numberOf set′ ≡ coverStep R lists (numberOf set) a
-    same-step = equal-members (numberOf set′) (coverStep R lists (numberOf set) a) λ y. (there y, back y)
+    same-step : D ≡ coverStep R lists C a
+    same-step = equal-members D (coverStep R lists C a) λ y. (there y, back y)
       where
-        there : (y : ℕ) → Member y (numberOf set′) → Member y (coverStep R lists (numberOf set) a)
+        there : (y : ℕ) → Member y D → Member y (coverStep R lists C a)
         there y m =
-            let l : y < states * w = member-below (states * w) (numberOf set′) y (set-of .below) m in
+            let l : y < states * w = member-below (states * w) D y (set-of .below) m in
             let q : y / w < states = state-of-place w states y (omega arith) l in
             let o : y % w < w = mod-lt y (omega arith) in
             let parts : w * (y / w) + y % w ≡ y = div-add-mod y w in
-            subst (λ z. Member z (coverStep R lists (numberOf set) a)) parts
+            subst (λ z. Member z (coverStep R lists C a)) parts
             (column-there (y / w) (y % w) q o
-            (set-of .exact (y / w) (y % w) q o .1 (subst (λ z. Member z (numberOf set′)) (sym parts) m)))
+            (set-of .exact (y / w) (y % w) q o .1 (subst (λ z. Member z D) (sym parts) m)))
 
-        back : (y : ℕ) → Member y (coverStep R lists (numberOf set) a) → Member y (numberOf set′)
+        back : (y : ℕ) → Member y (coverStep R lists C a) → Member y D
         back y m =
-            let (x, z, l, i, t, r) = step-exactly (numberOf set) y .0 m in
+            let (x, z, l, i, t, r) = step-exactly C y .0 m in
             reached-column x z y l i t r
 
-pub columns-step : (states n a : ℕ) (follow enter sizes accepting table before ended set columns : List ℕ) (next : ℕ → ℕ) (set′ : List ℕ)
+pub columns-step : (states n a : ℕ) (follow enter sizes accepting table before ended columns : List ℕ) (C : ℕ) (next : ℕ → ℕ) (D : ℕ)
     → Proper states n follow enter sizes accepting table → a < 32 → Leading n follow sizes before → Finishing states n accepting table ended
-    → ColumnsOf (suc (occupied sizes 0 n)) states set columns → Stepped n a enter sizes accepting before ended columns next
-    → SetOf (suc (occupied sizes 0 n)) states next set′ → (flags : List ℕ)
-    → numberOf set′ ≡ coverStep (rewritten states table flags) (automataOf follow enter sizes accepting n) (numberOf set) a
-columns-step states n a follow enter sizes accepting table before ended set columns next set′ proper h leading finishing of s t flags =
-    same-step states n a follow enter sizes accepting table flags proper h before ended set columns next set′ leading finishing of s t
+    → ColumnsOf (suc (occupied sizes 0 n)) states C columns → Stepped n a enter sizes accepting before ended columns next
+    → SetOf (suc (occupied sizes 0 n)) states next D → (flags : List ℕ)
+    → D ≡ coverStep (rewritten states table flags) (automataOf follow enter sizes accepting n) C a
+columns-step states n a follow enter sizes accepting table before ended columns C next D proper h leading finishing of s t flags =
+    same-step states n a follow enter sizes accepting table flags proper h before ended columns C next D leading finishing of s t

@@ -187,3 +187,7 @@ few-offsets states n sizes accepting table w e = omega (arith, e .wide, e .count
 -- There are no more states than places.
 pub few-states : (states w : ℕ) → 0 < w → states * w ≤ 1024 → states ≤ 1024
 few-states states w h l = omega (arith, mul-le-mul-left states h, mul-one states)
+
+-- Where there is a state, there are no more offsets than places.
+pub few-columns : (w states : ℕ) → 0 < states → states * w ≤ 1024 → w ≤ 1024
+few-columns w states h l = few-states w states h (omega (arith, mul-comm states w))

@@ -1,5 +1,5 @@
 -- The laws of pairs in a workspace (PairTable): reading and storing a pair, and how the entries held grow by one.
-use Prim.Native.Nat.{ℕ, zero, suc, _+_, _*_, _/_, _%_, _^_, _≤_, _<_}
+use Prim.Native.Nat.{ℕ, zero, suc, _+_, _*_, _-_, _/_, _%_, _^_, _≤_, _<_}
 use mathlib.Core.Bool.{Bool, true, false, _||_}
 use mathlib.Core.List.{List, [], _∷_, _++_}
 use mathlib.Core.Path.{_≡_, refl, sym, ap, ap₂, _∙_, subst, subst₂}
@@ -44,6 +44,13 @@ pub words-part : (space : List ℕ) (x n : ℕ) → x + n ≤ length space → w
 words-part space x n h =
     words-known space x n (take n (drop x space)) (simp (length-take, length-drop) (omega arith))
     (λ j k. sym (getD-take n (drop x space) j 0 k ∙ getD-drop x space j 0))
+
+-- The part that is lent as the set of the pair number i.
+pub set-part : (space : List ℕ) (i : ℕ) → 18 * i + 18 ≤ length space
+    → take (18 * i + 1 + 16 - (18 * i + 1)) (drop (18 * i + 1) space) ≡ wordsAt space (18 * i + 1) 16
+set-part space i room =
+    let count : 18 * i + 1 + 16 - (18 * i + 1) ≡ 16 = omega arith in
+    ap (λ k. take k (drop (18 * i + 1) space)) count ∙ sym (words-part space (18 * i + 1) 16 (omega arith))
 
 pub same-words : (space space′ : List ℕ) (x n : ℕ) → ((j : ℕ) → j < n → getD space′ (x + j) 0 ≡ getD space (x + j) 0)
     → wordsAt space′ x n ≡ wordsAt space x n

@@ -1,59 +1,80 @@
--- The loops that tell which states lists with the empty path lead to (Columns, Passing and Finishing): what they keep, turn by turn.
-use Prim.Native.Nat.{ℕ, _+_, _*_, _%_, _^_, _≤_, _<_}
-use mathlib.Core.Bool.{Bool, true, false}
+-- The loops that tell which states lists with the empty path lead to (Columns, Passing): what they keep, turn by turn.
+use Prim.Native.Nat.{ℕ, _+_, _*_, _/_, _%_, _^_, _≤_, _<_}
+use mathlib.Core.Bool.{Bool, false}
 use mathlib.Core.List.{List}
-use mathlib.Core.Logic.{_↔_, _⊎_, inl, inr}
+use mathlib.Core.Logic.{_↔_, _≢_, _⊎_, inl, inr}
 use mathlib.Core.Path.{_≡_, refl, sym, ap, _∙_, subst}
 use native.Mathlib.Decide.{ℕ-discrete}
+use native.Mathlib.Nat.{mul-comm, mul-le-mul-right}
 use native.Mathlib.Omega.{arith}
-use lib.ListN.{length, getD, set, length-set}
+use lib.ListN.{length, getD, set}
 use lib.Seq.{getD-set-same, getD-set-other}
-use borrow.Author.Count.{below-more}
 use Rattle.theory.specs.Places.{Member, one, union}
-use Rattle.theory.specs.PlacesLaws.{member-one, member-union}
+use Rattle.theory.specs.PlacesLaws.{member-none, member-one, member-union}
 use Rattle.theory.specs.Closure.{Reaches, here, onward}
-use Rattle.verdict.specs.Columns.{Passes, Passing, Finishing}
+use Rattle.verdict.specs.Columns.{Passes, NextBelow, LeadsIn, Passing}
+use Rattle.verdict.specs.CoverPlaces.{split-unique, split-below}
 use Rattle.verdict.specs.WordBits.{one-bit}
 
 -- The next states of the state q over the first v lists are states.
 abbrev pub RowBelow : ℕ → List ℕ → ℕ → ℕ → Type 0
 RowBelow states table q v = (u : ℕ) → u < v → getD table (16 * q + u) 0 < states
 
--- Each next state is one of the states.
-abbrev pub NextBelow : ℕ → ℕ → List ℕ → Type 0
-NextBelow states n table = (q v : ℕ) → q < states → v < n → getD table (16 * q + v) 0 < states
-
--- The states can be passed.
-pub record Passable (states n : ℕ) (accepting table : List ℕ) : Type 0 where
-  pub few-states : states ≤ 64
+-- The states can be passed, with k words each.
+pub record Passable (k states n : ℕ) (accepting table : List ℕ) : Type 0 where
+  pub few-words : k ≤ 4
+  pub few-states : states ≤ 64 * k
   pub few-lists : n ≤ 16
   pub accepting-room : n < length accepting
   pub table-room : 16 * states ≤ length table
   pub next : NextBelow states n table
 
--- One of the first v lists, with the empty path, leads from the state t to one whose entry has the state y.
-abbrev pub GainsBy : ℕ → List ℕ → List ℕ → List ℕ → ℕ → ℕ → Type 0
-GainsBy v accepting table passes t y =
-    (u : ℕ) × (u < v) × Member 0 (getD accepting (u + 1) 0) × Member y (getD passes (getD table (16 * t + u) 0) 0)
+-- Each state leads to itself alone.
+abbrev pub Alone : ℕ → ℕ → List ℕ → Type 0
+Alone k states passes = (q t : ℕ) → q < states → LeadsIn k passes q t ↔ (t ≡ q)
 
--- The entry of the state t with those of the states that the first v lists lead to.
-pub record Gathered (v : ℕ) (accepting table passes : List ℕ) (t all : ℕ) : Type 0 where
-  pub told : (y : ℕ) → Member y all ↔ (Member y (getD passes t 0) ⊎ GainsBy v accepting table passes t y)
+-- No word is changed.
+abbrev pub Same : List ℕ → List ℕ → Type 0
+Same passes passes′ = (i : ℕ) → getD passes′ i 0 ≡ getD passes i 0
 
--- Every state has itself, and only states that are reached.
-pub record Sound (states n : ℕ) (accepting table passes : List ℕ) : Type 0 where
-  pub own : (q : ℕ) → q < states → Member q (getD passes q 0)
-  pub reached : (q t : ℕ) → q < states → Member t (getD passes q 0) → Reaches (Passes n accepting table) q t
+-- The word number x gains the places of the word number y; r is false where it has them already.
+pub record WordJoined (x y : ℕ) (passes passes′ : List ℕ) (r : Bool) : Type 0 where
+  pub joined : getD passes′ x 0 ≡ union (getD passes x 0) (getD passes y 0)
+  pub others : (i : ℕ) → i ≢ x → getD passes′ i 0 ≡ getD passes i 0
+  pub unchanged : r ≡ false → getD passes′ x 0 ≡ getD passes x 0
 
--- The entries of the states from t on have what the entries of the states after them have.
-abbrev pub ClosedFrom : ℕ → ℕ → List ℕ → List ℕ → List ℕ → ℕ → Type 0
-ClosedFrom states n accepting table passes t =
-    (q y : ℕ) → t ≤ q → q < states → GainsBy n accepting table passes q y → Member y (getD passes q 0)
+-- The state t gains what the state s leads to; r is false where it leads there already.
+pub record StateJoined (k t s : ℕ) (passes passes′ : List ℕ) (r : Bool) : Type 0 where
+  pub gains : (u : ℕ) → LeadsIn k passes′ t u ↔ (LeadsIn k passes t u ⊎ LeadsIn k passes s u)
+  pub others : (q u : ℕ) → q ≢ t → LeadsIn k passes′ q u ↔ LeadsIn k passes q u
+  pub unchanged : r ≡ false → Same passes passes′
 
--- A round; where it changed nothing, the entries are closed.
-pub record Rounded (states n : ℕ) (accepting table passes : List ℕ) (changed : Bool) : Type 0 where
-  pub sound : Sound states n accepting table passes
-  pub closed : changed ≡ false → ClosedFrom states n accepting table passes 0
+-- One list with the empty path, from the list v on, leads from the state t to one that leads to the state y.
+abbrev pub GainsFrom : ℕ → ℕ → ℕ → List ℕ → List ℕ → List ℕ → ℕ → ℕ → Type 0
+GainsFrom k n v accepting table passes t y =
+    (u : ℕ) × (v ≤ u) × (u < n) × Member 0 (getD accepting (u + 1) 0) × LeadsIn k passes (getD table (16 * t + u) 0) y
+
+-- Every state leads to itself, and only to states that are reached.
+pub record Sound (k states n : ℕ) (accepting table passes : List ℕ) : Type 0 where
+  pub own : (q : ℕ) → q < states → LeadsIn k passes q q
+  pub reached : (q t : ℕ) → q < states → LeadsIn k passes q t → Reaches (Passes n accepting table) q t
+
+-- The state t has gained what the states lead to that one of the lists from v on, with the empty path, leads to. What is sound stays so;
+-- where nothing has changed, the state leads to all of this.
+pub record Gathered (k states n v : ℕ) (accepting table : List ℕ) (t : ℕ) (passes passes′ : List ℕ) (r : Bool) : Type 0 where
+  pub sound : Sound k states n accepting table passes → Sound k states n accepting table passes′
+  pub unchanged : r ≡ false → Same passes passes′
+  pub closed : r ≡ false → (y : ℕ) → GainsFrom k n v accepting table passes t y → LeadsIn k passes t y
+
+-- The states from t on lead to what the states after them lead to.
+abbrev pub ClosedFrom : ℕ → ℕ → ℕ → List ℕ → List ℕ → List ℕ → ℕ → Type 0
+ClosedFrom k states n accepting table passes t =
+    (q y : ℕ) → t ≤ q → q < states → GainsFrom k n 0 accepting table passes q y → LeadsIn k passes q y
+
+-- A round; where it changed nothing, the states are closed.
+pub record Rounded (k states n : ℕ) (accepting table passes : List ℕ) (changed : Bool) : Type 0 where
+  pub sound : Sound k states n accepting table passes
+  pub closed : changed ≡ false → ClosedFrom k states n accepting table passes 0
 
 -- The next states of the states before q are states.
 abbrev pub BelowBefore : ℕ → ℕ → List ℕ → ℕ → Type 0
@@ -67,131 +88,245 @@ below-turn states n table q new l p h = side (ℕ-discrete p q)
     side (yes e) = subst (λ (z : ℕ). RowBelow states table z n) (sym e) new
     side (no d) = l p (omega arith)
 
--- Gathering.
+-- The words of a state are among those of all states, and there are few.
 
-pub gathered-start : (accepting table passes : List ℕ) (t : ℕ) → Gathered 0 accepting table passes t (getD passes t 0)
-gathered-start accepting table passes t = record { told = λ y. (λ m. inl m, λ m. old y m) }
-  where
-    old : (y : ℕ) → Member y (getD passes t 0) ⊎ GainsBy 0 accepting table passes t y → Member y (getD passes t 0)
-    old y (inl m) = m
-    old y (inr (u, h, a, m)) = absurd (omega arith)
+pub word-inside : (k states q i : ℕ) → i < k → q < states → k * q + i < k * states
+word-inside k states q i h l = omega (arith, split-below k states q i h l, mul-comm k states)
 
-pub gathered-skip : (v : ℕ) (accepting table passes : List ℕ) (t all : ℕ) → ¬ Member 0 (getD accepting (v + 1) 0)
-    → Gathered v accepting table passes t all → Gathered (v + 1) accepting table passes t all
-gathered-skip v accepting table passes t all none g =
-    record { told = λ y. (λ m. there y (g .told y .0 m), λ m. g .told y .1 (back y m)) }
-  where
-    there : (y : ℕ) → Member y (getD passes t 0) ⊎ GainsBy v accepting table passes t y
-        → Member y (getD passes t 0) ⊎ GainsBy (v + 1) accepting table passes t y
-    there y (inl m) = inl m
-    there y (inr (u, h, a, m)) = inr (u, omega arith, a, m)
+pub words-inside : (k states q : ℕ) → q < states → k * q + k ≤ k * states
+words-inside k states q h = omega (arith, mul-le-mul-right k h, mul-comm k q, mul-comm k states)
 
-    back : (y : ℕ) → Member y (getD passes t 0) ⊎ GainsBy (v + 1) accepting table passes t y
-        → Member y (getD passes t 0) ⊎ GainsBy v accepting table passes t y
-    back y (inl m) = inl m
-    back y (inr (u, h, a, m)) = inr (u, less (ℕ-discrete u v), a, m)
-      where
-        less : Dec (u ≡ v) → u < v
-        less (yes e) = absurd (none (subst (λ (z : ℕ). Member 0 (getD accepting (z + 1) 0)) e a))
-        less (no d) = omega arith
+pub words-few : (k q : ℕ) → k ≤ 4 → k * q ≤ 4 * q
+words-few k q h = mul-le-mul-right q h
 
-pub gathered-more : (v : ℕ) (accepting table passes : List ℕ) (t all : ℕ) → Member 0 (getD accepting (v + 1) 0)
-    → Gathered v accepting table passes t all
-    → Gathered (v + 1) accepting table passes t (union all (getD passes (getD table (16 * t + v) 0) 0))
-gathered-more v accepting table passes t all some g =
-    record {
-      told = λ y. (
-        λ m. there y (member-union y all entry .0 m),
-        λ m. member-union y all entry .1 (back y m),
-      );
-    }
-  where
-    entry : ℕ
-    entry = getD passes (getD table (16 * t + v) 0) 0
+same-leads : (k : ℕ) (passes passes′ : List ℕ) → Same passes passes′ → (q u : ℕ) → LeadsIn k passes q u → LeadsIn k passes′ q u
+same-leads k passes passes′ e q u (h, m) = (h, subst (Member (u % 64)) (sym (e (k * q + u / 64))) m)
 
-    Later : ℕ → Type 0
-    Later y = Member y (getD passes t 0) ⊎ GainsBy (v + 1) accepting table passes t y
+same-back : (k : ℕ) (passes passes′ : List ℕ) → Same passes passes′ → (q u : ℕ) → LeadsIn k passes′ q u → LeadsIn k passes q u
+same-back k passes passes′ e q u (h, m) = (h, subst (Member (u % 64)) (e (k * q + u / 64)) m)
 
-    there : (y : ℕ) → Member y all ⊎ Member y entry → Later y
-    there y (inr m) = inr (v, omega arith, some, m)
-    there y (inl m) = earlier (g .told y .0 m)
-      where
-        earlier : Member y (getD passes t 0) ⊎ GainsBy v accepting table passes t y → Later y
-        earlier (inl k) = inl k
-        earlier (inr (u, h, a, k)) = inr (u, omega arith, a, k)
+-- Each state alone: the states before t have themselves, and every other word of the states is empty.
 
-    back : (y : ℕ) → Later y → Member y all ⊎ Member y entry
-    back y (inl m) = inl (g .told y .1 (inl m))
-    back y (inr (u, h, a, m)) = side (ℕ-discrete u v)
-      where
-        side : Dec (u ≡ v) → Member y all ⊎ Member y entry
-        side (yes e) = inr (subst (λ (z : ℕ). Member y (getD passes (getD table (16 * t + z) 0) 0)) e m)
-        side (no d) = inl (g .told y .1 (inr (u, omega arith, a, m)))
+pub record AloneBefore (k states : ℕ) (passes : List ℕ) (t : ℕ) : Type 0 where
+  pub own : (q : ℕ) → q < t → getD passes (k * q + q / 64) 0 ≡ one (q % 64)
+  pub others : (q i : ℕ) → q < states → i < k → (q < t → i ≢ q / 64) → getD passes (k * q + i) 0 ≡ 0
 
--- Each state alone.
+pub alone-start : (k states : ℕ) (passes : List ℕ) → ((i : ℕ) → i < k * states → getD passes i 0 ≡ 0) → AloneBefore k states passes 0
+alone-start k states passes zeros =
+    record { own = λ q h. absurd (omega arith); others = λ q i h l d. zeros (k * q + i) (word-inside k states q i l h) }
 
-pub alone-turn : (passes : List ℕ) (t : ℕ) → t < 64 → t < length passes → ((q : ℕ) → q < t → getD passes q 0 ≡ one q)
-    → (q : ℕ) → q < t + 1 → getD (set passes t ((1 * 2 ^ t) % 2 ^ 64)) q 0 ≡ one q
-alone-turn passes t small room l q h = side (ℕ-discrete q t)
+pub alone-turn : (k states : ℕ) (passes : List ℕ) (t : ℕ) → states ≤ 64 * k → t < states → k * t + t / 64 < length passes
+    → AloneBefore k states passes t → AloneBefore k states (set passes (k * t + t / 64) ((1 * 2 ^ (t % 64)) % 2 ^ 64)) (t + 1)
+alone-turn k states passes t few inside room l =
+    record { own = λ q h. mine q h (ℕ-discrete q t); others = λ q i h a d. other q i h a d }
   where
     bit : ℕ
-    bit = (1 * 2 ^ t) % 2 ^ 64
+    bit = (1 * 2 ^ (t % 64)) % 2 ^ 64
 
-    side : Dec (q ≡ t) → getD (set passes t bit) q 0 ≡ one q
+    at : ℕ
+    at = k * t + t / 64
+
+    new : getD (set passes at bit) at 0 ≡ one (t % 64)
+    new = getD-set-same passes at bit 0 room ∙ one-bit (t % 64) (omega arith)
+
+    mine : (q : ℕ) → q < t + 1 → Dec (q ≡ t) → getD (set passes at bit) (k * q + q / 64) 0 ≡ one (q % 64)
+    mine q h (yes e) = subst (λ (z : ℕ). getD (set passes at bit) (k * z + z / 64) 0 ≡ one (z % 64)) (sym e) new
+    mine q h (no d) =
+        getD-set-other passes at (k * q + q / 64) bit 0 (λ e. d (split-unique k q t (q / 64) (t / 64) (omega arith) (omega arith) e .0))
+        ∙ l .own q (omega arith)
+
+    other : (q i : ℕ) → q < states → i < k → (q < t + 1 → i ≢ q / 64) → getD (set passes at bit) (k * q + i) 0 ≡ 0
+    other q i h a d = getD-set-other passes at (k * q + i) bit 0 apart ∙ l .others q i h a (λ b. d (omega arith))
+      where
+        apart : k * q + i ≢ at
+        apart e =
+            let (x, y) = split-unique k q t i (t / 64) a (omega arith) e in
+            d (omega arith) (y ∙ ap (λ (z : ℕ). z / 64) (sym x))
+
+pub alone-end : (k states : ℕ) (passes : List ℕ) (t : ℕ) → states ≤ 64 * k → states ≤ t → AloneBefore k states passes t → Alone k states passes
+alone-end k states passes t few all l q u h = (λ (a, m). same a m (ℕ-discrete (u / 64) (q / 64)), λ e. back e)
+  where
+    word : getD passes (k * q + q / 64) 0 ≡ one (q % 64)
+    word = l .own q (omega arith)
+
+    same : u / 64 < k → Member (u % 64) (getD passes (k * q + u / 64) 0) → Dec (u / 64 ≡ q / 64) → u ≡ q
+    same a m (yes e) =
+        let low : u % 64 ≡ q % 64 =
+        member-one (u % 64) (q % 64) .0 (subst (Member (u % 64)) (ap (λ (z : ℕ). getD passes (k * q + z) 0) e ∙ word) m) in
+        omega arith
+    same a m (no d) = absurd (member-none (u % 64) (subst (Member (u % 64)) (l .others q (u / 64) h a (λ b. d)) m))
+
+    back : u ≡ q → LeadsIn k passes q u
+    back e =
+        subst (LeadsIn k passes q) (sym e)
+        (omega arith, subst (Member (q % 64)) (sym word) (member-one (q % 64) (q % 64) .1 refl))
+
+pub sound-start : (k states n : ℕ) (accepting table passes : List ℕ) → Alone k states passes → Sound k states n accepting table passes
+sound-start k states n accepting table passes alone =
+    record {
+      own = λ q h. alone q q h .1 refl;
+      reached = λ q t h m. subst (Reaches (Passes n accepting table) q) (sym (alone q t h .0 m)) here;
+    }
+
+-- One state's words gain those of another: the words from j on have gained.
+
+pub record Joining (k t s j : ℕ) (passes passes′ : List ℕ) (r : Bool) : Type 0 where
+  pub done : (i : ℕ) → j ≤ i → i < k → getD passes′ (k * t + i) 0 ≡ union (getD passes (k * t + i) 0) (getD passes (k * s + i) 0)
+  pub others : (x : ℕ) → ((i : ℕ) → j ≤ i → i < k → x ≢ k * t + i) → getD passes′ x 0 ≡ getD passes x 0
+  pub unchanged : r ≡ false → Same passes passes′
+
+pub joining-start : (k t s : ℕ) (passes : List ℕ) (r : Bool) → Joining k t s k passes passes r
+joining-start k t s passes r = record { done = λ i h l. absurd (omega arith); others = λ x d. refl; unchanged = λ e i. refl }
+
+-- A word more: r and r′ tell of the words before and of this one, b of both.
+pub joining-turn : (k t s j next : ℕ) (passes₀ passes passes′ : List ℕ) (r r′ b : Bool) → next ≡ j + 1 → j < k
+    → (b ≡ false → (r ≡ false) × (r′ ≡ false)) → WordJoined (k * t + j) (k * s + j) passes passes′ r′ → Joining k t s next passes₀ passes r
+    → Joining k t s j passes₀ passes′ b
+joining-turn k t s j next passes₀ passes passes′ r r′ b turn small both w l =
+    record {
+      done = λ i h a. this i h a (ℕ-discrete i j);
+      others = λ x d. w .others x (d j (omega arith) small) ∙ l .others x (λ i h a. d i (omega arith) a);
+      unchanged = λ e x. same e x (ℕ-discrete x (k * t + j));
+    }
+  where
+    -- The words number j were not yet changed.
+    before : (q : ℕ) → getD passes (k * q + j) 0 ≡ getD passes₀ (k * q + j) 0
+    before q = l .others (k * q + j) (λ i h a e. omega (arith, split-unique k q t j i small a e .1))
+
+    this : (i : ℕ) → j ≤ i → i < k → Dec (i ≡ j)
+        → getD passes′ (k * t + i) 0 ≡ union (getD passes₀ (k * t + i) 0) (getD passes₀ (k * s + i) 0)
+    this i h a (yes e) =
+        subst (λ z. getD passes′ (k * t + z) 0 ≡ union (getD passes₀ (k * t + z) 0) (getD passes₀ (k * s + z) 0)) (sym e)
+        (w .joined ∙ ap (λ z. union z (getD passes (k * s + j) 0)) (before t) ∙ ap (union (getD passes₀ (k * t + j) 0)) (before s))
+    this i h a (no d) = w .others (k * t + i) (λ e. d (omega arith)) ∙ l .done i (omega arith) a
+
+    same : b ≡ false → (x : ℕ) → Dec (x ≡ k * t + j) → getD passes′ x 0 ≡ getD passes₀ x 0
+    same e x (yes d) =
+        ap (λ z. getD passes′ z 0) d ∙ w .unchanged (both e .1) ∙ sym (ap (λ z. getD passes z 0) d) ∙ l .unchanged (both e .0) x
+    same e x (no d) = w .others x d ∙ l .unchanged (both e .0) x
+
+pub joining-end : (k t s j : ℕ) (passes passes′ : List ℕ) (r : Bool) → j ≡ 0 → Joining k t s j passes passes′ r
+    → StateJoined k t s passes passes′ r
+joining-end k t s j passes passes′ r e l =
+    record {
+      gains = λ u. (λ (h, m). there u h (member-union (u % 64) _ _ .0 (subst (Member (u % 64)) (word u h) m)), back u);
+      others = λ q u d. (
+        λ (h, m). (h, subst (Member (u % 64)) (other q u d h) m),
+        λ (h, m). (h, subst (Member (u % 64)) (sym (other q u d h)) m),
+      );
+      unchanged = l .unchanged;
+    }
+  where
+    word : (u : ℕ) → u / 64 < k
+        → getD passes′ (k * t + u / 64) 0 ≡ union (getD passes (k * t + u / 64) 0) (getD passes (k * s + u / 64) 0)
+    word u h = l .done (u / 64) (omega arith) h
+
+    other : (q u : ℕ) → q ≢ t → u / 64 < k → getD passes′ (k * q + u / 64) 0 ≡ getD passes (k * q + u / 64) 0
+    other q u d h = l .others (k * q + u / 64) (λ i b a f. d (split-unique k q t (u / 64) i h a f .0))
+
+    there : (u : ℕ) → u / 64 < k → Member (u % 64) (getD passes (k * t + u / 64) 0) ⊎ Member (u % 64) (getD passes (k * s + u / 64) 0)
+        → LeadsIn k passes t u ⊎ LeadsIn k passes s u
+    there u h (inl m) = inl (h, m)
+    there u h (inr m) = inr (h, m)
+
+    back : (u : ℕ) → LeadsIn k passes t u ⊎ LeadsIn k passes s u → LeadsIn k passes′ t u
+    back u (inl (h, m)) = (
+      h,
+      subst (Member (u % 64)) (sym (word u h))
+          (member-union (u % 64) (getD passes (k * t + u / 64) 0) (getD passes (k * s + u / 64) 0) .1 (inl m)),
+    )
+    back u (inr (h, m)) = (
+      h,
+      subst (Member (u % 64)) (sym (word u h))
+          (member-union (u % 64) (getD passes (k * t + u / 64) 0) (getD passes (k * s + u / 64) 0) .1 (inr m)),
+    )
+
+-- Gathering.
+
+pub gathered-start : (k states n : ℕ) (accepting table : List ℕ) (t : ℕ) (passes : List ℕ) (r : Bool)
+    → Gathered k states n n accepting table t passes passes r
+gathered-start k states n accepting table t passes r =
+    record { sound = λ s. s; unchanged = λ e i. refl; closed = λ e y (u, h, l, a, m). absurd (omega arith) }
+
+-- The list v has not the empty path.
+pub gathered-skip : (k states n v next : ℕ) (accepting table : List ℕ) (t : ℕ) (passes passes′ : List ℕ) (r : Bool) → next ≡ v + 1
+    → ¬ Member 0 (getD accepting (v + 1) 0) → Gathered k states n next accepting table t passes passes′ r
+    → Gathered k states n v accepting table t passes passes′ r
+gathered-skip k states n v next accepting table t passes passes′ r turn none g =
+    record {
+      sound = g .sound;
+      unchanged = g .unchanged;
+      closed = λ e y (u, h, l, a, m). g .closed e y (u, more u h a (ℕ-discrete u v), l, a, m);
+    }
+  where
+    more : (u : ℕ) → v ≤ u → Member 0 (getD accepting (u + 1) 0) → Dec (u ≡ v) → next ≤ u
+    more u h a (yes e) = absurd (none (subst (λ (z : ℕ). Member 0 (getD accepting (z + 1) 0)) e a))
+    more u h a (no d) = omega arith
+
+-- It has: the state gains what its next state leads to. r and r′ tell of the lists before and of this one, b of both.
+pub gathered-more : (k states n v next : ℕ) (accepting table : List ℕ) (t : ℕ) (passes₀ passes passes′ : List ℕ) (r r′ b : Bool)
+    → next ≡ v + 1 → v < n → t < states → NextBelow states n table → (b ≡ false → (r ≡ false) × (r′ ≡ false))
+    → Member 0 (getD accepting (v + 1) 0) → StateJoined k t (getD table (16 * t + v) 0) passes passes′ r′
+    → Gathered k states n next accepting table t passes₀ passes r → Gathered k states n v accepting table t passes₀ passes′ b
+gathered-more k states n v next accepting table t passes₀ passes passes′ r r′ b turn below inside step both some j g =
+    record {
+      sound = λ s. sound-turn (g .sound s);
+      unchanged = λ e i. j .unchanged (both e .1) i ∙ g .unchanged (both e .0) i;
+      closed = λ e y (u, h, l, a, m). closed-turn e y u h l a m (ℕ-discrete u v);
+    }
+  where
+    s : ℕ
+    s = getD table (16 * t + v) 0
+
+    sound-turn : Sound k states n accepting table passes → Sound k states n accepting table passes′
+    sound-turn sound = record { own = λ q h. mine q h (ℕ-discrete q t); reached = λ q y h m. led q y h m (ℕ-discrete q t) }
+      where
+        mine : (q : ℕ) → q < states → Dec (q ≡ t) → LeadsIn k passes′ q q
+        mine q h (yes e) = subst (λ (z : ℕ). LeadsIn k passes′ z z) (sym e) (j .gains t .1 (inl (sound .own t inside)))
+        mine q h (no d) = j .others q q d .1 (sound .own q h)
+
+        from : (y : ℕ) → LeadsIn k passes t y ⊎ LeadsIn k passes s y → Reaches (Passes n accepting table) t y
+        from y (inl m) = sound .reached t y inside m
+        from y (inr m) = onward (v, below, some, refl) (sound .reached s y (step t v inside below) m)
+
+        led : (q y : ℕ) → q < states → LeadsIn k passes′ q y → Dec (q ≡ t) → Reaches (Passes n accepting table) q y
+        led q y h m (yes e) =
+            subst (λ (z : ℕ). Reaches (Passes n accepting table) z y) (sym e)
+            (from y (j .gains y .0 (subst (λ (z : ℕ). LeadsIn k passes′ z y) e m)))
+        led q y h m (no d) = sound .reached q y h (j .others q y d .0 m)
+
+    closed-turn : b ≡ false → (y u : ℕ) → v ≤ u → u < n → Member 0 (getD accepting (u + 1) 0)
+        → LeadsIn k passes₀ (getD table (16 * t + u) 0) y → Dec (u ≡ v) → LeadsIn k passes₀ t y
+    closed-turn e y u h l a m (yes f) =
+        let m′ : LeadsIn k passes₀ s y = subst (λ (z : ℕ). LeadsIn k passes₀ (getD table (16 * t + z) 0) y) f m in
+        let led : LeadsIn k passes s y = same-leads k passes₀ passes (g .unchanged (both e .0)) s y m′ in
+        let new : LeadsIn k passes′ t y = j .gains y .1 (inr led) in
+        same-back k passes₀ passes (g .unchanged (both e .0)) t y (same-back k passes passes′ (j .unchanged (both e .1)) t y new)
+    closed-turn e y u h l a m (no d) = g .closed (both e .0) y (u, omega arith, l, a, m)
+
+-- A round: a state has gathered. Where nothing has changed, it leads to what the states after it lead to.
+pub closed-turn : (k states n : ℕ) (accepting table passes passes′ : List ℕ) (t next : ℕ) (r r′ b : Bool) → next ≡ t + 1
+    → (b ≡ false → (r ≡ false) × (r′ ≡ false)) → Gathered k states n 0 accepting table t passes passes′ r′
+    → (r ≡ false → ClosedFrom k states n accepting table passes next) → b ≡ false → ClosedFrom k states n accepting table passes′ t
+closed-turn k states n accepting table passes passes′ t next r r′ b turn both g c f q y h l (u, i, o, a, m) =
+    same-leads k passes passes′ same q y (side (ℕ-discrete q t))
+  where
+    same : Same passes passes′
+    same = g .unchanged (both f .1)
+
+    old : LeadsIn k passes (getD table (16 * q + u) 0) y
+    old = same-back k passes passes′ same (getD table (16 * q + u) 0) y m
+
+    side : Dec (q ≡ t) → LeadsIn k passes q y
     side (yes e) =
-        ap (λ (z : ℕ). getD (set passes t bit) z 0) e ∙ getD-set-same passes t bit 0 room ∙ one-bit t small ∙ ap (λ (z : ℕ). 2 ^ z) (sym e)
-    side (no d) = getD-set-other passes t q bit 0 d ∙ l q (omega arith)
+        subst (λ (z : ℕ). LeadsIn k passes z y) (sym e)
+        (g .closed (both f .1) y (subst (λ (z : ℕ). GainsFrom k n 0 accepting table passes z y) e (u, i, o, a, old)))
+    side (no d) = c (both f .0) q y (omega arith) l (u, i, o, a, old)
 
-pub sound-start : (states n : ℕ) (accepting table passes : List ℕ) → states ≤ 64 → ((q : ℕ) → q < 64 → getD passes q 0 ≡ one q)
-    → Sound states n accepting table passes
-sound-start states n accepting table passes few alone =
-    record {
-      own = λ q h. subst (Member q) (sym (alone q (omega arith))) (member-one q q .1 refl);
-      reached = λ q t h m.
-          let e : t ≡ q = member-one t q .0 (subst (Member t) (alone q (omega arith)) m) in
-          subst (Reaches (Passes n accepting table) q) (sym e) here;
-    }
-
--- An entry changes.
-pub sound-turn : (states n : ℕ) (accepting table passes : List ℕ) (t all : ℕ) → NextBelow states n table → t < states → t < length passes
-    → Gathered n accepting table passes t all → Sound states n accepting table passes → Sound states n accepting table (set passes t all)
-sound-turn states n accepting table passes t all next h room g s =
-    record {
-      own = λ q k. mine q k (ℕ-discrete q t);
-      reached = λ q y k m. led q y k m (ℕ-discrete q t);
-    }
-  where
-    mine : (q : ℕ) → q < states → Dec (q ≡ t) → Member q (getD (set passes t all) q 0)
-    mine q k (yes e) =
-        subst (λ (z : ℕ). Member z (getD (set passes t all) z 0)) (sym e)
-        (subst (Member t) (sym (getD-set-same passes t all 0 room)) (g .told t .1 (inl (s .own t h))))
-    mine q k (no d) = subst (Member q) (sym (getD-set-other passes t q all 0 d)) (s .own q k)
-
-    from : (y : ℕ) → Member y (getD passes t 0) ⊎ GainsBy n accepting table passes t y → Reaches (Passes n accepting table) t y
-    from y (inl m) = s .reached t y h m
-    from y (inr (v, k, a, m)) = onward (v, k, a, refl) (s .reached (getD table (16 * t + v) 0) y (next t v h k) m)
-
-    led : (q y : ℕ) → q < states → Member y (getD (set passes t all) q 0) → Dec (q ≡ t) → Reaches (Passes n accepting table) q y
-    led q y k m (yes e) =
-        subst (λ (z : ℕ). Reaches (Passes n accepting table) z y) (sym e)
-        (from y (g .told y .0 (subst (Member y) (ap (λ (z : ℕ). getD (set passes t all) z 0) e ∙ getD-set-same passes t all 0 room) m)))
-    led q y k m (no d) = s .reached q y k (subst (Member y) (getD-set-other passes t q all 0 d) m)
-
--- An entry does not change.
-pub closed-turn : (states n : ℕ) (accepting table passes : List ℕ) (t next all : ℕ) → next ≡ t + 1 → Gathered n accepting table passes t all
-    → all ≡ getD passes t 0 → ClosedFrom states n accepting table passes next → ClosedFrom states n accepting table passes t
-closed-turn states n accepting table passes t next all i g e c q y h k m = side (ℕ-discrete q t)
-  where
-    side : Dec (q ≡ t) → Member y (getD passes q 0)
-    side (yes f) =
-        subst (λ (z : ℕ). Member y (getD passes z 0)) (sym f)
-        (subst (Member y) e (g .told y .1 (inr (subst (λ (z : ℕ). GainsBy n accepting table passes z y) f m))))
-    side (no d) = c q y (omega arith) k m
-
--- Closed entries are the closure.
-pub closed-passing : (states n : ℕ) (accepting table passes : List ℕ) → NextBelow states n table → Sound states n accepting table passes
-    → ClosedFrom states n accepting table passes 0 → Passing states n accepting table passes
-closed-passing states n accepting table passes next s c =
+-- Closed states are the closure.
+pub closed-passing : (k states n : ℕ) (accepting table passes : List ℕ) → NextBelow states n table → Sound k states n accepting table passes
+    → ClosedFrom k states n accepting table passes 0 → Passing k states n accepting table passes
+closed-passing k states n accepting table passes next s c =
     record {
       exact = λ q t h. (s .reached q t h, λ r. found r h);
       within = λ q t h m. below (s .reached q t h m) h;
@@ -200,72 +335,12 @@ closed-passing states n accepting table passes next s c =
     R : ℕ → ℕ → Type 0
     R = Passes n accepting table
 
-    found : {q t : ℕ} → Reaches R q t → q < states → Member t (getD passes q 0)
+    found : {q t : ℕ} → Reaches R q t → q < states → LeadsIn k passes q t
     found {q} here h = s .own q h
-    found {q} {t} (onward (v, k, a, e) r) h =
+    found {q} {t} (onward (v, l, a, e) r) h =
         c q t (omega arith) h
-        (v, k, a, subst (λ (z : ℕ). Member t (getD passes z 0)) e (found r (subst (λ (z : ℕ). z < states) (sym e) (next q v h k))))
+        (v, omega arith, l, a, subst (λ (z : ℕ). LeadsIn k passes z t) e (found r (subst (λ (z : ℕ). z < states) (sym e) (next q v h l))))
 
     below : {q t : ℕ} → Reaches R q t → q < states → t < states
     below here h = h
-    below {q} (onward (v, k, a, e) r) h = below r (subst (λ (z : ℕ). z < states) (sym e) (next q v h k))
-
--- The entries of the states before p, for the list v, are those of the next states; no other entry is changed.
-pub record EntriesBefore (states v : ℕ) (table passes ended ended′ : List ℕ) (p : ℕ) : Type 0 where
-  pub size : length ended′ ≡ length ended
-  pub below : (q : ℕ) → q < p → getD table (16 * q + v) 0 < states
-  pub told : (q : ℕ) → q < p → getD ended′ (64 * v + q) 0 ≡ getD passes (getD table (16 * q + v) 0) 0
-  pub others : (j : ℕ) → j < 64 * v → getD ended′ j 0 ≡ getD ended j 0
-
--- So it is for all states, or a next state is none of the states.
-pub record ListEnded (states v : ℕ) (table passes ended ended′ : List ℕ) (r : Bool) : Type 0 where
-  pub size : length ended′ ≡ length ended
-  pub entries : r ≡ true → EntriesBefore states v table passes ended ended′ states
-
-pub entries-start : (states v : ℕ) (table passes ended : List ℕ) → EntriesBefore states v table passes ended ended 0
-entries-start states v table passes ended =
-    record { size = refl; below = λ q h. absurd (omega arith); told = λ q h. absurd (omega arith); others = λ j h. refl }
-
-pub entries-turn : (states v : ℕ) (table passes ended ended′ : List ℕ) (p : ℕ) → 64 * v + p < length ended′ → getD table (16 * p + v) 0 < states
-    → EntriesBefore states v table passes ended ended′ p
-    → EntriesBefore states v table passes ended (set ended′ (64 * v + p) (getD passes (getD table (16 * p + v) 0) 0)) (p + 1)
-entries-turn states v table passes ended ended′ p room next l =
-    record {
-      size = length-set ended′ (64 * v + p) entry ∙ l .size;
-      below = below-more (λ q. getD table (16 * q + v) 0 < states) p (l .below) next;
-      told = below-more (λ q. getD (set ended′ (64 * v + p) entry) (64 * v + q) 0 ≡ getD passes (getD table (16 * q + v) 0) 0) p
-          (λ q h. getD-set-other ended′ (64 * v + p) (64 * v + q) entry 0 (λ e. omega arith) ∙ l .told q h)
-          (getD-set-same ended′ (64 * v + p) entry 0 room);
-      others = λ j h. getD-set-other ended′ (64 * v + p) j entry 0 (λ e. omega arith) ∙ l .others j h;
-    }
-  where
-    entry : ℕ
-    entry = getD passes (getD table (16 * p + v) 0) 0
-
--- The entries of the lists before v are those of the next states.
-pub record EndedBefore (states : ℕ) (table passes ended : List ℕ) (v : ℕ) : Type 0 where
-  pub below : (q u : ℕ) → q < states → u < v → getD table (16 * q + u) 0 < states
-  pub told : (q u : ℕ) → q < states → u < v → getD ended (64 * u + q) 0 ≡ getD passes (getD table (16 * q + u) 0) 0
-
-pub ended-start : (states : ℕ) (table passes ended : List ℕ) → EndedBefore states table passes ended 0
-ended-start states table passes ended = record { below = λ q u h k. absurd (omega arith); told = λ q u h k. absurd (omega arith) }
-
-pub ended-turn : (states : ℕ) (table passes ended ended′ : List ℕ) (v : ℕ) → states ≤ 64
-    → EntriesBefore states v table passes ended ended′ states → EndedBefore states table passes ended v
-    → EndedBefore states table passes ended′ (v + 1)
-ended-turn states table passes ended ended′ v few new l =
-    record {
-      below = λ q u h. below-more (λ z. getD table (16 * q + z) 0 < states) v (λ z k. l .below q z h k) (new .below q h) u;
-      told = λ q u h. below-more (λ z. getD ended′ (64 * z + q) 0 ≡ getD passes (getD table (16 * q + z) 0) 0) v
-          (λ z k. new .others (64 * z + q) (omega arith) ∙ l .told q z h k) (new .told q h) u;
-    }
-
-pub ended-finishing : (states n : ℕ) (accepting table passes ended : List ℕ) → EndedBefore states table passes ended n
-    → Passing states n accepting table passes → Finishing states n accepting table ended
-ended-finishing states n accepting table passes ended l p =
-    record {
-      exact = λ q v t h k.
-          subst (λ (z : ℕ). Member t z ↔ Reaches (Passes n accepting table) (getD table (16 * q + v) 0) t) (sym (l .told q v h k))
-          (p .exact (getD table (16 * q + v) 0) t (l .below q v h k));
-      within = λ q v t h k m. p .within (getD table (16 * q + v) 0) t (l .below q v h k) (subst (Member t) (l .told q v h k) m);
-    }
+    below {q} (onward (v, l, a, e) r) h = below r (subst (λ (z : ℕ). z < states) (sym e) (next q v h l))

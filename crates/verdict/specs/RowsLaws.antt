@@ -1,40 +1,24 @@
--- The laws of rows (Rows): which offsets a row has, how it stands in words, and that a set moved up has stayed in the word.
+-- The laws of rows (Rows): which places a row has, and how it stands in words.
 use Prim.Native.Nat.{ℕ, _+_, _*_, _-_, _/_, _%_, _^_, _≤_, _<_}
 use mathlib.Core.List.{List}
 use mathlib.Core.Logic.{_↔_, _⊎_, inl, inr}
-use mathlib.Core.Path.{_≡_, sym, ap, _∙_, subst}
+use mathlib.Core.Path.{_≡_, ap, _∙_, subst}
 use native.Mathlib.Decide.{decLt}
-use native.Mathlib.Nat.{mod-lt}
 use native.Mathlib.Omega.{arith}
 use lib.ListN.{getD}
-use lib.Dec.{eqb}
-use lib.Pow.{pow-pos, field, shl-shr, shl-exact}
-use borrow.Author.Tests.{eqb-true}
+use lib.Pow.{field, shl-shr}
 use Rattle.theory.specs.Places.{Member, union}
 use Rattle.theory.specs.PlacesLaws.{member-below, member-union, equal-members}
 use Rattle.theory.specs.PlacesShift.{member-down, member-moved, member-cut}
 use Rattle.places.specs.Words.{numberOf, Words}
 use Rattle.places.specs.WordsLaws.{member-number}
-use Rattle.verdict.specs.Rows.{rowOf, Fits}
+use Rattle.verdict.specs.Rows.{rowOf}
 
 pub member-row : (s at w o : ℕ) → Member o (rowOf s at w) ↔ ((o < w) × Member (at + o) s)
 member-row s at w o = (
   λ m. let (h, k) = member-cut w o (s / 2 ^ at) .0 m in (h, member-down at o s .0 k),
   λ (h, m). member-cut w o (s / 2 ^ at) .1 (h, member-down at o s .1 m),
 )
-
--- A set that comes back from where it was moved to has stayed in the word.
-pub fits-exactly : (s base : ℕ) → base < 64 → Fits s base (eqb ((s * 2 ^ base) % 2 ^ 64 / 2 ^ base) s)
-fits-exactly s base h =
-    record {
-      exact = λ t.
-          let e : 64 ≡ (64 - base) + base = omega arith in
-          let back : s % 2 ^ (64 - base) ≡ s =
-          sym (ap (λ z. (s * 2 ^ base) % 2 ^ z / 2 ^ base) e ∙ field (s * 2 ^ base) (64 - base) base
-          ∙ ap (λ z. z % 2 ^ (64 - base)) (shl-shr s base))
-          ∙ eqb-true _ _ t in
-          shl-exact (64 - base) base 64 (subst (λ z. z < 2 ^ (64 - base)) back (mod-lt s (pow-pos (64 - base)))) (omega arith);
-    }
 
 -- A row in words: it lies in one word, or across two.
 

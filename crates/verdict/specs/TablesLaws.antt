@@ -1,7 +1,7 @@
 -- The laws of automata in tables (Tables): what each entry of an automaton is, and how many occurrences the lists have.
-use Prim.Native.Nat.{ℕ, zero, suc, pred, _+_, _*_, _≤_, _<_}
+use Prim.Native.Nat.{ℕ, zero, suc, pred, _+_, _*_, _-_, _≤_, _<_}
 use mathlib.Core.List.{List}
-use mathlib.Core.Path.{_≡_, refl, sym, ap, ap₂, _∙_}
+use mathlib.Core.Path.{_≡_, refl, sym, ap, ap₂, _∙_, subst}
 use native.Mathlib.Numerals.{add-one}
 use native.Mathlib.Omega.{arith}
 use lib.ListN.{length, getD, take, drop, length-drop}
@@ -41,6 +41,33 @@ pub occupied-few : (sizes : List ℕ) (n v m : ℕ) → v + m ≤ n → Counted 
 unfolding occupied
 occupied-few sizes n v zero h s = omega arith
 occupied-few sizes n v (suc m) h s = omega (arith, s .small v (omega arith), occupied-few sizes n (v + 1) m (omega arith) s)
+
+-- The occurrences of the first lists.
+
+occupied-last : (sizes : List ℕ) (u m : ℕ) → occupied sizes u (suc m) ≡ occupied sizes u m + getD sizes (u + m + 1) 0
+unfolding occupied
+occupied-last sizes u zero =
+    let e : getD sizes (u + 1) 0 ≡ getD sizes (u + 0 + 1) 0 = ap (λ z. getD sizes z 0) (omega arith) in
+    omega arith
+occupied-last sizes u (suc m) =
+    let e : getD sizes (u + 1 + m + 1) 0 ≡ getD sizes (u + suc m + 1) 0 = ap (λ z. getD sizes z 0) (omega arith) in
+    omega (arith, occupied-last sizes (u + 1) m)
+
+pub occupied-more : (sizes : List ℕ) (v : ℕ) → occupied sizes 0 (v + 1) ≡ occupied sizes 0 v + getD sizes (v + 1) 0
+occupied-more sizes v =
+    let e : getD sizes (0 + v + 1) 0 ≡ getD sizes (v + 1) 0 = ap (λ z. getD sizes z 0) (omega arith) in
+    ap (occupied sizes 0) (add-one v) ∙ occupied-last sizes 0 v ∙ ap (λ x. occupied sizes 0 v + x) e
+
+pub occupied-grows : (sizes : List ℕ) (u v : ℕ) → u ≤ v → occupied sizes 0 u ≤ occupied sizes 0 v
+occupied-grows sizes u v h =
+    let e : u + (v - u) ≡ v = omega arith in
+    subst (λ z. occupied sizes 0 u ≤ occupied sizes 0 z) e (by (v - u))
+  where
+    by : (d : ℕ) → occupied sizes 0 u ≤ occupied sizes 0 (u + d)
+    by zero = let e : occupied sizes 0 u ≡ occupied sizes 0 (u + 0) = ap (occupied sizes 0) (omega arith) in omega arith
+    by (suc d) =
+        let e : occupied sizes 0 (u + d + 1) ≡ occupied sizes 0 (u + suc d) = ap (occupied sizes 0) (omega arith) in
+        omega (arith, by d, occupied-more sizes (u + d))
 
 -- The step of the query's standing.
 pub query-step : (follow enter sizes accepting : List ℕ) (s a : ℕ) → a < 32

@@ -1,5 +1,5 @@
--- Cover sets turned: where there are at most 64 states, the columns of a set (Columns) stand one after the other, n places each, so that a
--- step never takes a set apart place by place. The place of the state q with the offset o is n × o + q there, and w × q + o in the set itself.
+-- Cover sets turned: the columns of a set (Columns) stand one after the other, n places each, so that a step never takes a set apart place by
+-- place. The place of the state q with the offset o is n × o + q there, and w × q + o in the set itself.
 use Prim.Native.Nat.{ℕ, _+_, _*_, _^_, _<_}
 use mathlib.Core.List.{List}
 use mathlib.Core.Logic.{_↔_}

@@ -170,7 +170,7 @@ ends-none rows ended q low high alone v e l t = (
         absurd (has-apart low high _ _ e y c (subst (λ z. InPair rows (320 + 2 * z) y) same k))
 
 -- What a set gains at a place.
-gained-places : (set set′ : List ℕ) (x at : ℕ) → Gains set (x * 2 ^ at) set′
+pub gained-places : (set set′ : List ℕ) (x at : ℕ) → Gains set (x * 2 ^ at) set′
     → (i : ℕ) → Member i (numberOf set′) ↔ (Member i (numberOf set) ⊎ ((i < 1024) × ((z : ℕ) × (i ≡ at + z) × Member z x)))
 gained-places set set′ x at g i = (
   λ m. there (member-union i (numberOf set) ((x * 2 ^ at) % 2 ^ 1024) .0 (subst (Member i) g m)),

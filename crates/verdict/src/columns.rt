@@ -1,39 +1,12 @@
 // Cover sets by columns, where there are at most 64 states: the column of the offset o is the word of the states q with width × q + o in
 // the set.
-ghost use Prim.Native.Nat.{ℕ, _+_, _*_, _^_, _≤_, _<_};
+ghost use Prim.Native.Nat.{_+_, _*_, _^_, _≤_, _<_};
 ghost use mathlib.Core.Path.{_≡_};
-ghost use lib.ListN.{length, getD};
-ghost use Rattle.theory.specs.Places.{Member};
+ghost use lib.ListN.{length};
 ghost use Rattle.places.specs.Words.{numberOf};
 ghost use Rattle.verdict.specs.Turned.{Stacked};
 ghost use Rattle.verdict.specs.CoverTold.{Gains};
-ghost use Rattle.verdict.specs.Columns.{ColumnsOf};
-use crate::clear::clear_words;
 use crate::rows::row_at;
-use places::wide::Wide;
-use places::words::next_place;
-
-// The columns of a cover set: its places in their order, the state q and its first place `base` moving on with them.
-pub fn columns_of(places: &[u64], w: u64, states: u64, columns: &mut [u64])
-    requires { ⌜ (length (now places) ≡ 16) × (0 < w) × (0 < states) × (states ≤ 64) × (states * w ≤ 1024) × (w ≤ length (now columns)) ⌝ }
-    ensures { λ _. ⌜ ColumnsOf w states (now (places .entry)) (now (columns .exit)) ⌝ }
-{
-    clear_words(columns, w as usize);
-    let count = states * w;
-    let mut q: u64 = 0;
-    let mut base: u64 = 0;
-    let mut p = next_place(places, 0);
-    while p < count {
-        if p < base + w {
-            let o = (p - base) as usize;
-            columns[o] = columns[o] | (1 << q);
-            p = next_place(places, p + 1);
-        } else {
-            q += 1;
-            base += w;
-        }
-    }
-}
 
 // The columns of a turned set: that of the offset o stands at n × o.
 pub fn columns_at(words: &[u64], w: u64, n: u64, columns: &mut [u64])
@@ -68,24 +41,4 @@ pub fn put_at(words: &mut [u64], column: u64, at: u64, n: u64)
     if 64 < bits + n {
         put_word(words, index + 1, column >> (64 - bits));
     }
-}
-
-// The turned set of columns.
-pub fn pack(columns: &[u64], w: u64, n: u64) -> Wide
-    requires { ⌜ (0 < w) × (0 < n) × (n ≤ 64) × (n * w ≤ 1024)
-        × ((q o : ℕ) → o < w → Member q (getD (now columns) o 0) → q < n) × (w ≤ length (now columns)) ⌝ }
-    ensures { λ r. ⌜ Stacked w n (now (columns .entry)) (numberOf (r .words)) × (numberOf (r .words) < 2 ^ (n * w)) ⌝ }
-{
-    let mut words = [0; 16];
-    let mut at: u64 = 0;
-    let mut o: u64 = 0;
-    while o < w {
-        let column = columns[o as usize];
-        if column != 0 {
-            put_at(&mut words, column, at, n);
-        }
-        at += n;
-        o += 1;
-    }
-    Wide { words }
 }

@@ -7,10 +7,6 @@ ghost use Rattle.verdict.specs.Tables.{Counted};
 ghost use Rattle.verdict.specs.CoverLoops.{endAt};
 ghost use Rattle.verdict.specs.CoverTold.{Gains, Moving, Entered, MovedWithin, Moves, Moved, Ending, Passed, Finished, Ends, Round, Settled};
 ghost use Rattle.verdict.specs.CoverTold.{WidthTold, ReadyTold, StartTold, StepTold};
-use crate::row_ends::all_ends;
-use crate::row_ends::ended_rows;
-use crate::rows::all_steps;
-use crate::rows::moved_rows;
 use crate::rows::step_at;
 use places::Places;
 use places::wide::Wide;
@@ -98,7 +94,7 @@ fn moves(
 }
 
 // The cover places that the label a leads to from the first `count` places, those that are in the set.
-fn moved_by_places(
+fn moved(
     follow: &[u64],
     enter: &[u64],
     sizes: &[u64],
@@ -119,32 +115,6 @@ fn moved_by_places(
         p = next_place(&places, p + 1);
     }
     Wide { words }
-}
-
-// The cover places that the label a leads to from the places of a set: by rows where the offsets and the steps from them are of one word.
-fn moved(
-    follow: &[u64],
-    enter: &[u64],
-    sizes: &[u64],
-    lists: usize,
-    a: usize,
-    w: u64,
-    states: u64,
-    set: Wide,
-) -> Wide
-    requires { ⌜ Moving lists a (now follow) (now enter) (now sizes) w × (states * w ≤ 1024) ⌝ }
-    ensures { λ r. ⌜ Moved lists a (now (follow .entry)) (now (enter .entry)) (now (sizes .entry)) (states * w) (set .words) (r .words) ⌝ }
-{
-    if w <= 64 {
-        let mut steps = [0; 64];
-        if all_steps(follow, enter, sizes, lists, a, w, &mut steps) {
-            let places = set.words;
-            let mut words = [0; 16];
-            moved_rows(&steps, &places, w, states, &mut words);
-            return Wide { words };
-        }
-    }
-    moved_by_places(follow, enter, sizes, lists, a, w, states * w, set)
 }
 
 // Adds the state that is reached from the state q where a path of the list v may end at its place o.
@@ -220,8 +190,8 @@ fn ends(
     }
 }
 
-// A set with what the places of `fresh` reach without reading a label, one step far, place by place.
-fn round_by_places(
+// A set with what the places of `fresh` reach without reading a label, one step far.
+fn round(
     sizes: &[u64],
     accepting: &[u64],
     table: &[u16],
@@ -243,31 +213,6 @@ fn round_by_places(
         p = next_place(&places, p + 1);
     }
     Wide { words }
-}
-
-// A set with what the places of `fresh` reach without reading a label, one step far: by rows where the offsets are of one word.
-fn round(
-    sizes: &[u64],
-    accepting: &[u64],
-    table: &[u16],
-    states: u64,
-    lists: usize,
-    w: u64,
-    fresh: Wide,
-    set: Wide,
-) -> Wide
-    requires { ⌜ Ending states lists (now sizes) (now accepting) (now table) w ⌝ }
-    ensures { λ r. ⌜ Round lists (now (sizes .entry)) (now (accepting .entry)) (now (table .entry)) (states * w) (fresh .words) (set .words) (r .words) ⌝ }
-{
-    if w <= 64 {
-        let mut ends = [0; 16];
-        all_ends(sizes, accepting, lists, w, &mut ends);
-        let places = fresh.words;
-        let mut words = set.words;
-        ended_rows(&ends, table, states, lists, w, &places, &mut words);
-        return Wide { words };
-    }
-    round_by_places(sizes, accepting, table, states, lists, w, fresh, set)
 }
 
 // A set of cover places with all that is reached from it without reading a label: rounds until nothing is added, each of which follows what
@@ -401,6 +346,6 @@ pub fn cover_step(
     if a >= 32 {
         return Wide::EMPTY;
     }
-    let next = moved(follow, enter, sizes, lists, a, w, states, set);
+    let next = moved(follow, enter, sizes, lists, a, w, states * w, set);
     settled(sizes, accepting, table, states, lists, w, next)
 }

@@ -73,11 +73,13 @@ pub fn bucket(standing: u64, cover: &[u64; 16], used: usize) -> usize
     requires { ⌜ (used ≤ 16) × (numberOf (now cover) < 2 ^ (64 * used)) ⌝ }
     ensures { λ r. ⌜ r ≡ bucketOf (pair standing (now (cover .entry))) ⌝ }
 {
-    if used <= 4 {
-        remainder(standing, cover, 4)
-    } else {
-        remainder(standing, cover, 16)
+    if used <= 1 {
+        return remainder(standing, cover, 1);
     }
+    if used <= 4 {
+        return remainder(standing, cover, 4);
+    }
+    remainder(standing, cover, 16)
 }
 
 // Puts the pair number m in front of the chain of the bucket `at`.

@@ -6,7 +6,7 @@ ghost use lib.ListN.{length};
 ghost use Rattle.verdict.specs.Tables.{Counted};
 ghost use Rattle.verdict.specs.Columns.{Leading};
 ghost use Rattle.verdict.specs.LeadingTurns.{LedFrom, ListLed};
-use crate::clear::clear_words;
+use finding::clear::clear_words;
 
 // Adds the place o to the entries of the places of a set, which stand from `base` on.
 fn lead_from(set: u64, base: usize, o: u64, before: &mut [u64])

@@ -1,5 +1,4 @@
 // The verdict: cover places, pairs, and whether every query path is yielded.
-pub mod clear;
 mod column_steps;
 mod columns;
 pub mod cover;
@@ -11,7 +10,7 @@ mod pairs;
 mod passing;
 pub mod path;
 mod prepared;
-mod row_ends;
+mod ranges;
 mod rows;
 pub mod verdict;
 mod wide_rows;

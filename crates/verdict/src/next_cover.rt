@@ -7,21 +7,20 @@ ghost use Rattle.verdict.specs.Columns.{StatesWithin, PlacesWithin, Ende
 ghost use Rattle.verdict.specs.CoverTold.{StartStands, StepStands};
 ghost use Rattle.verdict.specs.NextCover.{Laid, Used};
 ghost use Rattle.verdict.specs.PairTable.{wordsAt};
-ghost use Rattle.verdict.specs.Prepared.{Prepared};
-ghost use Rattle.verdict.specs.Tables.{Counted, occupied};
+ghost use Rattle.verdict.specs.Prepared.{FirstReached};
+ghost use Rattle.verdict.specs.Tables.{Counted, Ready, occupied};
 ghost use Rattle.verdict.specs.Turned.{Stacked};
 ghost use Rattle.verdict.specs.TurnedColumns.{columnIn};
 ghost use Rattle.verdict.specs.WideRows.{RowsLaid};
-use crate::clear::clear_words;
 use crate::column_steps::step_columns;
 use crate::columns::columns_at;
-use crate::columns::columns_of;
-use crate::columns::pack;
 use crate::cover::cover_start;
 use crate::cover::cover_step;
+use crate::ranges::step_ranges;
 use crate::wide_rows::lay_rows;
 use crate::wide_rows::step_rows;
 use crate::workspace::load;
+use finding::clear::clear_words;
 use places::wide::Wide;
 
 // The words of a set are copied.
@@ -37,7 +36,7 @@ fn copy(set: Wide, words: &mut [u64])
     }
 }
 
-// The cover set of the empty path. `laid` is for its columns.
+// The cover set of the empty path. Where it stands turned, it has states alone: those that are reached from the first.
 pub fn first_cover(
     states: u64,
     table: &[u16],
@@ -47,22 +46,23 @@ pub fn first_cover(
     accepting: &[u64],
     lists: usize,
     w: u64,
-    before: &[u64],
-    ended: &[u64],
-    laid: &mut [u64],
+    first: &[u64; 4],
 ) -> Wide
-    requires { ⌜ (0 < w → Prepared states lists (now follow) (now enter) (now sizes) (now accepting) (now table) w (now before) (now ended))
-        × (w ≤ length (now laid)) ⌝ }
+    requires { ⌜ (0 < w → Ready states lists (now follow) (now enter) (now sizes) (now accepting) (now table) w
+        × FirstReached lists (now accepting) (now table) (now first)) ⌝ }
     ensures { λ r. ⌜ StartStands w states lists (now (follow .entry)) (now (enter .entry)) (now (sizes .entry)) (now (accepting .entry)) (now (table .entry))
         (r .words) ⌝ }
 {
-    let start = cover_start(states, table, follow, enter, sizes, accepting, lists);
-    if 0 < w {
-        let words = start.words;
-        columns_of(&words, w, states, laid);
-        return pack(laid, w, states);
+    if w == 0 {
+        return cover_start(states, table, follow, enter, sizes, accepting, lists);
     }
-    start
+    let reached: &[u64] = first;
+    let mut words = [0; 16];
+    words[0] = reached[0];
+    words[1] = reached[1];
+    words[2] = reached[2];
+    words[3] = reached[3];
+    Wide { words }
 }
 
 // How many words have all places of a set as it stands: where it is turned, as many as its places need.
@@ -77,8 +77,8 @@ pub fn used_words(states: u64, w: u64) -> usize
     }
 }
 
-// What all labels have in common of a step from the cover set of the pair number i: its columns, where it stands turned; the rows that can
-// come next, where steps go by rows.
+// What all labels have in common of a step from the cover set of the pair number i: its columns, where it stands turned and steps go by
+// them; the rows that can come next, where steps go by rows.
 pub fn lay(
     states: u64,
     w: u64,
@@ -88,15 +88,18 @@ pub fn lay(
     i: usize,
     laid: &mut [u64],
 )
-    requires { ⌜ (0 < w → (0 < states) × (states ≤ 64) × (states * w ≤ 1024)) × (18 * i + 18 ≤ length (now workspace)) × (w ≤ length (now laid))
+    requires { ⌜ (0 < w → (0 < states) × (states * w ≤ 1024)) × (18 * i + 18 ≤ length (now workspace)) × (w ≤ length (now laid))
         × (0 < rows → (64 < rows) × (rows ≤ 128) × (states * rows ≤ 1024) × (352 ≤ length (now before)) × (2 * states ≤ length (now laid))) ⌝ }
-    ensures { λ _. ⌜ (rows ≡ 0 → 0 < w → Stacked w states (now (laid .exit)) (numberOf (wordsAt (now (workspace .entry)) (18 * i + 1) 16)))
+    ensures { λ _. ⌜ (rows ≡ 0 → 0 < w → states ≤ 64 → Stacked w states (now (laid .exit)) (numberOf (wordsAt (now (workspace .entry)) (18 * i + 1) 16)))
         × (0 < rows → RowsLaid rows states (now (before .entry)) (numberOf (wordsAt (now (workspace .entry)) (18 * i + 1) 16)) (now (laid .exit))) ⌝ }
 {
     let from = 18 * i + 1;
     let to = from + 16;
     if 0 < rows {
         lay_rows(before, rows, states, &workspace[from..to], laid);
+        return;
+    }
+    if 64 < states {
         return;
     }
     if 0 < w {
@@ -177,33 +180,52 @@ pub fn next_cover(
         step_rows(before, ended, lists, a, rows, states, laid, cover);
         return;
     }
-    if 0 < w {
-        step_turned(
+    if w == 0 {
+        let next = cover_step(
+            states,
+            table,
+            follow,
             enter,
             sizes,
             accepting,
             lists,
             a,
-            w,
+            load(workspace, i),
+        );
+        copy(next, cover);
+        return;
+    }
+    if 64 < states {
+        let from = 18 * i + 1;
+        let to = from + 16;
+        clear_words(cover, used);
+        step_ranges(
+            enter,
+            sizes,
+            accepting,
             before,
             ended,
-            laid,
+            table,
+            lists,
+            a,
+            &workspace[from..to],
             states,
-            used,
             cover,
         );
         return;
     }
-    let next = cover_step(
-        states,
-        table,
-        follow,
+    step_turned(
         enter,
         sizes,
         accepting,
         lists,
         a,
-        load(workspace, i),
+        w,
+        before,
+        ended,
+        laid,
+        states,
+        used,
+        cover,
     );
-    copy(next, cover);
 }

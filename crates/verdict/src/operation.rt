@@ -1,10 +1,10 @@
 // Verdict (document 01): whether the greatest rewriting of a job's query loses a path, from the job text.
-use crate::clear::clear_words;
 use crate::verdict::Told;
 use crate::verdict::verdict;
 use finding::answer::Finding;
 use finding::clear::clear_bytes;
 use finding::clear::clear_numbers;
+use finding::clear::clear_words;
 use finding::core::find_core;
 use reading::Answer;
 use reading::load;

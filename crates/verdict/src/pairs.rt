@@ -7,7 +7,7 @@ ghost use Rattle.verdict.specs.PairTable.{Stored};
 ghost use Rattle.verdict.specs.Workspace.{Put, pair};
 ghost use Rattle.verdict.specs.PairIndex.{bucketOf, Indexed, IndexedAll};
 ghost use Rattle.verdict.specs.PairsTold.{lent, QueryFollows, QueryStep, RowTold, PairsTold};
-ghost use Rattle.verdict.specs.Prepared.{Prepared, RowsReady};
+ghost use Rattle.verdict.specs.Prepared.{FirstReached, Prepared, RowsReady};
 use crate::index::bucket;
 use crate::index::note;
 use crate::index::seen;
@@ -189,19 +189,20 @@ fn sweep(
     rows: u64,
     before: &[u64],
     ended: &[u64],
+    first: &[u64; 4],
     laid: &mut [u64],
     workspace: &mut [u64],
 ) -> Explored
     requires { ⌜ (0 < limit) × (limit ≤ 4096) × (labels ≤ 32) × (18 * limit ≤ length (now workspace))
         × (0 < w → Prepared states lists (now follow) (now enter) (now sizes) (now accepting) (now table) w (now before) (now ended))
-        × (w ≤ length (now laid))
+        × (0 < w → FirstReached lists (now accepting) (now table) (now first)) × (w ≤ length (now laid))
         × (0 < rows → RowsReady states lists (now follow) (now enter) (now sizes) (now accepting) (now table) w rows (now before) (now ended) (now laid)) ⌝ }
     ensures { λ r. ⌜ PairsTold (lent states labels lists (now (follow .entry)) (now (enter .entry)) (now (sizes .entry)) (now (accepting .entry)) (now (table .entry)))
         w limit (now (workspace .entry)) r (now (workspace .exit)) ⌝ }
 {
     let mut heads: [u16; 4093] = [0; 4093];
     let mut nexts: [u16; 4096] = [0; 4096];
-    let first = first_cover(
+    let start = first_cover(
         states,
         table,
         follow,
@@ -210,11 +211,9 @@ fn sweep(
         accepting,
         lists,
         w,
-        before,
-        ended,
-        laid,
+        first,
     );
-    let cover = first.words;
+    let cover = start.words;
     let at = bucket(1, &cover, 16);
     add(workspace, &mut heads, &mut nexts, at, 0, 1, &cover, 0);
     let mut n: usize = 1;
@@ -266,11 +265,12 @@ pub fn pairs(
     rows: u64,
     before: &[u64],
     ended: &[u64],
+    first: &[u64; 4],
     laid: &mut [u64],
     workspace: &mut [u64],
 ) -> Explored
     requires { ⌜ (0 < w → Prepared states lists (now follow) (now enter) (now sizes) (now accepting) (now table) w (now before) (now ended))
-        × (w ≤ length (now laid))
+        × (0 < w → FirstReached lists (now accepting) (now table) (now first)) × (w ≤ length (now laid))
         × (0 < rows → RowsReady states lists (now follow) (now enter) (now sizes) (now accepting) (now table) w rows (now before) (now ended) (now laid)) ⌝ }
     ensures { λ r. ⌜ PairsTold (lent states labels lists (now (follow .entry)) (now (enter .entry)) (now (sizes .entry)) (now (accepting .entry)) (now (table .entry)))
         w allowance (now (workspace .entry)) r (now (workspace .exit)) ⌝ }
@@ -302,6 +302,7 @@ pub fn pairs(
         rows,
         before,
         ended,
+        first,
         laid,
         workspace,
     )

@@ -201,6 +201,7 @@ fn explore_in(
         × PairsTold (lent states labels lists (now (follow .entry)) (now (enter .entry)) (now (sizes .entry)) (now (accepting .entry)) (now (table .entry)))
         (r .turned) allowance (now (workspace .entry)) (r .found) (now (workspace .exit)) ⌝ }
 {
+    let mut first = [0; 4];
     let width = prepared(
         states,
         table,
@@ -211,6 +212,7 @@ fn explore_in(
         lists,
         before,
         ended,
+        &mut first,
     );
     let chosen = chosen_way(follow, enter, sizes, accepting, lists, width, before);
     let turned = chosen.turned;
@@ -228,14 +230,16 @@ fn explore_in(
         chosen.rows,
         before,
         ended,
+        &first,
         laid,
         workspace,
     );
     Search { turned, found }
 }
 
-// Explores the pairs. A list needs 64 words of each prepared table and at most 63 columns, so where there are at most four lists, 256
-// words of each suffice, and 352 where rows may be prepared: to clear 1,024 takes longer than the verdict of a small job.
+// Explores the pairs. A list needs 64 words of each prepared table and at most 63 columns, and of more than 64 states each needs four words:
+// so where there are at most four lists and 64 states, 256 words of each suffice, and 352 where rows may be prepared. To clear 1,024 takes
+// longer than the verdict of a small job.
 fn explore(
     states: u64,
     table: &[u16],
@@ -253,7 +257,7 @@ fn explore(
         × PairsTold (lent states labels lists (now (follow .entry)) (now (enter .entry)) (now (sizes .entry)) (now (accepting .entry)) (now (table .entry)))
         (r .turned) allowance (now (workspace .entry)) (r .found) (now (workspace .exit)) ⌝ }
 {
-    if lists <= 4 {
+    if lists <= 4 && states <= 64 {
         let mut before = [0; 352];
         let mut ended = [0; 256];
         let mut laid = [0; 256];

@@ -14,10 +14,10 @@ ghost use Rattle.verdict.specs.Tables.{Counted, occupied};
 ghost use Rattle.verdict.specs.WideRows.{Has, Gained, OccursAt, RowsPrepared, Follows, RowsLaid, LaidWithin, Ends, RowsStepped};
 ghost use Rattle.verdict.specs.WideRows.{RowPut, AlonePut};
 ghost use Rattle.verdict.specs.WideRowsPrepared.{offsetFrom, ListSteps, ListEnters};
-use crate::clear::clear_words;
 use crate::column_steps::inner;
 use crate::columns::put_at;
 use crate::rows::row_at;
+use finding::clear::clear_words;
 use places::wide::Wide;
 
 // The occurrences in a set of places of a list, which come after the offset `base`, are added to the two words at `at`.
@@ -32,8 +32,8 @@ fn add_places(set: u64, size: u64, base: u64, at: usize, rows: &mut [u64])
 }
 
 // The offset of the place o of a list, whose occurrences come after the offset `base`.
-fn offset_from(base: u64, o: u64) -> u64
-    requires { ⌜ base + o < 128 ⌝ }
+pub fn offset_from(base: u64, o: u64) -> u64
+    requires { ⌜ base + o < 2 ^ 64 ⌝ }
     ensures { λ r. ⌜ r ≡ offsetFrom base o ⌝ }
 {
     if o == 0 {

@@ -1,6 +1,6 @@
 -- The places after the start, cut at the list's size.
 use lib.Pow.{pow-pos}
-use Rattle.verdict.specs.RowEndsLaws.{mask}
+use Rattle.verdict.specs.WordBits.{one-bit}
 use Rattle.verdict.specs.ColumnLists.{inner-exactly}
 use native.Mathlib.Omega.{arith}
 use borrow.Author.Needs.{needs}
@@ -11,7 +11,7 @@ shl-result : tie.Need-shl-result
 shl-result c = search needs
 
 sub-result : tie.Need-sub-result
-sub-result c = omega (arith, mask (c .args .size) 0 (omega arith), pow-pos (c .args .size))
+sub-result c = omega (arith, one-bit (c .args .size) (omega arith), pow-pos (c .args .size))
 
 returns : tie.Need-returns
 returns c = inner-exactly (c .args .set) (c .args .size) (c .pre)

@@ -4,7 +4,7 @@ use mathlib.Core.Path.{_≡_, sym, _∙_}
 use native.Mathlib.Nat.{mul-le-mul-left}
 use lib.ListN.{length, getD}
 use Rattle.verdict.specs.ColumnTurns.{ListsLeft, lists-start, lists-room, lists-turn, alone-within, lists-empty, lists-end}
-use Rattle.verdict.specs.ColumnsTurns.{few-columns}
+use Rattle.verdict.specs.CoverBounds.{few-columns}
 use Rattle.verdict.specs.TurnedColumns.{columnIn, no-columns, Puts, put-column, columns-below}
 use native.Mathlib.Omega.{arith}
 use Rattle.verdict.proofs.column_steps.step_columns.Statement.{statement}

@@ -3,7 +3,7 @@ use Prim.Native.Nat.{_*_, _-_, _≤_}
 use mathlib.Core.Path.{_≡_, refl, _∙_}
 use lib.ListN.{length, length-set}
 use Rattle.places.specs.Words.{numberOf}
-use Rattle.verdict.specs.ColumnsTurns.{few-columns}
+use Rattle.verdict.specs.CoverBounds.{few-columns}
 use Rattle.verdict.specs.TurnedTurns.{column-room, next-column, Unstacked, unstacked-start, unstacked-turn, unstacked-end}
 use native.Mathlib.Omega.{arith}
 use borrow.Author.Needs.{needs}

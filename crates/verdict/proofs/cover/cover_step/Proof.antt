@@ -21,6 +21,9 @@ returns-2 c =
     let s = c .before .before .before .before .before .before .before .before in
     step-outside (s .args .states) (s .args .lists) (s .args .follow .now) (s .args .enter .now) (s .args .sizes .now) (s .args .accepting .now) (s .args .table .now) (s .args .a) (s .args .set .words) (replicate 16 0) (c .if2 .taken)
 
+mul-moved : tie.Need-mul-moved
+mul-moved c = omega (arith, c .before .before .ready .ensures .ready (omega (arith, c .before .if1 .left)) .few-places)
+
 moved-requires : tie.Need-moved-requires
 moved-requires c κs =
     let s = c .before .before .before .before .before .before .before .before in
@@ -41,4 +44,4 @@ returns-3 c =
 pub cover-step-spec : {M : Type 1} → statement M
 cover-step-spec =
     tie.close
-    (tie.spec ready-requires returns returns-2 moved-requires settled-requires returns-3)
+    (tie.spec ready-requires returns returns-2 mul-moved moved-requires settled-requires returns-3)

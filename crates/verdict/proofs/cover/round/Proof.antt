@@ -1,50 +1,95 @@
--- By rows where the offsets are of one word, else by places.
-use Rattle.verdict.specs.RowEndsTurns.{rows-round}
+-- The loop's invariant: the words hold the set, with what the places of `fresh` before p reach. The measure is the number of places left.
+use Prim.Native.Nat.{ℕ, _+_, _*_, _-_, _≤_}
+use mathlib.Core.List.{List}
+use mathlib.Core.Path.{_≡_, refl, _∙_}
+use lib.ListN.{length}
+use Rattle.places.specs.Words.{numberOf}
+use Rattle.places.proofs.Held.{array-count}
+use Rattle.verdict.specs.Cover.{ends as endsOf}
+use Rattle.verdict.specs.Tables.{automataOf, rewritten}
+use Rattle.verdict.specs.CoverWalk.{Walk, walk-start, walk-turn, walk-end}
 use native.Mathlib.Omega.{arith}
 use borrow.Author.Needs.{needs}
 use Rattle.verdict.proofs.cover.round.Statement.{statement}
 use Rattle.verdict.proofs.cover.round.Tie as tie
 
-slice-aggregate-all-ends : tie.Need-slice-aggregate-all-ends
-slice-aggregate-all-ends c = search needs
+abbrev Inv-loop : tie.InvT-loop
+Inv-loop sizes accepting table states lists w count places words₀ p₀ words p =
+    (count ≡ states * w) × (p ≤ 1024) × (length words ≡ 16)
+    × ((any : ℕ) (flags follow enter : List ℕ) → 64 * lists + 64 ≤ length follow
+    → Walk (endsOf (rewritten any table flags) (automataOf follow enter sizes accepting lists)) (numberOf places) (numberOf words₀) (states * w) words p)
 
-all-ends-requires : tie.Need-all-ends-requires
-all-ends-requires c κs = search needs
+abbrev μ-loop : tie.MeasureT-loop
+μ-loop sizes accepting table states lists w count places words₀ p₀ words p = 1024 - p
 
-slice-aggregate-ended-rows : tie.Need-slice-aggregate-ended-rows
-slice-aggregate-ended-rows c = search needs
+mul-count : tie.Need-mul-count Inv-loop μ-loop
+mul-count c = omega (arith, c .before .before .before .pre .few-places)
 
-slice-aggregate-ended-rows-2 : tie.Need-slice-aggregate-ended-rows-2
-slice-aggregate-ended-rows-2 c = search needs
+slice-aggregate-next-place : tie.Need-slice-aggregate-next-place Inv-loop μ-loop
+slice-aggregate-next-place c = search needs
 
-slice-aggregate-ended-rows-3 : tie.Need-slice-aggregate-ended-rows-3
-slice-aggregate-ended-rows-3 c = search needs
+next-place-requires : tie.Need-next-place-requires Inv-loop μ-loop
+next-place-requires c κs = array-count 16 (c .before .before .before .before .before .before .args .fresh .words) _ (c .before .before .before .before .before .before .good .1 .1 .1 .1 .1 .1 .0 .1 .1 .0)
 
-ended-rows-requires : tie.Need-ended-rows-requires
-ended-rows-requires c κs = search needs
+loop-holds : tie.Need-loop-holds Inv-loop μ-loop
+loop-holds c =
+    let s = c .before .before .before .before .before .before .before in
+    (refl, c .next-place .ensures .bound, array-count 16 (s .args .set .words) _ (s .good .1 .1 .1 .1 .1 .1 .1 .0 .1 .1 .0), λ any flags follow enter room. walk-start _ _ _ _ _ (c .next-place .ensures))
 
-returns : tie.Need-returns
+slice-aggregate-ends : tie.Need-slice-aggregate-ends Inv-loop μ-loop
+slice-aggregate-ends c = search needs
+
+ends-requires : tie.Need-ends-requires Inv-loop μ-loop
+ends-requires c κs = (c .before .before .before .before .before .before .before .before .before .before .pre, omega (arith, c .before .before .loop .inv .0, c .before .loop-test .taken), c .before .before .loop .inv .2)
+
+slice-aggregate-next-place-2 : tie.Need-slice-aggregate-next-place-2 Inv-loop μ-loop
+slice-aggregate-next-place-2 c = search needs
+
+add-next-place : tie.Need-add-next-place Inv-loop μ-loop
+add-next-place c = omega (arith, c .before .before .before .before .before .loop .inv .1)
+
+next-place-requires-2 : tie.Need-next-place-requires-2 Inv-loop μ-loop
+next-place-requires-2 c κs = array-count 16 (c .before .before .before .before .before .before .before .before .before .before .before .before .before .args .fresh .words) _ (c .before .before .before .before .before .before .before .before .before .before .before .before .before .good .1 .1 .1 .1 .1 .1 .0 .1 .1 .0)
+
+loop-less : tie.Need-loop-less Inv-loop μ-loop
+loop-less c = omega (arith, c .before .before .before .before .before .before .loop .inv .0, c .before .before .before .before .before .loop-test .taken, c .before .before .before .before .before .before .before .before .before .before .before .before .before .before .pre .few-places, c .next-place2 .ensures .bound, c .next-place2 .ensures .onward (omega (arith, c .before .before .before .before .before .before .loop .inv .0, c .before .before .before .before .before .loop-test .taken, c .before .before .before .before .before .before .before .before .before .before .before .before .before .before .pre .few-places)))
+
+loop-again : tie.Need-loop-again Inv-loop μ-loop
+loop-again c =
+    let l = c .before .before .before .before .before .before .loop in
+    let s = c .before .before .before .before .before .before .before .before .before .before .before .before .before .before in (
+      l .inv .0,
+      c .next-place2 .ensures .bound,
+      c .before .before .before .ends .kept .1 .1 .1 .1 .1 .1 .1 .0 ∙ l .inv .2,
+      λ any flags follow enter room.
+          walk-turn (endsOf (rewritten any (s .args .table .now) flags) (automataOf follow enter (s .args .sizes .now) (s .args .accepting .now) (s .args .lists)))
+          (numberOf (s .args .fresh .words)) (numberOf (s .args .set .words)) (s .args .states * s .args .w) (l .words) (c .before .before .before .ends .last .1 .1 .1 .1 .1 .1 .1 .0) (l .p) (c .next-place2 .result)
+          (s .pre .few-places) (omega (arith, l .inv .0, c .before .before .before .before .before .loop-test .taken)) (l .inv .3 any flags follow enter room) (c .before .before .before .ends .ensures .gains any flags follow enter room)
+          (c .next-place2 .ensures),
+    )
+
+returns : tie.Need-returns Inv-loop μ-loop
 returns c =
-    let s = c .before .before .before .before .before .before .before .before .before .before .before .before .before .before in
-    rows-round (s .args .states) (s .args .lists) (s .args .sizes .now) (s .args .accepting .now) (s .args .table .now) (s .args .w) (c .before .before .before .before .before .before .before .before .all-ends .last .1 .1 .1 .1 .0) (s .args .fresh .words)
-    (s .args .set .words) (c .before .ended-rows .last .1 .1 .1 .1 .1 .1 .0) (s .pre) (c .before .before .before .before .before .before .before .before .before .before .if1 .taken) (c .before .before .before .before .before .before .before .before .all-ends .ensures) (c .before .ended-rows .ensures)
-
-round-by-places-requires : tie.Need-round-by-places-requires
-round-by-places-requires c κs = search needs
-
-returns-2 : tie.Need-returns-2
-returns-2 c = search needs
+    let l = c .before .loop in
+    record {
+      gains = λ any flags follow enter room. walk-end _ _ _ _ _ (l .p) (omega (arith, l .inv .0, c .loop-test .left)) (l .inv .3 any flags follow enter room);
+    }
 
 pub round-spec : {M : Type 1} → statement M
 round-spec =
     tie.close
     (tie.spec
-    slice-aggregate-all-ends
-    all-ends-requires
-    slice-aggregate-ended-rows
-    slice-aggregate-ended-rows-2
-    slice-aggregate-ended-rows-3
-    ended-rows-requires
-    returns
-    round-by-places-requires
-    returns-2)
+    Inv-loop
+    μ-loop
+    mul-count
+    slice-aggregate-next-place
+    next-place-requires
+    loop-holds
+    slice-aggregate-ends
+    ends-requires
+    slice-aggregate-next-place-2
+    add-next-place
+    next-place-requires-2
+    loop-less
+    loop-again
+    returns)

@@ -1,4 +1,4 @@
--- The set is below the numbers of four words, or of all sixteen.
+-- The set is below the numbers of one word, of four, or of all sixteen.
 use Prim.Native.Nat.{_*_}
 use Rattle.theory.specs.PlacesLaws.{wider}
 use Rattle.places.specs.Words.{numberOf}
@@ -10,18 +10,27 @@ use Rattle.verdict.proofs.index.bucket.Tie as tie
 remainder-requires : tie.Need-remainder-requires
 remainder-requires c κs =
     let s = c .before in
-    (omega arith, wider (64 * s .args .used) 256 (numberOf (s .args .cover .now)) (omega (arith, c .if1 .taken)) (s .pre .1))
-
-remainder-requires-2 : tie.Need-remainder-requires-2
-remainder-requires-2 c κs =
-    let s = c .before in
-    (omega arith, wider (64 * s .args .used) 1024 (numberOf (s .args .cover .now)) (omega (arith, s .pre .0)) (s .pre .1))
+    (omega arith, wider (64 * s .args .used) 64 (numberOf (s .args .cover .now)) (omega (arith, c .if1 .taken)) (s .pre .1))
 
 returns : tie.Need-returns
 returns c = search needs
 
+remainder-requires-2 : tie.Need-remainder-requires-2
+remainder-requires-2 c κs =
+    let s = c .before .before in
+    (omega arith, wider (64 * s .args .used) 256 (numberOf (s .args .cover .now)) (omega (arith, c .if2 .taken)) (s .pre .1))
+
 returns-2 : tie.Need-returns-2
 returns-2 c = search needs
 
+remainder-requires-3 : tie.Need-remainder-requires-3
+remainder-requires-3 c κs =
+    let s = c .before .before in
+    (omega arith, wider (64 * s .args .used) 1024 (numberOf (s .args .cover .now)) (omega (arith, s .pre .0)) (s .pre .1))
+
+returns-3 : tie.Need-returns-3
+returns-3 c = search needs
+
 pub bucket-spec : {M : Type 1} → statement M
-bucket-spec = tie.close (tie.spec remainder-requires remainder-requires-2 returns returns-2)
+bucket-spec =
+    tie.close (tie.spec remainder-requires returns remainder-requires-2 returns-2 remainder-requires-3 returns-3)

@@ -1,47 +1,75 @@
--- Where sets stand turned, the first one is turned by its columns.
-use Rattle.verdict.specs.NextCover.{start-stands, start-plain}
+-- Where sets stand turned, the first one has the states that are reached from the first.
+use Prim.Native.Nat.{ℕ}
+use mathlib.Core.List.{List, [], _∷_}
+use mathlib.Core.Path.{_≡_, refl}
+use lib.ListN.{length, getD, replicate}
+use Rattle.places.specs.Words.{numberOf}
+use Rattle.verdict.specs.FirstCover.{first-stands}
+use Rattle.verdict.specs.NextCover.{start-plain}
 use native.Mathlib.Omega.{arith}
 use borrow.Author.Needs.{needs}
 use Rattle.verdict.proofs.next_cover.first_cover.Statement.{statement}
 use Rattle.verdict.proofs.next_cover.first_cover.Tie as tie
 
+-- Four words, with zeros behind.
+four-words : (l : List ℕ) → length l ≡ 4
+    → numberOf (getD l 0 0 ∷ getD l 1 0 ∷ getD l 2 0 ∷ getD l 3 0 ∷ replicate 12 0) ≡ numberOf l
+unfolding numberOf
+four-words [] e = absurd (omega (arith, e))
+four-words (a ∷ []) e = absurd (omega (arith, e))
+four-words (a ∷ b ∷ []) e = absurd (omega (arith, e))
+four-words (a ∷ b ∷ c ∷ []) e = absurd (omega (arith, e))
+four-words (a ∷ b ∷ c ∷ d ∷ []) e = refl
+four-words (a ∷ b ∷ c ∷ d ∷ x ∷ l) e = absurd (omega (arith, e))
+
 cover-start-requires : tie.Need-cover-start-requires
 cover-start-requires c κs = search needs
 
-slice-aggregate-columns-of : tie.Need-slice-aggregate-columns-of
-slice-aggregate-columns-of c = search needs
-
-columns-of-requires : tie.Need-columns-of-requires
-columns-of-requires c κs =
-    let w = c .before .before .before .if1 .taken in
-    let p = c .before .before .before .before .before .before .before .before .before .before .before .before .before .pre .0 w in
-    (search needs, w, p .some, p .few, p .ready .few-places, c .before .before .before .before .before .before .before .before .before .before .before .before .before .pre .1)
-
-pack-requires : tie.Need-pack-requires
-pack-requires c κs =
-    let w = c .before .before .before .before .before .before .before .if1 .taken in
-    let p = c .before .before .before .before .before .before .before .before .before .before .before .before .before .before .before .before .before .pre .0 w in
-    (w, p .some, p .few, p .ready .few-places, c .before .before .before .columns-of .ensures .within, omega (arith, c .before .before .before .columns-of .kept .1 .1 .1 .0, c .before .before .before .before .before .before .before .before .before .before .before .before .before .before .before .before .before .pre .1))
-
-same-length : tie.Need-same-length
-same-length c = c .before .before .before .before .columns-of .kept .1 .1 .1 .0
-
 returns : tie.Need-returns
-returns c =
-    let p = c .before .before .before .before .before .before .before .before .before .before .before .before .before .before .before .before .before .before .pre .0 (c .before .before .before .before .before .before .before .before .if1 .taken) in
-    start-stands p (c .before .before .before .before .before .before .before .before .before .cover-start .ensures) (c .before .before .before .before .columns-of .ensures) (c .pack .ensures .0) (c .pack .ensures .1)
+returns c = start-plain (c .before .if1 .taken) (c .cover-start .ensures)
+
+shared-slice-read-words : tie.Need-shared-slice-read-words
+shared-slice-read-words c = search needs
+
+array-write-words : tie.Need-array-write-words
+array-write-words c = search needs
+
+shared-slice-read-words-2 : tie.Need-shared-slice-read-words-2
+shared-slice-read-words-2 c = search needs
+
+array-write-words-2 : tie.Need-array-write-words-2
+array-write-words-2 c = search needs
+
+shared-slice-read-words-3 : tie.Need-shared-slice-read-words-3
+shared-slice-read-words-3 c = search needs
+
+array-write-words-3 : tie.Need-array-write-words-3
+array-write-words-3 c = search needs
+
+shared-slice-read-words-4 : tie.Need-shared-slice-read-words-4
+shared-slice-read-words-4 c = search needs
+
+array-write-words-4 : tie.Need-array-write-words-4
+array-write-words-4 c = search needs
 
 returns-2 : tie.Need-returns-2
-returns-2 c = start-plain (omega (arith, c .if1 .left)) (c .before .cover-start .ensures)
+returns-2 c =
+    let s = c .before .before .before .before .before .before .before .before .before .before .before in
+    let (ready, reached) = s .pre (omega (arith, c .before .before .before .before .before .if1 .left)) in
+    first-stands ready (s .args .first .now) _ reached (four-words (s .args .first .now) (omega (arith, c .before .before .before .before .reached .given)))
 
 pub first-cover-spec : {M : Type 1} → statement M
 first-cover-spec =
     tie.close
     (tie.spec
     cover-start-requires
-    slice-aggregate-columns-of
-    columns-of-requires
-    pack-requires
-    same-length
     returns
+    shared-slice-read-words
+    array-write-words
+    shared-slice-read-words-2
+    array-write-words-2
+    shared-slice-read-words-3
+    array-write-words-3
+    shared-slice-read-words-4
+    array-write-words-4
     returns-2)

@@ -1,24 +1,14 @@
 -- The columns, or the rows that can come next, are read where the set stands.
-use Prim.Native.Nat.{ℕ, _+_, _*_, _-_, _≤_}
-use mathlib.Core.List.{List}
-use mathlib.Core.Path.{_≡_, sym, ap, _∙_, subst}
-use lib.ListN.{length, take, drop, length-take, length-drop}
+use mathlib.Core.Path.{subst}
+use lib.ListN.{length-take, length-drop}
 use Rattle.places.specs.Words.{numberOf}
-use Rattle.verdict.specs.PairTable.{wordsAt}
-use Rattle.verdict.specs.PairTableLaws.{words-part}
+use Rattle.verdict.specs.PairTableLaws.{set-part}
 use Rattle.verdict.specs.Turned.{Stacked}
 use Rattle.verdict.specs.WideRows.{RowsLaid}
 use native.Mathlib.Omega.{arith}
 use borrow.Author.Needs.{needs}
 use Rattle.verdict.proofs.next_cover.lay.Statement.{statement}
 use Rattle.verdict.proofs.next_cover.lay.Tie as tie
-
--- The part of the workspace that is lent is the set of the pair.
-set-part : (space : List ℕ) (i : ℕ) → 18 * i + 18 ≤ length space
-    → take (18 * i + 1 + 16 - (18 * i + 1)) (drop (18 * i + 1) space) ≡ wordsAt space (18 * i + 1) 16
-set-part space i room =
-    let count : 18 * i + 1 + 16 - (18 * i + 1) ≡ 16 = omega arith in
-    ap (λ k. take k (drop (18 * i + 1) space)) count ∙ sym (words-part space (18 * i + 1) 16 (omega arith))
 
 mul-from : tie.Need-mul-from
 mul-from c = search needs
@@ -54,10 +44,13 @@ returns : tie.Need-returns
 returns c =
     let s = c .before .before .before .before .before .before .before .before .before in
     let laid = c .before .before .lay-rows .last .1 .1 .1 .1 .0 in (
-      λ e w. absurd (omega (arith, c .before .before .before .before .before .if1 .taken)),
+      λ e w few. absurd (omega (arith, c .before .before .before .before .before .if1 .taken)),
       λ h. subst (λ l. RowsLaid (s .args .rows) (s .args .states) (s .args .before .now) (numberOf l) laid)
           (set-part (s .args .workspace .now) (s .args .i) (s .pre .1)) (c .before .before .lay-rows .ensures),
     )
+
+returns-2 : tie.Need-returns-2
+returns-2 c = (λ e w few. absurd (omega (arith, c .if2 .taken)), λ h. absurd (omega (arith, c .before .if1 .left)))
 
 mul-columns-at : tie.Need-mul-columns-at
 mul-columns-at c = search needs
@@ -73,25 +66,25 @@ part-columns-at-end c = search needs
 
 columns-at-requires : tie.Need-columns-at-requires
 columns-at-requires c κs =
-    let s = c .before .before .before .before .before .before .before in
-    let w = c .before .before .if2 .taken in
-    let (some, states, places) = s .pre .0 w in
-    (simp (length-take, length-drop) (omega (arith, s .pre .1)), w, some, states, places, s .pre .2)
+    let s = c .before .before .before .before .before .before .before .before in
+    let w = c .before .before .if3 .taken in
+    let (some, places) = s .pre .0 w in
+    (simp (length-take, length-drop) (omega (arith, s .pre .1)), w, some, omega (arith, c .before .before .before .if2 .left), places, s .pre .2)
 
 same-length-2 : tie.Need-same-length-2
 same-length-2 c = c .before .before .columns-at .kept .1 .1 .1 .0
 
-returns-2 : tie.Need-returns-2
-returns-2 c =
-    let s = c .before .before .before .before .before .before .before .before .before .before in
+returns-3 : tie.Need-returns-3
+returns-3 c =
+    let s = c .before .before .before .before .before .before .before .before .before .before .before in
     let laid = c .before .before .columns-at .last .1 .1 .1 .0 in (
-      λ e w. subst (λ l. Stacked (s .args .w) (s .args .states) laid (numberOf l))
+      λ e w few. subst (λ l. Stacked (s .args .w) (s .args .states) laid (numberOf l))
           (set-part (s .args .workspace .now) (s .args .i) (s .pre .1)) (c .before .before .columns-at .ensures),
-      λ h. absurd (omega (arith, c .before .before .before .before .before .before .if1 .left)),
+      λ h. absurd (omega (arith, c .before .before .before .before .before .before .before .if1 .left)),
     )
 
-returns-3 : tie.Need-returns-3
-returns-3 c = (λ e w. absurd (omega (arith, c .if2 .left)), λ h. absurd (omega (arith, c .before .if1 .left)))
+returns-4 : tie.Need-returns-4
+returns-4 c = (λ e w few. absurd (omega (arith, c .if3 .left)), λ h. absurd (omega (arith, c .before .before .if1 .left)))
 
 pub lay-spec : {M : Type 1} → statement M
 lay-spec =
@@ -107,11 +100,12 @@ lay-spec =
     lay-rows-requires
     same-length
     returns
+    returns-2
     mul-columns-at
     sub-columns-at
     part-columns-at-start
     part-columns-at-end
     columns-at-requires
     same-length-2
-    returns-2
-    returns-3)
+    returns-3
+    returns-4)

@@ -1,13 +1,16 @@
--- The step by rows or by columns, or of a set as it stands.
-use Prim.Native.Nat.{_+_, _*_, _^_, _<_}
+-- The step by rows, of a set as it stands, by ranges or by columns.
+use Prim.Native.Nat.{_+_, _*_, _^_, _≤_, _<_}
 use mathlib.Core.Path.{_≡_, sym, ap, _∙_, subst}
+use lib.ListN.{length-take, length-drop}
 use lib.Pow.{pow-mono}
 use Rattle.theory.specs.PlacesLaws.{wider}
 use Rattle.places.specs.Words.{numberOf}
 use Rattle.places.specs.WordsLaws.{number-below}
 use Rattle.places.proofs.Held.{array-count, array-words}
-use Rattle.verdict.specs.NextCover.{next-stands, step-plain, rows-within, rows-stand}
+use Rattle.verdict.specs.NextCover.{next-stands, ranges-asked, ranges-stand, ranges-within, step-plain, rows-within, rows-stand}
 use Rattle.verdict.specs.PairTable.{wordsAt}
+use Rattle.verdict.specs.PairTableLaws.{set-part}
+use Rattle.verdict.specs.Ranges.{RangesStepped}
 use Rattle.verdict.specs.WordBits.{number-cleared}
 use native.Mathlib.Omega.{arith}
 use borrow.Author.Needs.{needs}
@@ -53,43 +56,6 @@ returns c =
       c .step-rows .kept .1 .1 .1 .1 .1 .1 .1 .0 ∙ c .before .step-rows-arg .given .0 .1,
     )
 
-step-turned-requires : tie.Need-step-turned-requires
-step-turned-requires c κs =
-    let s = c .before .before .before .before .before .before .before .before .before .before .before .before in
-    let w = c .before .if2 .taken in
-    let stacked = s .pre .0 .stacked (omega (arith, c .before .before .if1 .left)) w in
-    let p = s .pre .0 .prepared w in
-    let r = p .ready in (
-      r .counted,
-      s .pre .1,
-      r .enter-room,
-      r .accepting-room,
-      r .wide,
-      p .leading .within,
-      p .some,
-      p .few,
-      r .few-places,
-      stacked .within,
-      p .finishing .within,
-      s .pre .3 .within,
-      s .pre .4,
-      s .pre .0 .room,
-      p .before-room,
-      p .ended-room,
-    )
-
-returns-2 : tie.Need-returns-2
-returns-2 c =
-    let s = c .before .before .before .before .before .before .before .before .before .before .before .before .before in
-    let w = c .before .before .if2 .taken in
-    let stacked = s .pre .0 .stacked (omega (arith, c .before .before .before .if1 .left)) w in
-    let told = c .step-turned .ensures in (
-      next-stands (s .pre .0 .prepared w) (wordsAt (s .args .workspace .now) (18 * s .args .i + 1) 16) stacked _ (told .0)
-          (told .1),
-      omega (arith, told .1, pow-mono (s .pre .3 .turned w)),
-      told .2,
-    )
-
 load-requires : tie.Need-load-requires
 load-requires c κs = search needs
 
@@ -99,17 +65,107 @@ cover-step-requires c κs = search needs
 copy-requires : tie.Need-copy-requires
 copy-requires c κs = c .copy-arg .given .0 .1
 
-returns-3 : tie.Need-returns-3
-returns-3 c =
+returns-2 : tie.Need-returns-2
+returns-2 c =
     let s = c .before .before .before .before .before .before .before .before .before .before .before .before .before .before .before in
     let made = c .before .before .cover-step in
-    let plain : s .args .w ≡ 0 = omega (arith, c .before .before .before .before .if2 .left) in
+    let plain : s .args .w ≡ 0 = c .before .before .before .before .if2 .taken in
     let size = array-count 16 (made .result .words) _ (made .ok .1 .1 .0) in
     let below = number-below (made .result .words) (array-words 16 (made .result .words) _ (made .ok .1 .1 .0)) in
     rw (c .copy .ensures) (
       rw (← c .before .before .before .load .ensures (s .pre .2)) (step-plain _ (made .result .words) plain (made .ensures)),
       subst (λ k. numberOf (made .result .words) < 2 ^ (64 * k)) (size ∙ sym (s .pre .3 .plain plain)) below,
       size,
+    )
+
+mul-from : tie.Need-mul-from
+mul-from c = search needs
+
+add-from : tie.Need-add-from
+add-from c = search needs
+
+add-to : tie.Need-add-to
+add-to c = search needs
+
+clear-words-requires-2 : tie.Need-clear-words-requires-2
+clear-words-requires-2 c κs = search needs
+
+mul-step-ranges : tie.Need-mul-step-ranges
+mul-step-ranges c = search needs
+
+sub-step-ranges : tie.Need-sub-step-ranges
+sub-step-ranges c = search needs
+
+part-step-ranges-start : tie.Need-part-step-ranges-start
+part-step-ranges-start c = search needs
+
+part-step-ranges-end : tie.Need-part-step-ranges-end
+part-step-ranges-end c = search needs
+
+step-ranges-requires : tie.Need-step-ranges-requires
+step-ranges-requires c κs =
+    let s = c .before .before .before .before .before .before .before .before .before .before .before .before .before .before .before .before in
+    let words = c .before .before .before .clear-words-arg2 .given .0 .1 in (
+      ranges-asked (s .pre .0 .prepared (omega (arith, c .before .before .before .before .before .if2 .left))) (c .before .before .before .before .if3 .taken),
+      s .pre .1,
+      simp (length-take, length-drop) (omega (arith, s .pre .2)),
+      c .step-ranges-arg2 .given .0 .1,
+      ap numberOf (c .before .before .clear-words2 .ensures (omega (arith, words, s .pre .3 .within)))
+          ∙ number-cleared (s .args .used) (s .args .cover .now) (s .pre .4),
+    )
+
+returns-3 : tie.Need-returns-3
+returns-3 c =
+    let s = c .before .before .before .before .before .before .before .before .before .before .before .before .before .before .before .before .before in
+    let w : 0 < s .args .w = omega (arith, c .before .before .before .before .before .before .if2 .left) in
+    let p = s .pre .0 .prepared w in
+    let many = c .before .before .before .before .before .if3 .taken in
+    let r = c .step-ranges .last .1 .1 .1 .1 .1 .1 .1 .1 .1 .1 .0 in (
+      ranges-stand p many (wordsAt (s .args .workspace .now) (18 * s .args .i + 1) 16) r
+          (subst (λ l. RangesStepped (s .args .states) (s .args .lists) (s .args .a) (s .args .enter .now) (s .args .sizes .now) (s .args .accepting .now)
+          (s .args .before .now) (s .args .ended .now) (s .args .table .now) (numberOf l) (numberOf r))
+          (set-part (s .args .workspace .now) (s .args .i) (s .pre .2)) (c .step-ranges .ensures)),
+      omega (arith, ranges-within p many (c .step-ranges .ensures), pow-mono (s .pre .3 .turned w)),
+      c .step-ranges .kept .1 .1 .1 .1 .1 .1 .1 .1 .1 .1 .0 ∙ c .before .step-ranges-arg2 .given .0 .1,
+    )
+
+step-turned-requires : tie.Need-step-turned-requires
+step-turned-requires c κs =
+    let s = c .before .before .before .before .before .before .before .before .before .before .before .before .before in
+    let w : 0 < s .args .w = omega (arith, c .before .before .if2 .left) in
+    let few : s .args .states ≤ 64 = omega (arith, c .before .if3 .left) in
+    let stacked = s .pre .0 .stacked (omega (arith, c .before .before .before .if1 .left)) w few in
+    let p = s .pre .0 .prepared w in
+    let r = p .ready in (
+      r .counted,
+      s .pre .1,
+      r .enter-room,
+      r .accepting-room,
+      r .wide,
+      p .leading .within,
+      p .some,
+      few,
+      r .few-places,
+      stacked .within,
+      p .finishing few .within,
+      s .pre .3 .within,
+      s .pre .4,
+      s .pre .0 .room,
+      p .before-room,
+      p .ended-room,
+    )
+
+returns-4 : tie.Need-returns-4
+returns-4 c =
+    let s = c .before .before .before .before .before .before .before .before .before .before .before .before .before .before in
+    let w : 0 < s .args .w = omega (arith, c .before .before .before .if2 .left) in
+    let few : s .args .states ≤ 64 = omega (arith, c .before .before .if3 .left) in
+    let stacked = s .pre .0 .stacked (omega (arith, c .before .before .before .before .if1 .left)) w few in
+    let told = c .step-turned .ensures in (
+      next-stands (s .pre .0 .prepared w) few (wordsAt (s .args .workspace .now) (18 * s .args .i + 1) 16) stacked _ (told .0)
+          (told .1),
+      omega (arith, told .1, pow-mono (s .pre .3 .turned w)),
+      told .2,
     )
 
 pub next-cover-spec : {M : Type 1} → statement M
@@ -119,9 +175,19 @@ next-cover-spec =
     clear-words-requires
     step-rows-requires
     returns
-    step-turned-requires
-    returns-2
     load-requires
     cover-step-requires
     copy-requires
-    returns-3)
+    returns-2
+    mul-from
+    add-from
+    add-to
+    clear-words-requires-2
+    mul-step-ranges
+    sub-step-ranges
+    part-step-ranges-start
+    part-step-ranges-end
+    step-ranges-requires
+    returns-3
+    step-turned-requires
+    returns-4)

@@ -21,7 +21,17 @@ returns-4 : tie.Need-returns-4
 returns-4 c = pairs-unfit _ _ _ _ (λ p few room. omega (arith, c .if4 .taken))
 
 sweep-requires : tie.Need-sweep-requires
-sweep-requires c κs = search needs
+sweep-requires c κs =
+    let s = c .before .before .before .before .before .before .before .before .before .before .before .before .before .before .before in (
+      omega (arith, c .before .before .before .before .before .if1 .left),
+      omega (arith, c .before .before .before .before .if2 .left),
+      omega (arith, c .before .before .before .if3 .left),
+      omega (arith, c .before .before .if4 .left),
+      s .pre .0,
+      s .pre .1,
+      s .pre .2,
+      s .pre .3,
+    )
 
 same-length : tie.Need-same-length
 same-length c = search needs

@@ -41,7 +41,7 @@ slice-read-from c = let s = c .before .before .before .before .before .before .b
 lay-requires : tie.Need-lay-requires Inv-loop μ-loop
 lay-requires c κs =
     let s = c .before .before .before .before .before .before .before .before .before .before .before .before in
-    (λ h. let p = s .pre .6 h in (p .some, p .few, p .ready .few-places), omega (arith, s .pre .0, s .pre .1, s .pre .4), s .pre .7, λ h. let r = s .pre .8 h in (r .long, r .short, r .ready .few-places, r .before-room, r .laid-room))
+    (λ h. let p = s .pre .6 h in (p .some, p .ready .few-places), omega (arith, s .pre .0, s .pre .1, s .pre .4), s .pre .7, λ h. let r = s .pre .8 h in (r .long, r .short, r .ready .few-places, r .before-room, r .laid-room))
 
 used-words-requires : tie.Need-used-words-requires Inv-loop μ-loop
 used-words-requires c κs = λ h. c .before .before .before .before .before .before .before .before .before .before .before .before .before .before .before .pre .6 h .ready .few-places
@@ -66,7 +66,7 @@ next-cover-requires c κs =
     let s = in-loop .before .before .before .before .before .before .before .before .before .before .before .before .before .before .before .before .before .before .before in (
       record {
         prepared = s .pre .6;
-        stacked = λ z h. subst (λ z. Stacked (s .args .w) (s .args .states) (lay .last .1 .1 .1 .1 .1 .1 .0) (numberOf z)) (sym (l .inv .0 .words)) (lay .ensures .0 z h);
+        stacked = λ z h few. subst (λ z. Stacked (s .args .w) (s .args .states) (lay .last .1 .1 .1 .1 .1 .1 .0) (numberOf z)) (sym (l .inv .0 .words)) (lay .ensures .0 z h few);
         room = omega (arith, lay .kept .1 .1 .1 .1 .1 .1 .0, s .pre .7);
         by-rows = λ h. rows-kept (s .pre .8 h) (lay .kept .1 .1 .1 .1 .1 .1 .0);
         rows-laid = λ h. subst (λ z. RowsLaid (s .args .rows) (s .args .states) (s .args .before .now) (numberOf z) (lay .last .1 .1 .1 .1 .1 .1 .0)) (sym (l .inv .0 .words)) (lay .ensures .1 h);

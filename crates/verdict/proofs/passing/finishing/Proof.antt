@@ -1,10 +1,12 @@
--- The loop's invariant: the entries of the lists before v are those of the next states. The measure is the number of lists left.
+-- The loop's invariant: the entries of the lists before v are those of the next states, and every entry is a word. The measure is the number
+-- of lists left.
 use Prim.Native.Nat.{_-_, _≤_}
 use mathlib.Core.Bool.{false≢true}
 use mathlib.Core.Path.{_≡_, refl, _∙_, subst}
 use lib.ListN.{length}
 use borrow.Author.Tests.{not-false}
-use Rattle.verdict.specs.PassingTurns.{EndedBefore, ended-start, ended-turn, ended-finishing}
+use Rattle.places.specs.Words.{Words}
+use Rattle.verdict.specs.FinishingTurns.{EndedBefore, ended-start, ended-turn, ended-finishing}
 use native.Mathlib.Omega.{arith}
 use borrow.Author.Needs.{needs}
 use Rattle.verdict.proofs.passing.finishing.Statement.{statement}
@@ -12,13 +14,13 @@ use Rattle.verdict.proofs.passing.finishing.Tie as tie
 
 abbrev Inv-loop : tie.InvT-loop
 Inv-loop passes table states lists ended₀ v₀ ended v =
-    (v ≤ lists) × (length ended ≡ length ended₀) × EndedBefore states table passes ended v
+    (v ≤ lists) × (length ended ≡ length ended₀) × EndedBefore states table passes ended v × Words ended
 
 abbrev μ-loop : tie.MeasureT-loop
 μ-loop passes table states lists ended₀ v₀ ended v = lists - v
 
 loop-holds : tie.Need-loop-holds Inv-loop μ-loop
-loop-holds c = (omega arith, refl, ended-start _ _ _ _)
+loop-holds c = (omega arith, refl, ended-start _ _ _ _, λ i. omega (arith, c .slice-known .given i))
 
 list-entries-requires : tie.Need-list-entries-requires Inv-loop μ-loop
 list-entries-requires c κs =
@@ -47,6 +49,7 @@ loop-again c =
       e .size ∙ l .inv .1,
       ended-turn (s .args .states) (s .args .table .now) (s .args .passes .now) (l .ended) _ (l .v) (s .pre .0)
           (e .entries (not-false _ (c .if1 .left))) (l .inv .2),
+      λ i. omega (arith, c .before .slice-known2 .given i),
     )
 
 same-length-2 : tie.Need-same-length-2 Inv-loop μ-loop
@@ -57,7 +60,7 @@ returns-2 c =
     let l = c .before .loop in
     let a = c .before .before .before .before .args in
     let e : l .v ≡ a .lists = omega arith in
-    λ t accepting p. ended-finishing (a .states) (a .lists) accepting (a .table .now) (a .passes .now) (l .ended)
+    λ t accepting p. ended-finishing (a .states) (a .lists) accepting (a .table .now) (a .passes .now) (l .ended) (l .inv .3)
     (subst (EndedBefore (a .states) (a .table .now) (a .passes .now) (l .ended)) e (l .inv .2)) p
 
 pub finishing-spec : {M : Type 1} → statement M

@@ -2,7 +2,7 @@
 use Prim.Native.Nat.{_+_, _*_, _-_, _≤_}
 use mathlib.Core.Bool.{false≢true}
 use mathlib.Core.Path.{_≡_, subst}
-use Rattle.verdict.specs.PassingTurns.{EntriesBefore, entries-start, entries-turn}
+use Rattle.verdict.specs.FinishingTurns.{EntriesBefore, entries-start, entries-turn}
 use native.Mathlib.Omega.{arith}
 use borrow.Author.Needs.{needs}
 use Rattle.verdict.proofs.passing.list_entries.Statement.{statement}
@@ -83,11 +83,11 @@ returns-2 : tie.Need-returns-2 Inv-loop μ-loop
 returns-2 c =
     let l = c .before .loop in
     let s = c .before .before in
-    let e : l .q ≡ s .args .states = omega arith in
+    let a = s .args in
+    let e : l .q ≡ a .states = omega arith in
     record {
       size = l .inv .1 .size;
-      entries = λ t. subst (EntriesBefore (s .args .states) (s .args .v) (s .args .table .now) (s .args .passes .now) (s .args .ended .now) (l .ended)) e
-          (l .inv .1);
+      entries = λ t. subst (EntriesBefore (a .states) (a .v) (a .table .now) (a .passes .now) (a .ended .now) (l .ended)) e (l .inv .1);
     }
 
 pub list-entries-spec : {M : Type 1} → statement M

@@ -1,17 +1,21 @@
--- The loop's invariant: the entries are sound. The measure is the number of rounds left.
-use Prim.Native.Nat.{_-_}
+-- The loop's invariant: the states are sound. The measure is the number of rounds left.
+use Prim.Native.Nat.{_+_, _-_}
 use mathlib.Core.Bool.{false≢true}
+use mathlib.Core.Path.{_≡_, refl, _∙_}
+use lib.ListN.{length}
 use borrow.Author.Tests.{not-false, not-true}
 use Rattle.verdict.specs.PassingTurns.{Sound, sound-start, closed-passing}
+use native.Mathlib.Omega.{arith}
 use borrow.Author.Needs.{needs}
 use Rattle.verdict.proofs.passing.passing.Statement.{statement}
 use Rattle.verdict.proofs.passing.passing.Tie as tie
 
 abbrev Inv-loop : tie.InvT-loop
-Inv-loop accepting table states lists passes₀ rounds₀ passes rounds = Sound states lists accepting table passes
+Inv-loop accepting table states lists k passes₀ rounds₀ passes rounds =
+    (length passes ≡ length passes₀) × Sound k states lists accepting table passes
 
 abbrev μ-loop : tie.MeasureT-loop
-μ-loop accepting table states lists passes₀ rounds₀ passes rounds = 64 - rounds
+μ-loop accepting table states lists k passes₀ rounds₀ passes rounds = states + 1 - rounds
 
 next-below-requires : tie.Need-next-below-requires Inv-loop μ-loop
 next-below-requires c κs = search needs
@@ -24,41 +28,61 @@ alone-requires c κs = search needs
 
 loop-holds : tie.Need-loop-holds Inv-loop μ-loop
 loop-holds c =
-    let s = c .before .before .before .before .before .before in
-    sound-start (s .args .states) (s .args .lists) (s .args .accepting .now) (s .args .table .now) (c .alone .last .0) (s .pre .0)
-    (c .alone .ensures)
+    let a = c .before .before .before .before .before .before .before .before .before .args in
+    let alone = c .before .before .alone in
+    (refl, sound-start (a .k) (a .states) (a .lists) (a .accepting .now) (a .table .now) (alone .last .1 .1 .0) (alone .ensures))
 
 pass-round-requires : tie.Need-pass-round-requires Inv-loop μ-loop
 pass-round-requires c κs =
-    let s = c .before .before .before .before .before .before .before .before .before in
-    let before = c .before .before .before .before .before in (
+    let first = c .before .before .before .before .before in
+    let s = first .before .before .before .before .before .before .before in
+    let l = c .before .before .loop in (
       record {
-        few-states = s .pre .0;
-        few-lists = s .pre .1;
-        accepting-room = s .pre .2;
-        table-room = s .pre .3;
-        next = before .before .next-below .ensures (not-false _ (before .if1 .left));
+        few-words = s .pre .0;
+        few-states = s .pre .1;
+        few-lists = s .pre .2;
+        accepting-room = s .pre .3;
+        table-room = s .pre .4;
+        next = first .before .before .before .next-below .ensures (not-false _ (first .before .before .if1 .left));
       },
-      c .before .before .loop .inv,
+      omega (arith, s .pre .5, first .alone .kept .1 .1 .0, l .inv .0),
+      l .inv .1,
     )
+
+same-length : tie.Need-same-length Inv-loop μ-loop
+same-length c =
+    let last = c .before .before .before in
+    last .pass-round .kept .1 .1 .1 .1 .1 .0 ∙ last .before .before .before .loop .inv .0
+    ∙ last .before .before .before .before .before .before .alone .kept .1 .1 .0
 
 returns-2 : tie.Need-returns-2 Inv-loop μ-loop
 returns-2 c =
-    let s = c .before .before .before .before .before .before .before .before .before .before .before in
-    let before = c .before .before .before .before .before .before .before in
-    λ e. closed-passing (s .args .states) (s .args .lists) (s .args .accepting .now) (s .args .table .now)
-    (c .before .pass-round .last .1 .1 .1 .1 .0)
-    (before .before .next-below .ensures (not-false _ (before .if1 .left))) (c .before .pass-round .ensures .sound)
-    (c .before .pass-round .ensures .closed (not-true _ (c .if2 .taken)))
+    let first = c .before .before .before .before .before .before .before .before .before in
+    let a = first .before .before .before .before .before .before .before .args in
+    let next = first .before .before .before .next-below .ensures (not-false _ (first .before .before .if1 .left)) in
+    let pass-round = c .before .before .before .pass-round in
+    λ e. (
+      closed-passing (a .k) (a .states) (a .lists) (a .accepting .now) (a .table .now) (pass-round .last .1 .1 .1 .1 .1 .0) next
+          (pass-round .ensures .sound) (pass-round .ensures .closed (not-true _ (c .if2 .taken))),
+      next,
+    )
 
 add-rounds : tie.Need-add-rounds Inv-loop μ-loop
-add-rounds c = search needs
+add-rounds c =
+    let test = c .before .before .before .before .before in
+    let s = test .before .before .before .before .before .before .before .before .before .before .before in
+    omega (arith, test .loop-test .taken, s .pre .0, s .pre .1)
 
 loop-less : tie.Need-loop-less Inv-loop μ-loop
-loop-less c = search needs
+loop-less c = omega (arith, c .before .before .before .before .before .loop-test .taken)
 
 loop-again : tie.Need-loop-again Inv-loop μ-loop
-loop-again c = c .before .pass-round .ensures .sound
+loop-again c =
+    let last = c .before .before .before in
+    (last .pass-round .kept .1 .1 .1 .1 .1 .0 ∙ last .before .before .before .loop .inv .0, last .pass-round .ensures .sound)
+
+same-length-2 : tie.Need-same-length-2 Inv-loop μ-loop
+same-length-2 c = c .before .loop .inv .0 ∙ c .before .before .before .before .alone .kept .1 .1 .0
 
 returns-3 : tie.Need-returns-3 Inv-loop μ-loop
 returns-3 c = λ e. absurd (false≢true e)
@@ -74,8 +98,10 @@ passing-spec =
     alone-requires
     loop-holds
     pass-round-requires
+    same-length
     returns-2
     add-rounds
     loop-less
     loop-again
+    same-length-2
     returns-3)

@@ -1,4 +1,4 @@
--- There is room for what is prepared and for the columns: of at most four lists, or of sixteen.
+-- There is room for what is prepared and for the columns: of at most four lists and 64 states, or of sixteen lists.
 use native.Mathlib.Omega.{arith}
 use borrow.Author.Needs.{needs}
 use Rattle.verdict.specs.TablesLaws.{occupied-few}
@@ -16,7 +16,7 @@ slice-aggregate-explore-in-3 c = search needs
 
 explore-in-requires : tie.Need-explore-in-requires
 explore-in-requires c κs =
-    let s = c .before .before .before .before .before .before .before .before .before .before .before in
+    let s = c .before .before .before .before .before .before .before .before .before .before .before .before in
     let few = occupied-few (s .args .sizes .now) (s .args .lists) 0 (s .args .lists) (omega arith) (s .pre) in
     (omega arith, omega arith, omega (arith, few), omega arith, omega arith)
 

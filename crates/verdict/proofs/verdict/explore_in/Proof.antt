@@ -11,43 +11,45 @@ turned-fits zero occurrences room wide fits = omega arith
 turned-fits (suc turned) occurrences room wide fits = omega (arith, wide (omega arith))
 
 prepared-requires : tie.Need-prepared-requires
-prepared-requires c κs =
-    let s = c .before .before .before .before .before .before .before .before .before .before .before in
-    (s .pre .0, s .pre .1)
+prepared-requires c κs = (c .before .before .before .before .before .before .before .before .before .before .before .before .pre .0, c .before .before .before .before .before .before .before .before .before .before .before .before .pre .1)
 
 chosen-way-requires : tie.Need-chosen-way-requires
 chosen-way-requires c κs =
-    let s = c .before .before .before .before .before .before .before .before .before .before .before .before .before .before .before .before .before in
     let p = c .before .before .before .before .before .prepared in (
-      λ h. let r = p .ensures h .ready in (r .counted, r .wide, r .follow-room, r .enter-room, r .accepting-room),
-      omega (arith, p .kept .1 .1 .1 .1 .1 .1 .1 .0, s .pre .3),
+      λ h. let r = p .ensures h .0 .ready in (r .counted, r .wide, r .follow-room, r .enter-room, r .accepting-room),
+      omega (arith, p .kept .1 .1 .1 .1 .1 .1 .1 .0, c .before .before .before .before .before .before .before .before .before .before .before .before .before .before .before .before .before .before .pre .3),
     )
 
 pairs-requires : tie.Need-pairs-requires
 pairs-requires c κs =
-    let s = c .before .before .before .before .before .before .before .before .before .before .before .before .before .before .before .before .before .before .before .before .before .before .before .before in
-    let p = c .before .before .before .before .before .before .before .before .before .before .before .before .prepared in
-    let way = c .before .before .before .before .before .before .chosen-way in
-    let by-columns = columns-chosen (p .ensures) (way .ensures) in (
+    let s = c .before .before .before .before .before .before .before .before .before .before .before .before .before .before .before .before .before .before .before .before .before .before .before .before .before .before in
+    let p = c .before .before .before .before .before .before .before .before .before .before .before .before .before .prepared in
+    let way = c .before .before .before .before .before .before .before .chosen-way in
+    let by-columns = columns-chosen (λ h. p .ensures h .0) (way .ensures) in (
       by-columns,
+      λ h. p .ensures (omega (arith, way .ensures .by-columns h .0)) .1,
       turned-fits _ _ _ (λ h. by-columns h .ready .wide) (s .pre .2),
-      rows-chosen (p .ensures) (way .ensures) (omega (arith, way .kept .1 .1 .1 .1 .1 .1 .0, p .kept .1 .1 .1 .1 .1 .1 .1 .0, s .pre .3)) (omega (arith, s .pre .4)),
+      rows-chosen (λ h. p .ensures h .0) (way .ensures)
+          (omega (arith, way .kept .1 .1 .1 .1 .1 .1 .0, p .kept .1 .1 .1 .1 .1 .1 .1 .0, s .pre .3)) (omega (arith, s .pre .4)),
     )
 
 same-length : tie.Need-same-length
-same-length c = c .before .before .before .before .before .before .before .before .before .before .before .chosen-way .kept .1 .1 .1 .1 .1 .1 .0 ∙ c .before .before .before .before .before .before .before .before .before .before .before .before .before .before .before .before .before .prepared .kept .1 .1 .1 .1 .1 .1 .1 .0
+same-length c = c .before .before .before .before .before .before .before .before .before .before .before .before .chosen-way .kept .1 .1 .1 .1 .1 .1 .0 ∙ c .before .before .before .before .before .before .before .before .before .before .before .before .before .before .before .before .before .before .prepared .kept .1 .1 .1 .1 .1 .1 .1 .0
 
 same-length-2 : tie.Need-same-length-2
-same-length-2 c = c .before .before .before .before .before .before .before .before .before .before .before .before .before .before .before .before .before .prepared .kept .1 .1 .1 .1 .1 .1 .1 .1 .0
+same-length-2 c = c .before .before .before .before .before .before .before .before .before .before .before .before .before .before .before .before .before .before .prepared .kept .1 .1 .1 .1 .1 .1 .1 .1 .0
 
 same-length-3 : tie.Need-same-length-3
-same-length-3 c = c .before .before .before .before .pairs .kept .1 .1 .1 .1 .1 .1 .1 .1 .1 .1 .1 .1 .1 .0
+same-length-3 c = c .before .before .before .before .pairs .kept .1 .1 .1 .1 .1 .1 .1 .1 .1 .1 .1 .1 .1 .1 .0
 
 same-length-4 : tie.Need-same-length-4
-same-length-4 c = c .before .before .before .before .pairs .kept .1 .1 .1 .1 .1 .1 .1 .1 .1 .1 .1 .1 .1 .1 .0
+same-length-4 c = c .before .before .before .before .pairs .kept .1 .1 .1 .1 .1 .1 .1 .1 .1 .1 .1 .1 .1 .1 .1 .0
 
 returns : tie.Need-returns
-returns c = (λ h. columns-chosen (c .before .before .before .before .before .before .before .before .before .before .before .before .before .before .before .before .before .prepared .ensures) (c .before .before .before .before .before .before .before .before .before .before .before .chosen-way .ensures) h .ready .wide, c .before .before .before .before .pairs .ensures)
+returns c = (
+  λ h. columns-chosen (λ k. c .before .before .before .before .before .before .before .before .before .before .before .before .before .before .before .before .before .before .prepared .ensures k .0) (c .before .before .before .before .before .before .before .before .before .before .before .before .chosen-way .ensures) h .ready .wide,
+  c .before .before .before .before .pairs .ensures,
+)
 
 pub explore-in-spec : {M : Type 1} → statement M
 explore-in-spec =

@@ -6,7 +6,7 @@ use mathlib.Core.Path.{_≡_, refl, sym, ap, _∙_, subst}
 use lib.ListN.{length, getD}
 use borrow.Author.Tests.{not-false}
 use Rattle.verdict.specs.Tables.{occupied}
-use Rattle.verdict.specs.RowEndsLaws.{occupied-more}
+use Rattle.verdict.specs.TablesLaws.{occupied-more}
 use Rattle.verdict.specs.ColumnOffsets.{occupied-room}
 use Rattle.verdict.specs.WideRows.{RowsPrepared}
 use Rattle.verdict.specs.WideRowsPrepared.{Preparing, preparing-start, preparing-turn}
