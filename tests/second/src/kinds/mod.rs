@@ -9,7 +9,7 @@ pub use near_limits::with_pairs;
 
 use crate::generate::{right_text, Random};
 use by_lists::{beside_lists, list_dropped, of_lists, small, wide};
-use near_limits::{at_limit_of_places, far};
+use near_limits::{at_limit_of_places, far, many_states};
 use parts::drawn;
 
 #[derive(Clone, Copy, Debug, PartialEq, Eq)]
@@ -26,6 +26,8 @@ pub enum Kind {
     Wide,
     /// As many cover places as may be, or some more.
     Places,
+    /// Over 64 states, and no more cover places than may be.
+    States,
     /// Over 128 pairs.
     Pairs,
     /// Over 64 standings or over 256 states.
@@ -35,13 +37,14 @@ pub enum Kind {
 }
 
 impl Kind {
-    pub const ALL: [Kind; 9] = [
+    pub const ALL: [Kind; 10] = [
         Kind::Small,
         Kind::OfLists,
         Kind::BesideLists,
         Kind::ListDropped,
         Kind::Wide,
         Kind::Places,
+        Kind::States,
         Kind::Pairs,
         Kind::Far,
         Kind::Right,
@@ -55,6 +58,7 @@ impl Kind {
             Kind::ListDropped => "query made of the lists, one dropped",
             Kind::Wide => "many labels and lists",
             Kind::Places => "about 1024 cover places",
+            Kind::States => "over 64 states",
             Kind::Pairs => "over 128 pairs",
             Kind::Far => "over 64 standings or 256 states",
             Kind::Right => "any right job",
@@ -70,6 +74,7 @@ impl Kind {
             Kind::ListDropped => drawn(random, list_dropped),
             Kind::Wide => drawn(random, wide),
             Kind::Places => at_limit_of_places(random),
+            Kind::States => many_states(random),
             Kind::Pairs => with_pairs(random, 129, 700),
             Kind::Far => drawn(random, far),
             Kind::Right => right_text(random),

@@ -56,6 +56,27 @@ fn repeated(random: &mut Random, row: &str, more: usize) -> String {
     factors.join(".")
 }
 
+/// A job with over 64 states and no more cover places than there may be.
+pub fn many_states(random: &mut Random) -> Vec<u8> {
+    loop {
+        let count = random.between(1, 2);
+        let labels = labels(random, count);
+        let length = random.between(8, 24);
+        let query = row(random, &labels, length, 6);
+        let mut lists = Vec::new();
+        for _ in 0..random.between(2, 4) {
+            let length = random.between(1, 2);
+            lists.push(row(random, &labels, length, 50));
+        }
+        let text = Parts { labels, query, lists }.text();
+        let job = read(&text).expect("short rows");
+        let offsets = 1 + job.lists.iter().map(|list| occurrences(&list.expr)).sum::<usize>();
+        if states(&job).is_some_and(|states| states > 64 && states * offsets <= MOST_PLACES) {
+            return text;
+        }
+    }
+}
+
 /// A job whose exact count of pairs lies from `low` to `high`; above 4,096 it
 /// need only be above `low`.
 pub fn with_pairs(random: &mut Random, low: usize, high: usize) -> Vec<u8> {

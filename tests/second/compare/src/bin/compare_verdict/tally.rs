@@ -1,7 +1,7 @@
 //! Counts of what a run met, and the least that a run must meet.
 
 use crate::comparison::Told;
-use second::judge::is_path_of;
+use second::judge::{is_path_of, occurrences};
 use second::kinds::Kind;
 use second::operations::MOST_ALLOWANCE;
 use second::read::Job;
@@ -30,6 +30,10 @@ pub struct Tally {
     longest_missed: usize,
     empty_path_in_list: usize,
     empty_path_in_query: usize,
+    /// Over 64 states, and those of them with the empty path in a list.
+    many_states: [usize; 2],
+    /// Over 64 offsets with at most four lists, and with more.
+    many_offsets: [usize; 2],
     /// Random jobs refused 13, by the allowance.
     pub over: [usize; ALLOWANCES.len() + 2],
     pub judged: usize,
@@ -71,7 +75,19 @@ impl Tally {
         }
         let in_list = job.lists.iter().any(|list| is_path_of(&list.expr, &[]));
         self.empty_path_in_list += usize::from(in_list);
+        self.sizes(job, exact.found.states.len(), in_list);
         self.empty_path_in_query += usize::from(is_path_of(&job.query, &[]));
+    }
+
+    fn sizes(&mut self, job: &Job, states: usize, in_list: bool) {
+        if states > 64 {
+            self.many_states[0] += 1;
+            self.many_states[1] += usize::from(in_list);
+        }
+        let offsets = 1 + job.lists.iter().map(|list| occurrences(&list.expr)).sum::<usize>();
+        if offsets > 64 {
+            self.many_offsets[usize::from(job.lists.len() > 4)] += 1;
+        }
     }
 
     /// Stops the run if too few of some kind were met.
@@ -95,6 +111,12 @@ impl Tally {
         assert_eq!(self.missed[0], 0, "the empty path is missed");
         kind("empty path in the query", self.empty_path_in_query);
         kind("empty path in a list", self.empty_path_in_list);
+        for count in self.many_states {
+            floor("over 64 states, with the empty path in a list or not", count, 200);
+        }
+        for count in self.many_offsets {
+            floor("over 64 offsets, at most four lists or more", count, 20);
+        }
         for number in 1..=13 {
             floor(&format!("refused {number}"), self.refused[number], 20);
         }
@@ -139,6 +161,10 @@ impl Display for Tally {
         line(self.missed[4], &format!("missed, length 4 to {longest}"))?;
         line(self.empty_path_in_list, "with the empty path in a list")?;
         line(self.empty_path_in_query, "with the empty path in the query")?;
+        line(self.many_states[0], "over 64 states")?;
+        line(self.many_states[1], "over 64 states, with the empty path in a list")?;
+        line(self.many_offsets[0], "over 64 offsets, at most four lists")?;
+        line(self.many_offsets[1], "over 64 offsets, more lists")?;
         line(self.judged, "judged")?;
         line(self.judged_words, "judged list words")?;
         line(self.judged_whole, "judged counts of pairs")?;
