@@ -16,13 +16,13 @@ pub mod AnswerJobLaws
 pub mod Demand3
 -- What the code keeps and promises.
 pub mod TableSteps
-pub mod Cleared
 pub mod Links
 pub mod LinkAt
 pub mod LinkBegins
 pub mod LinkReading
 pub mod LinkView
 pub mod Pairs
+pub mod Cleared
 pub mod NextState
 pub mod WordsFrom
 pub mod Waiting

@@ -11,12 +11,12 @@ use Rattle.finding.specs.declared.standings.Explored.{Explored}
 use Rattle.finding.specs.declared.standings.Explored.the-variants.{All}
 use Rattle.finding.specs.Standings.{standings, values}
 use Rattle.finding.specs.Plain.{plain}
+use Rattle.finding.specs.Cleared.{Cleared}
 use Rattle.finding.specs.StandingsTold.{StandingsTold}
 use Rattle.answering.specs.declared.links_core.Links.the-variants.{Marked, Over}
 use Rattle.answering.specs.Table.{IsTable}
 use Rattle.answering.specs.TableLaws.{is-table-exactly}
 use Rattle.answering.specs.Answer.{linkMachine}
-use Rattle.answering.specs.Cleared.{Cleared}
 use Rattle.answering.specs.Links.{table-sorted}
 use Rattle.answering.specs.Marks.{Markable, MarksSet}
 use Rattle.answering.specs.SetMarks.{marks-accepted}

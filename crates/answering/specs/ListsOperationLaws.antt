@@ -12,11 +12,11 @@ use Rattle.syntax.specs.declared.refusal.Refusal.{Refusal}
 use Rattle.syntax.specs.declared.refusal.Refusal.the-variants.{TooManyStandings, TooManyStates, BadTable, BadStart}
 use Rattle.finding.specs.declared.answer.Finding.{Finding}
 use Rattle.finding.specs.Find.{Found, found, find}
+use Rattle.finding.specs.Cleared.{Cleared}
 use Rattle.verdict.specs.Cover.{Rewritten}
 use Rattle.verdict.specs.VerdictJob.{rewritten}
 use Rattle.answering.specs.declared.links_operation.Answered.{Answered}
 use Rattle.answering.specs.Table.{isTable}
-use Rattle.answering.specs.Cleared.{Cleared}
 use Rattle.answering.specs.AnswerJob.{Marking, refused, markedLists, listsJob}
 use Rattle.answering.specs.LinksOperation.{Outcome, outcome}
 use Rattle.answering.specs.AnswerChecks.{bad-table, bad-start, both-proper}

@@ -9,8 +9,9 @@ use native.Mathlib.Omega.{arith}
 use lib.ListN.{length, getD, drop}
 use Rattle.theory.specs.Graph.{Table}
 use Rattle.theory.specs.Places.{Member}
+use Rattle.finding.specs.Cleared.{Cleared}
 use Rattle.answering.specs.Links.{SortedByFrom}
-use Rattle.answering.specs.Cleared.{Cleared, cleared-beyond}
+use Rattle.answering.specs.Cleared.{cleared-beyond}
 use Rattle.answering.specs.Pairs.{Has}
 use Rattle.answering.specs.SetSearch.{SetFound, begins, onward}
 use Rattle.answering.specs.SetSearchRun.{SetSizes, SetStarting, SetAllFound, set-starting}

@@ -10,8 +10,9 @@ use native.Mathlib.Nat.{mul-le-mul, mul-le-mul-right, one-mul}
 use native.Mathlib.Omega.{arith}
 use lib.ListN.{length, drop, replicate, length-replicate}
 use Rattle.theory.specs.Graph.{Table, Linked}
+use Rattle.finding.specs.Cleared.{Cleared}
 use Rattle.answering.specs.Links.{SortedByFrom}
-use Rattle.answering.specs.Cleared.{Cleared, cleared-none}
+use Rattle.answering.specs.Cleared.{cleared-none}
 use Rattle.answering.specs.Pairs.{place, Has, put, has-put-new, has-put-there, zeros-idle}
 use Rattle.answering.specs.WordsFrom.{Zeroed, SomeFrom, none-pending, zeroed-other, zeroed-back}
 use Rattle.answering.specs.Grown.{Ready}

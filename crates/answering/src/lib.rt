@@ -1,5 +1,4 @@
 // Answers over lent tables: whether a table is one, what a search reaches over it, and its marks; and both answers on job texts.
-mod clear;
 mod link_view;
 mod links;
 mod links_core;
@@ -19,8 +18,6 @@ mod table;
 mod useful;
 mod word_search;
 
-pub use clear::clear_bytes;
-pub use clear::clear_words;
 pub use links_operation::Answered;
 pub use links_operation::answer_from_links;
 pub use lists_operation::answer_from_lists;

@@ -1,8 +1,8 @@
 // Marks by the standings of one expression, on plain data: its automaton, a table of links and a start.
-use super::clear::clear_bytes;
-use super::clear::clear_words;
 use super::marks::mark;
 use super::place_search::search_places;
+use finding::clear::clear_bytes;
+use finding::clear::clear_words;
 use finding::standings::Explored;
 use finding::standings::standings;
 ghost use Rattle.finding.specs.Plain.{plain};

@@ -1,9 +1,9 @@
 // Marks by the states of a rewriting, on plain data: its next states and flags, a table of links over lists and a start.
-use super::clear::clear_words;
 use super::marks::mark;
 use super::ranks::accept_ranks;
 use super::ranks::rank_useful;
 use super::state_search::search_states;
+use finding::clear::clear_words;
 ghost use mathlib.Core.Bool.{true};
 ghost use mathlib.Core.Logic.{_↔_};
 ghost use mathlib.Core.Path.{_≡_};

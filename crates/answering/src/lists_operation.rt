@@ -1,10 +1,10 @@
 // Answer from lists: the rewriting that Find gives for a job, over a table of links over its lists.
-use super::clear::clear_bytes;
-use super::clear::clear_words;
 use super::links_operation::Answered;
 use super::lists_core::mark_lists;
 use super::table::is_table;
 use finding::answer::Finding;
+use finding::clear::clear_bytes;
+use finding::clear::clear_words;
 use finding::core::find_rows;
 use reading::Answer;
 use reading::few_lines;

@@ -1,9 +1,9 @@
 // The places of an automaton that are reached over a table from one recording: the search of one word for each set (word_search), by the next
 // places of each place, which each label cuts to those that it enters.
-use super::clear::clear_words;
 use super::links::link_begins;
 use super::sizes::Sizes;
 use super::word_search::follow_all_words;
+use finding::clear::clear_words;
 ghost use mathlib.Core.Bool.{true};
 ghost use mathlib.Core.Logic.{_↔_};
 ghost use mathlib.Core.Path.{_≡_};

@@ -1,6 +1,5 @@
 // What an automaton reaches over a table, from one recording: for each recording the set of states that it is reached in. The automaton may
 // have several next states for a state and a symbol; they are given by words, so that links are followed from all states at once.
-use super::clear::clear_words;
 use super::link_view::leaving_at;
 use super::link_view::next_leaving;
 use super::links::link_begins;
@@ -14,6 +13,7 @@ use super::rows::unite_new;
 use super::sizes::Sizes;
 use super::table::index;
 use super::word_search::follow_all_words;
+use finding::clear::clear_words;
 ghost use Prim.Native.Nat.{_+_, _*_, _≤_, _<_};
 ghost use lib.ListN.{length};
 ghost use Rattle.answering.specs.Links.{FirstLink, InRange};

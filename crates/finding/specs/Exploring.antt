@@ -1,9 +1,9 @@
 -- What a loop holds that explores a system of numbers (theory, Exploration): the numbers found, and the table of where each symbol leads
--- (MoveTable). The entries of the exploration have trails besides, which the loop does not hold. What is left gives what the whole gives.
-use Prim.Native.Nat.{ℕ, zero, suc, _+_, _-_, _*_, _≤_, _<_}
+-- (MoveTable). The entries of the exploration have trails besides: what a loop keeps of them is said by a predicate on the entries. What is
+-- left gives what the whole gives.
+use Prim.Native.Nat.{ℕ, suc, _+_, _-_, _*_, _≤_, _<_}
 use mathlib.Core.Bool.{true, false}
 use mathlib.Core.List.{List, [], _∷_, _++_}
-use mathlib.Core.Logic.{_≢_, _⊎_, inl, inr}
 use mathlib.Core.Option.{some}
 use mathlib.Core.Path.{_≡_, refl, sym, ap, _∙_, subst}
 use native.Mathlib.Decide.{ℕ-discrete}
@@ -11,330 +11,314 @@ use native.Mathlib.Nat.{add-zero, sub-zero, sub-self, mul-suc, mul-le-mul-left}
 use native.Mathlib.Numerals.{add-one}
 use native.Mathlib.Omega.{arith}
 use lib.Dec.{eqb}
-use lib.ListN.{length, getD, take, set, length-append, length-set, List·getD-append}
-use lib.Seq.{take-suc-set, length-take-le}
+use lib.ListN.{length, getD, take, set, length-append, List·getD-append}
+use lib.Seq.{take-suc-set, length-take-le, getD-take}
 use borrow.Author.Tests.{eq-eqb, ne-eqb}
 use Rattle.theory.specs.Exploration.{System, Entry, Exploration, all, over, known, grow, extend, row, sweep, explore}
 use Rattle.theory.specs.Explored.{entryAt}
-use Rattle.theory.specs.ExplorationSteps.{grow-known, grow-new, grow-over, extend-some, row-end, row-on, row-over, sweep-end, sweep-on, sweep-over}
-use Rattle.theory.specs.ExplorationSteps.{explore-some}
+use Rattle.theory.specs.ExplorationSteps.{grow-known, grow-new, grow-over, extend-some, row-end, row-on, row-over}
+use Rattle.theory.specs.ExplorationSteps.{sweep-end, sweep-on, sweep-over, explore-some}
+use Rattle.finding.specs.declared.standings.Explored.{Explored}
+use Rattle.finding.specs.declared.standings.Explored.the-variants.{All, Over}
 use Rattle.finding.specs.Numbers.{length-values, getD-values, values-append}
 use Rattle.finding.specs.Standings.{values, placeFrom, placeOf}
-use Rattle.finding.specs.PlaceOfLaws.{place-first, place-later, place-within, place-new}
-use Rattle.finding.specs.MoveTable.{Tabled, leadsTo, tabled-none, tabled-grow, tabled-more, tabled-row}
+use Rattle.finding.specs.PlaceOfLaws.{place-first, place-later, place-new}
+use Rattle.finding.specs.MoveTable.{Tabled, leadsTo, row-within, tabled-none, tabled-grow, tabled-more, tabled-row}
 
--- A system of numbers whose step is always defined.
-abbrev pub numbers : (ℕ → ℕ → ℕ) → ℕ → ℕ → System ℕ
-numbers next start k = record { same = eqb; start = start; step = λ v a. some (next v a); symbols = k }
+-- What is explored: where a symbol leads from a number, the start, how many symbols there are, how many numbers at most, and how wide the
+-- rows of the table are.
+pub record Task : Type 0 where
+  pub next : ℕ → ℕ → ℕ
+  pub start : ℕ
+  pub symbols : ℕ
+  pub limit : ℕ
+  pub width : ℕ
 
--- In the row of the entry e, the i-th, with the symbol a next: the numbers found are the first n of `found`, and the row from here on tells
--- `whole`.
-pub record RowLeft (next : ℕ → ℕ → ℕ) (start k limit w i a : ℕ) (e : Entry ℕ) (whole : Exploration ℕ) (n : ℕ) (found table : List ℕ) : Type 0 where
+abbrev pub system : Task → System ℕ
+system T = record { same = eqb; start = T .start; step = λ v a. some (T .next v a); symbols = T .symbols }
+
+abbrev pub explored : Task → Exploration ℕ
+explored T = explore (system T) (T .limit)
+
+-- The first n numbers of `found` are those of the entries so far, of which `Beside` holds; the table is right before `done`; and what is
+-- left, `rest`, tells `whole`.
+pub record Explores (T : Task) (Beside : List (Entry ℕ) → Type 0) (rest : List (Entry ℕ) → Exploration ℕ) (whole : Exploration ℕ)
+    (done n : ℕ) (found table : List ℕ) : Type 0 where
   pub entries : List (Entry ℕ)
   pub held : values entries ≡ take n found
-  pub left : row (numbers next start k) limit e (k - a) a entries ≡ whole
-  pub tabled : Tabled next w k (w * i + a) (take n found) table
+  pub left : rest entries ≡ whole
+  pub tabled : Tabled (T .next) (T .width) (T .symbols) done (take n found) table
+  pub beside : Beside entries
 
-module _ (next : ℕ → ℕ → ℕ) (start k : ℕ) where
+-- In the row of entry i, with the symbol a next; and in the sweep, with the row of entry i next.
+abbrev pub RowLeft : Task → (List (Entry ℕ) → Type 0) → Exploration ℕ → ℕ → ℕ → ℕ → List ℕ → List ℕ → Type 0
+RowLeft T Beside whole i a n found table =
+    Explores T Beside (λ l. row (system T) (T .limit) (entryAt (system T) l i) (T .symbols - a) a l) whole (T .width * i + a) n found table
+
+abbrev pub SweepLeft : Task → (List (Entry ℕ) → Type 0) → ℕ → ℕ → List ℕ → List ℕ → Type 0
+SweepLeft T Beside i n found table =
+    Explores T Beside (λ l. sweep (system T) (T .limit) (T .limit - i) i l) (explored T) (T .width * i) n found table
+
+-- By what was told: more than the limit, or what holds of the count.
+abbrev pub Outcome : Exploration ℕ → Explored → (ℕ → Type 0) → Type 0
+Outcome whole (All n) holds = holds n
+Outcome whole Over holds = whole ≡ over
+
+pub outcome-all : (whole : Exploration ℕ) {r : Explored} {m : ℕ} (holds : ℕ → Type 0) → r ≡ All m → Outcome whole r holds → holds m
+outcome-all whole holds q o = subst (λ r. Outcome whole r holds) q o
+
+pub outcome-over : (whole : Exploration ℕ) {r : Explored} (holds : ℕ → Type 0) → r ≡ Over → Outcome whole r holds → whole ≡ over
+outcome-over whole holds q o = subst (λ r. Outcome whole r holds) q o
+
+-- From the symbol a to the symbol b of the row of entry i.
+abbrev pub Turns : Task → (List (Entry ℕ) → Type 0) → (List (Entry ℕ) → Type 0) → ℕ → ℕ → ℕ → ℕ → List ℕ → List ℕ → Explored → List ℕ → List ℕ
+    → Type 0
+Turns T Beside Beside′ i a b n found table r found′ table′ =
+    (whole : Exploration ℕ) → RowLeft T Beside whole i a n found table → Outcome whole r (λ m. RowLeft T Beside′ whole i b m found′ table′)
+
+-- The entry of x, which the symbol a leads to from entry i.
+abbrev pub entryOf : Task → List (Entry ℕ) → ℕ → ℕ → ℕ → Entry ℕ
+entryOf T l i a x = record { value = x; trail = a ∷ entryAt (system T) l i .trail }
+
+held-count : (n : ℕ) (found : List ℕ) (l : List (Entry ℕ)) → values l ≡ take n found → n ≤ length found → length l ≡ n
+held-count n found l h fits = sym (length-values l) ∙ (ap length h ∙ length-take-le n found fits)
+
+module _ (T : Task) where
   -- A value is known exactly where its place is inside.
 
-  known-inside : (i x : ℕ) (l : List (Entry ℕ)) → placeFrom i x (values l) < i + length l → known (numbers next start k) x l ≡ true
+  known-inside : (i x : ℕ) (l : List (Entry ℕ)) → placeFrom i x (values l) < i + length l → known (system T) x l ≡ true
   unfolding known values placeFrom
   known-inside i x [] h = absurd (omega arith)
   known-inside i x (e ∷ l) h = go (ℕ-discrete (e .value) x) (known-inside (suc i) x l)
     where
-      go : Dec (e .value ≡ x) → (placeFrom (suc i) x (values l) < suc i + length l → known (numbers next start k) x l ≡ true)
-          → known (numbers next start k) x (e ∷ l) ≡ true
+      go : Dec (e .value ≡ x) → (placeFrom (suc i) x (values l) < suc i + length l → known (system T) x l ≡ true)
+          → known (system T) x (e ∷ l) ≡ true
       go (yes q) ih = rw (eq-eqb x (e .value) (sym q), known)
       go (no q) ih = rw (ne-eqb x (e .value) (λ z. q (sym z)), known) (ih (omega (arith, place-later i x (e .value) (values l) q)))
 
-  known-outside : (i x : ℕ) (l : List (Entry ℕ)) → placeFrom i x (values l) ≡ i + length l → known (numbers next start k) x l ≡ false
+  known-outside : (i x : ℕ) (l : List (Entry ℕ)) → placeFrom i x (values l) ≡ i + length l → known (system T) x l ≡ false
   unfolding known values placeFrom
   known-outside i x [] h = refl
   known-outside i x (e ∷ l) h = go (ℕ-discrete (e .value) x) (known-outside (suc i) x l)
     where
-      go : Dec (e .value ≡ x) → (placeFrom (suc i) x (values l) ≡ suc i + length l → known (numbers next start k) x l ≡ false)
-          → known (numbers next start k) x (e ∷ l) ≡ false
+      go : Dec (e .value ≡ x) → (placeFrom (suc i) x (values l) ≡ suc i + length l → known (system T) x l ≡ false)
+          → known (system T) x (e ∷ l) ≡ false
       go (yes q) ih = absurd (omega (arith, place-first i x (e .value) (values l) q))
       go (no q) ih = rw (ne-eqb x (e .value) (λ z. q (sym z)), known) (ih (omega (arith, place-later i x (e .value) (values l) q)))
 
-  pub known-yes : (x : ℕ) (l : List (Entry ℕ)) → placeOf x (values l) < length l → known (numbers next start k) x l ≡ true
+  known-yes : (x : ℕ) (l : List (Entry ℕ)) → placeOf x (values l) < length l → known (system T) x l ≡ true
   unfolding placeOf
   known-yes x l h = known-inside 0 x l (omega arith)
 
-  pub known-no : (x : ℕ) (l : List (Entry ℕ)) → placeOf x (values l) ≡ length l → known (numbers next start k) x l ≡ false
+  known-no : (x : ℕ) (l : List (Entry ℕ)) → placeOf x (values l) ≡ length l → known (system T) x l ≡ false
   unfolding placeOf
   known-no x l h = known-outside 0 x l (omega arith)
 
-module _ (next : ℕ → ℕ → ℕ) (start k limit w i a : ℕ) (e : Entry ℕ) (whole : Exploration ℕ) (n : ℕ) (found table : List ℕ)
-    (s : RowLeft next start k limit w i a e whole n found table) (more : a < k) (fits : n ≤ length found)
-    (value : getD (take n found) i 0 ≡ e .value) where
-  held-length : length (s .entries) ≡ n
-  held-length = sym (length-values (s .entries)) ∙ ap length (s .held) ∙ length-take-le n found fits
+-- The step over the symbol a from entry i, in its three ways: x is the number that it leads to, p its place.
+module _ {T : Task} {Beside : List (Entry ℕ) → Type 0} {whole : Exploration ℕ} (i a n x p : ℕ) {found table : List ℕ}
+    (s : RowLeft T Beside whole i a n found table) (inside : i < n) (more : a < T .symbols) (fits : n ≤ length found)
+    (leads : x ≡ T .next (getD found i 0) a) (place : p ≡ placeOf x (take n found)) where
+  here : Entry ℕ
+  here = entryAt (system T) (s .entries) i
 
-  target : placeOf (next (e .value) a) (values (s .entries)) ≡ leadsTo next (take n found) i a
-  target = ap (λ l. placeOf (next (e .value) a) l) (s .held) ∙ ap (λ v. placeOf (next v a) (take n found)) (sym value)
+  new : Entry ℕ
+  new = entryOf T (s .entries) i a x
 
-  extended : extend (numbers next start k) limit e a (s .entries)
-      ≡ grow (numbers next start k) limit (record { value = next (e .value) a; trail = a ∷ e .trail }) (s .entries)
-  extended = extend-some (numbers next start k) limit e a (s .entries) (next (e .value) a) refl
+  count : length (s .entries) ≡ n
+  count = held-count n found (s .entries) (s .held) fits
 
-  row-whole : row (numbers next start k) limit e (suc (k - suc a)) a (s .entries) ≡ whole
-  row-whole = let q : suc (k - suc a) ≡ k - a = omega arith in rw q (s .left)
+  at : getD (take n found) i 0 ≡ here .value
+  unfolding here
+  at = ap (λ l. getD l i 0) (sym (s .held)) ∙ getD-values (s .entries) i 0 (record { value = T .start; trail = [] }) (omega (arith, count))
 
-  -- The number that the symbol leads to is known.
-  pub row-known : k ≤ w → w * i + a < length table → leadsTo next (take n found) i a < n
-      → RowLeft next start k limit w i (suc a) e whole n found (set table (w * i + a) (leadsTo next (take n found) i a))
-  row-known wide room l =
+  target : x ≡ T .next (here .value) a
+  target = leads ∙ ap (λ v. T .next v a) (sym (getD-take n found i 0 inside) ∙ at)
+
+  same-target : p ≡ leadsTo (T .next) (take n found) i a
+  same-target = place ∙ ap (λ v. placeOf v (take n found)) (target ∙ ap (λ v. T .next v a) (sym at))
+
+  place-held : placeOf x (values (s .entries)) ≡ p
+  place-held = ap (placeOf x) (s .held) ∙ sym place
+
+  extended : extend (system T) (T .limit) here a (s .entries) ≡ grow (system T) (T .limit) new (s .entries)
+  unfolding here new
+  extended =
+      extend-some (system T) (T .limit) here a (s .entries) (T .next (here .value) a) refl
+      ∙ ap (λ v. grow (system T) (T .limit) (record { value = v; trail = a ∷ here .trail }) (s .entries)) (sym target)
+
+  -- What is left of the row, its next symbol apart.
+  row-whole : row (system T) (T .limit) here (suc (T .symbols - suc a)) a (s .entries) ≡ whole
+  unfolding here
+  row-whole = let q : suc (T .symbols - suc a) ≡ T .symbols - a = omega arith in rw q (s .left)
+
+  row-next : (l : List (Entry ℕ)) → grow (system T) (T .limit) new (s .entries) ≡ all l → entryAt (system T) l i ≡ here
+      → row (system T) (T .limit) (entryAt (system T) l i) (T .symbols - suc a) (suc a) l ≡ whole
+  row-next l g e =
+      ap (λ h. row (system T) (T .limit) h (T .symbols - suc a) (suc a) l) e
+      ∙ sym (row-on (system T) (T .limit) here (T .symbols - suc a) a (s .entries) l (extended ∙ g))
+      ∙ row-whole
+
+  -- The number is known.
+  pub explores-known : {Beside′ : List (Entry ℕ) → Type 0} → T .symbols ≤ T .width → T .width * i + a < length table → p < n
+      → ((l : List (Entry ℕ)) → length l ≡ n → Beside l → Beside′ l)
+      → RowLeft T Beside′ whole i (suc a) n found (set table (T .width * i + a) p)
+  unfolding here new
+  explores-known wide room l keep =
       record {
         entries = s .entries;
         held = s .held;
-        left = sym (row-on (numbers next start k) limit e (k - suc a) a (s .entries) (s .entries) (extended ∙ same)) ∙ row-whole;
-        tabled = tabled-more i a more wide room (omega (arith, length-take-le n found fits)) (s .tabled);
+        left =
+            row-next (s .entries)
+            (grow-known (system T) (T .limit) new (s .entries) (known-yes T x (s .entries) (omega (arith, place-held, count)))) refl;
+        tabled =
+            subst (λ q. Tabled (T .next) (T .width) (T .symbols) (T .width * i + suc a) (take n found) (set table (T .width * i + a) q))
+            (sym same-target) (tabled-more i a more wide room (omega (arith, same-target, length-take-le n found fits)) (s .tabled));
+        beside = keep (s .entries) count (s .beside);
       }
-    where
-      same : grow (numbers next start k) limit (record { value = next (e .value) a; trail = a ∷ e .trail }) (s .entries) ≡ all (s .entries)
-      same =
-          grow-known (numbers next start k) limit (record { value = next (e .value) a; trail = a ∷ e .trail }) (s .entries)
-          (known-yes next start k (next (e .value) a) (s .entries) (omega (arith, target, held-length)))
 
-  fresh : leadsTo next (take n found) i a ≡ n → known (numbers next start k) (next (e .value) a) (s .entries) ≡ false
-  fresh l = known-no next start k (next (e .value) a) (s .entries) (target ∙ l ∙ sym held-length)
+  fresh : p ≡ n → known (system T) x (s .entries) ≡ false
+  fresh l = known-no T x (s .entries) (place-held ∙ l ∙ sym count)
 
   -- It is new, and there is room for it.
-  pub row-new : k ≤ w → w * i + a < length table → i < n → n < limit → n < length found → leadsTo next (take n found) i a ≡ n
-      → RowLeft next start k limit w i (suc a) e whole (suc n) (set found n (next (e .value) a)) (set table (w * i + a) n)
-  unfolding values
-  row-new wide room inside below space l =
+  pub explores-new : {Beside′ : List (Entry ℕ) → Type 0} → T .symbols ≤ T .width → T .width * i + a < length table → p ≡ n → n < T .limit
+      → n < length found → ((l : List (Entry ℕ)) → length l ≡ n → Beside l → Beside′ (l ++ (entryOf T l i a x ∷ [])))
+      → RowLeft T Beside′ whole i (suc a) (suc n) (set found n x) (set table (T .width * i + a) p)
+  unfolding here new values
+  explores-new wide room l below space keep =
       record {
         entries = s .entries ++ (new ∷ []);
-        held = values-append (s .entries) (new ∷ []) ∙ longer;
+        held = values-append (s .entries) (new ∷ []) ∙ ap (λ v. v ++ (x ∷ [])) (s .held) ∙ sym (take-suc-set found n x space);
         left =
-            sym (row-on (numbers next start k) limit e (k - suc a) a (s .entries) (s .entries ++ (new ∷ []))
-            (extended ∙ grow-new (numbers next start k) limit new (s .entries) (fresh l) (omega (arith, held-length))))
-            ∙ row-whole;
+            row-next (s .entries ++ (new ∷ [])) (grow-new (system T) (T .limit) new (s .entries) (fresh l) (omega (arith, count)))
+            (List·getD-append (s .entries) (new ∷ []) _ i (omega (arith, count)));
         tabled =
-            subst (λ v. Tabled next w k (w * i + suc a) v (set table (w * i + a) n)) (sym (take-suc-set found n x space))
-            (subst (λ t. Tabled next w k (w * i + suc a) (take n found ++ (x ∷ [])) (set table (w * i + a) t)) place
-            (tabled-more i a more wide room (omega (arith, place, length-append (take n found) (x ∷ []), size))
-            (tabled-grow x (rw size (omega (arith, mul-le-mul-left w inside, mul-suc w i))) (s .tabled))));
+            subst (λ v. Tabled (T .next) (T .width) (T .symbols) (T .width * i + suc a) v (set table (T .width * i + a) p))
+            (sym (take-suc-set found n x space))
+            (subst (λ q. Tabled (T .next) (T .width) (T .symbols) (T .width * i + suc a) (take n found ++ (x ∷ []))
+            (set table (T .width * i + a) q)) (last ∙ sym l)
+            (tabled-more i a more wide room (omega (arith, last, length-append (take n found) (x ∷ []), size))
+            (tabled-grow x (omega (arith, ap (λ m. T .width * m) size, mul-le-mul-left (T .width) inside, mul-suc (T .width) i)) (s .tabled))));
+        beside = keep (s .entries) count (s .beside);
       }
     where
-      x : ℕ
-      x = next (e .value) a
-
-      new : Entry ℕ
-      new = record { value = x; trail = a ∷ e .trail }
-
       size : length (take n found) ≡ n
       size = length-take-le n found fits
 
-      longer : values (s .entries) ++ values (new ∷ []) ≡ take (suc n) (set found n x)
-      longer = ap (λ v. v ++ (x ∷ [])) (s .held) ∙ sym (take-suc-set found n x space)
-
-      place : leadsTo next (take n found ++ (x ∷ [])) i a ≡ n
-      place =
-          ap (λ v. placeOf (next v a) (take n found ++ (x ∷ []))) (List·getD-append (take n found) (x ∷ []) 0 i (omega (arith, size)) ∙ value)
-          ∙ place-new x (take n found) (ap (λ v. placeOf (next v a) (take n found)) (sym value) ∙ l ∙ sym size)
+      last : leadsTo (T .next) (take n found ++ (x ∷ [])) i a ≡ n
+      last =
+          ap (λ v. placeOf (T .next v a) (take n found ++ (x ∷ []))) (List·getD-append (take n found) (x ∷ []) 0 i (omega (arith, size)) ∙ at)
+          ∙ ap (λ v. placeOf v (take n found ++ (x ∷ []))) (sym target)
+          ∙ place-new x (take n found) (sym place ∙ l ∙ sym size)
           ∙ size
 
   -- It is new, and there is no room.
-  pub row-exceeds : limit ≤ n → leadsTo next (take n found) i a ≡ n → whole ≡ over
-  row-exceeds h l =
+  pub explores-over : p ≡ n → T .limit ≤ n → whole ≡ over
+  unfolding new
+  explores-over l h =
       sym row-whole
-      ∙ row-over (numbers next start k) limit e (k - suc a) a (s .entries)
-      (extended ∙ grow-over (numbers next start k) limit (record { value = next (e .value) a; trail = a ∷ e .trail }) (s .entries) (fresh l)
-      (omega (arith, held-length)))
+      ∙ row-over (system T) (T .limit) here (T .symbols - suc a) a (s .entries)
+      (extended ∙ grow-over (system T) (T .limit) new (s .entries) (fresh l) (omega (arith, count)))
 
--- The row of the entry number i is told, from n numbers found: m numbers after it.
-pub record RowTold (next : ℕ → ℕ → ℕ) (start k limit w i n : ℕ) (found table : List ℕ) (m : ℕ) (found′ table′ : List ℕ) : Type 0 where
-  pub kept : n ≤ m
-  pub within : m ≤ limit
-  pub told : (l : List (Entry ℕ)) → values l ≡ take n found → Tabled next w k (w * i) (take n found) table
-      → RowLeft next start k limit w i k (entryAt (numbers next start k) l i)
-      (row (numbers next start k) limit (entryAt (numbers next start k) l i) k 0 l) m found′ table′
+-- The start alone is found.
+pub sweep-start : {T : Task} {Beside : List (Entry ℕ) → Type 0} (found table : List ℕ) → 0 < T .limit → 0 < length found
+    → Beside (record { value = T .start; trail = [] } ∷ []) → SweepLeft T Beside 0 1 (set found 0 (T .start)) table
+unfolding values
+sweep-start {T} found table h l b =
+    record {
+      entries = record { value = T .start; trail = [] } ∷ [];
+      held = sym (take-suc-set found 0 (T .start) l);
+      left = rw (sub-zero (T .limit)) (sym (explore-some (system T) (T .limit) h));
+      tabled = tabled-none (take 1 (set found 0 (T .start))) table;
+      beside = b;
+    }
 
--- It has more numbers than the limit.
-pub record RowOver (next : ℕ → ℕ → ℕ) (start k limit w i n : ℕ) (found table : List ℕ) : Type 0 where
-  pub told : (l : List (Entry ℕ)) → values l ≡ take n found → Tabled next w k (w * i) (take n found) table
-      → row (numbers next start k) limit (entryAt (numbers next start k) l i) k 0 l ≡ over
+-- The sweep, by what the row of entry i tells.
+module _ {T : Task} {Beside : List (Entry ℕ) → Type 0} (i n : ℕ) {found table : List ℕ} (s : SweepLeft T Beside i n found table)
+    (inside : i < n) (within : n ≤ T .limit) (fits : n ≤ length found) where
+  first-row : Exploration ℕ
+  first-row = row (system T) (T .limit) (entryAt (system T) (s .entries) i) (T .symbols) 0 (s .entries)
 
--- What the loop over the symbols keeps.
-pub record RowLoop (next : ℕ → ℕ → ℕ) (start k limit w i n : ℕ) (found table : List ℕ) (a m : ℕ) (found′ table′ : List ℕ) : Type 0 where
-  pub symbol : a ≤ k
-  pub kept : n ≤ m
-  pub within : m ≤ limit
-  pub room : length found′ ≡ length found
-  pub rows : length table′ ≡ length table
-  pub from : getD (take m found′) i 0 ≡ getD (take n found) i 0
-  pub told : (l : List (Entry ℕ)) → values l ≡ take n found → Tabled next w k (w * i) (take n found) table
-      → RowLeft next start k limit w i a (entryAt (numbers next start k) l i)
-      (row (numbers next start k) limit (entryAt (numbers next start k) l i) k 0 l) m found′ table′
-
--- The entries from i on: the sweep from here on tells what the exploration tells.
-pub record SweepLeft (next : ℕ → ℕ → ℕ) (start k limit w i n : ℕ) (found table : List ℕ) : Type 0 where
-  pub entries : List (Entry ℕ)
-  pub held : values entries ≡ take n found
-  pub left : sweep (numbers next start k) limit (limit - i) i entries ≡ explore (numbers next start k) limit
-  pub tabled : Tabled next w k (w * i) (take n found) table
-
--- All is found: n numbers, and the table of all steps.
-pub record AllFound (next : ℕ → ℕ → ℕ) (start k limit w n : ℕ) (found table : List ℕ) : Type 0 where
-  pub entries : List (Entry ℕ)
-  pub size : length entries ≡ n
-  pub held : values entries ≡ take n found
-  pub told : explore (numbers next start k) limit ≡ all entries
-  pub tabled : Tabled next w k (w * n) (take n found) table
-
-module _ (next : ℕ → ℕ → ℕ) (start k limit w i n : ℕ) (found table : List ℕ) where
-  pub row-begins : n ≤ limit → RowLoop next start k limit w i n found table 0 n found table
-  row-begins h =
+  entered : RowLeft T Beside first-row i 0 n found table
+  unfolding first-row
+  entered =
       record {
-        symbol = omega arith;
-        kept = omega arith;
-        within = h;
-        room = refl;
-        rows = refl;
-        from = refl;
-        told = λ l held t. record { entries = l; held = held; left = rw (sub-zero k); tabled = rw (add-zero (w * i)) t };
+        entries = s .entries;
+        held = s .held;
+        left = rw (sub-zero (T .symbols));
+        tabled = rw (add-zero (T .width * i)) (s .tabled);
+        beside = s .beside;
       }
 
-  -- The value of the entry number i, in the code and in the exploration.
-  entry-value : (l : List (Entry ℕ)) → values l ≡ take n found → i < n → n ≤ length found
-      → getD (take n found) i 0 ≡ entryAt (numbers next start k) l i .value
-  entry-value l held h f =
-      ap (λ v. getD v i 0) (sym held)
-      ∙ getD-values l i 0 (record { value = start; trail = [] }) (omega (arith, length-values l, ap length held, length-take-le n found f))
+  within-entries : i < length (s .entries)
+  within-entries = omega (arith, held-count n found (s .entries) (s .held) fits)
 
-  module _ (a m : ℕ) (found′ table′ : List ℕ) (s : RowLoop next start k limit w i n found table a m found′ table′) (more : a < k) (inside : i < n)
-      (fits : limit ≤ length found) (wide : k ≤ w) (room : w * i + a < length table) where
-    size : length (take m found′) ≡ m
-    size = length-take-le m found′ (omega (arith, s .room, s .within))
+  sweep-whole : sweep (system T) (T .limit) (suc (T .limit - suc i)) i (s .entries) ≡ explored T
+  sweep-whole = let q : suc (T .limit - suc i) ≡ T .limit - i = omega arith in rw q (s .left)
 
-    value : (l : List (Entry ℕ)) → values l ≡ take n found → getD (take m found′) i 0 ≡ entryAt (numbers next start k) l i .value
-    value l held = s .from ∙ entry-value l held inside (omega (arith, s .kept, s .within))
-
-    leads : (x t : ℕ) → x ≡ next (getD (take n found) i 0) a → t ≡ placeOf x (take m found′) → t ≡ leadsTo next (take m found′) i a
-    leads x t ex et = et ∙ ap (λ z. placeOf z (take m found′)) (ex ∙ ap (λ v. next v a) (sym (s .from)))
-
-    loop-known : (x t : ℕ) → x ≡ next (getD (take n found) i 0) a → t ≡ placeOf x (take m found′) → t < m
-        → RowLoop next start k limit w i n found table (suc a) m found′ (set table′ (w * i + a) t)
-    loop-known x t ex et h =
-        record {
-          symbol = more;
-          kept = s .kept;
-          within = s .within;
-          room = s .room;
-          rows = length-set table′ (w * i + a) t ∙ s .rows;
-          from = s .from;
-          told = λ l held tab.
-              subst (λ z. RowLeft next start k limit w i (suc a) (entryAt (numbers next start k) l i)
-              (row (numbers next start k) limit (entryAt (numbers next start k) l i) k 0 l) m found′ (set table′ (w * i + a) z))
-              (sym (leads x t ex et))
-              (row-known next start k limit w i a (entryAt (numbers next start k) l i)
-              (row (numbers next start k) limit (entryAt (numbers next start k) l i) k 0 l) m found′ table′ (s .told l held tab) more
-              (omega (arith, s .room, s .within)) (value l held) wide (omega (arith, s .rows)) (omega (arith, leads x t ex et)));
-        }
-
-    loop-new : (x t : ℕ) → x ≡ next (getD (take n found) i 0) a → t ≡ placeOf x (take m found′) → t ≡ m → m < limit
-        → RowLoop next start k limit w i n found table (suc a) (suc m) (set found′ m x) (set table′ (w * i + a) t)
-    loop-new x t ex et h below =
-        record {
-          symbol = more;
-          kept = omega (arith, s .kept);
-          within = below;
-          room = length-set found′ m x ∙ s .room;
-          rows = length-set table′ (w * i + a) t ∙ s .rows;
-          from =
-              ap (λ v. getD v i 0) (take-suc-set found′ m x (omega (arith, s .room)))
-              ∙ List·getD-append (take m found′) (x ∷ []) 0 i (omega (arith, size, s .kept))
-              ∙ s .from;
-          told = λ l held tab.
-              subst (λ z. RowLeft next start k limit w i (suc a) (entryAt (numbers next start k) l i)
-              (row (numbers next start k) limit (entryAt (numbers next start k) l i) k 0 l) (suc m) (set found′ m z) (set table′ (w * i + a) t))
-              (sym (ex ∙ ap (λ v. next v a) (sym (s .from) ∙ value l held)))
-              (subst (λ z. RowLeft next start k limit w i (suc a) (entryAt (numbers next start k) l i)
-              (row (numbers next start k) limit (entryAt (numbers next start k) l i) k 0 l) (suc m)
-              (set found′ m (next (entryAt (numbers next start k) l i .value) a)) (set table′ (w * i + a) z))
-              (sym h)
-              (row-new next start k limit w i a (entryAt (numbers next start k) l i)
-              (row (numbers next start k) limit (entryAt (numbers next start k) l i) k 0 l) m found′ table′ (s .told l held tab) more
-              (omega (arith, s .room, s .within)) (value l held) wide (omega (arith, s .rows)) (omega (arith, s .kept)) below
-              (omega (arith, s .room)) (sym (leads x t ex et) ∙ h)));
-        }
-
-    -- The two ways through a turn of the loop.
-    pub loop-turn : (x t m″ : ℕ) (found″ : List ℕ) → x ≡ next (getD (take n found) i 0) a → t ≡ placeOf x (take m found′)
-        → ((t ≡ m) × (m < limit) × (found″ ≡ set found′ m x) × (m″ ≡ m + 1)) ⊎ ((t ≢ m) × (found″ ≡ found′) × (m″ ≡ m))
-        → RowLoop next start k limit w i n found table (a + 1) m″ found″ (set table′ (w * i + a) t)
-    loop-turn x t m″ found″ ex et (inl (h, below, ef, em)) = rw (ef, em, add-one a, add-one m) (loop-new x t ex et h below)
-    loop-turn x t m″ found″ ex et (inr (h, ef, em)) =
-        rw (ef, em, add-one a) (loop-known x t ex et (omega (arith, place-within x (take m found′), size)))
-
-    pub loop-over : (x t : ℕ) → x ≡ next (getD (take n found) i 0) a → t ≡ placeOf x (take m found′) → t ≡ m → limit ≤ m
-        → RowOver next start k limit w i n found table
-    loop-over x t ex et h l =
-        record {
-          told = λ l′ held tab.
-              row-exceeds next start k limit w i a (entryAt (numbers next start k) l′ i)
-              (row (numbers next start k) limit (entryAt (numbers next start k) l′ i) k 0 l′) m found′ table′ (s .told l′ held tab) more
-              (omega (arith, s .room, s .within)) (value l′ held) l (sym (leads x t ex et) ∙ h);
-        }
-
-  pub row-ends : (m : ℕ) (found′ table′ : List ℕ) → RowLoop next start k limit w i n found table k m found′ table′
-      → RowTold next start k limit w i n found table m found′ table′
-  row-ends m found′ table′ s = record { kept = s .kept; within = s .within; told = s .told }
-
-module _ (next : ℕ → ℕ → ℕ) (start k limit w i n : ℕ) (found table : List ℕ) (s : SweepLeft next start k limit w i n found table)
-    (below : n ≤ limit) (fits : n ≤ length found) where
-  entry-count : length (s .entries) ≡ n
-  entry-count = sym (length-values (s .entries)) ∙ ap length (s .held) ∙ length-take-le n found fits
-
-  fuel : i < n → limit - i ≡ suc (limit - suc i)
-  fuel h = omega arith
-
-  pub sweep-more : (m : ℕ) (found′ table′ : List ℕ) → k ≤ w → i < n → RowTold next start k limit w i n found table m found′ table′
-      → SweepLeft next start k limit w (suc i) m found′ table′
-  sweep-more m found′ table′ wide h r =
-      record {
+  pub sweep-more : {Beside′ : List (Entry ℕ) → Type 0} {m : ℕ} {found′ table′ : List ℕ} → T .symbols ≤ T .width
+      → Turns T Beside Beside′ i 0 (T .symbols) n found table (All m) found′ table′ → SweepLeft T Beside′ (i + 1) m found′ table′
+  unfolding first-row
+  sweep-more wide told =
+      let t = told first-row entered in
+      rw (add-one i)
+      (record {
         entries = t .entries;
         held = t .held;
         left =
-            sym (sweep-on (numbers next start k) limit (limit - suc i) i (s .entries) (t .entries) (omega (arith, entry-count))
-            (sym (t .left) ∙ rw (sub-self k) (row-end (numbers next start k) limit (entryAt (numbers next start k) (s .entries) i) k (t .entries))))
-            ∙ ap (λ f. sweep (numbers next start k) limit f i (s .entries)) (sym (fuel h))
-            ∙ s .left;
+            sym (sweep-on (system T) (T .limit) (T .limit - suc i) i (s .entries) (t .entries) within-entries
+            (sym (t .left)
+            ∙ ap (λ k. row (system T) (T .limit) (entryAt (system T) (t .entries) i) k (T .symbols) (t .entries)) (sub-self (T .symbols))
+            ∙ row-end (system T) (T .limit) (entryAt (system T) (t .entries) i) (T .symbols) (t .entries)))
+            ∙ sweep-whole;
         tabled = tabled-row i wide (t .tabled);
-      }
-    where
-      t : RowLeft next start k limit w i k (entryAt (numbers next start k) (s .entries) i)
-          (row (numbers next start k) limit (entryAt (numbers next start k) (s .entries) i) k 0 (s .entries)) m found′ table′
-      t = r .told (s .entries) (s .held) (s .tabled)
+        beside = t .beside;
+      })
 
-  pub sweep-exceeds : i < n → RowOver next start k limit w i n found table → explore (numbers next start k) limit ≡ over
-  sweep-exceeds h r =
-      sym (s .left)
-      ∙ ap (λ f. sweep (numbers next start k) limit f i (s .entries)) (fuel h)
-      ∙ sweep-over (numbers next start k) limit (limit - suc i) i (s .entries) (omega (arith, entry-count))
-      (r .told (s .entries) (s .held) (s .tabled))
+  pub sweep-exceeds : ((whole : Exploration ℕ) → RowLeft T Beside whole i 0 n found table → whole ≡ over) → explored T ≡ over
+  unfolding first-row
+  sweep-exceeds told =
+      sym sweep-whole
+      ∙ sweep-over (system T) (T .limit) (T .limit - suc i) i (s .entries) within-entries (told first-row entered)
 
-  pub sweep-stops : n ≤ i → i ≤ n → AllFound next start k limit w n found table
-  sweep-stops h l =
-      record {
-        entries = s .entries;
-        size = entry-count;
-        held = s .held;
-        told = sym (s .left) ∙ sweep-end (numbers next start k) limit (limit - i) i (s .entries) (omega (arith, entry-count));
-        tabled = let e : i ≡ n = omega arith in subst (λ z. Tabled next w k (w * z) (take n found) table) e (s .tabled);
-      }
+-- All is found: n numbers, and the table of all steps.
+pub record AllFound (T : Task) (Beside : List (Entry ℕ) → Type 0) (n : ℕ) (found table : List ℕ) : Type 0 where
+  pub entries : List (Entry ℕ)
+  pub told : explored T ≡ all entries
+  pub size : length entries ≡ n
+  pub numbers : take (length entries) found ≡ values entries
+  pub moved : (i a : ℕ) → i < length entries → a < T .symbols → getD table (T .width * i + a) 0 ≡ leadsTo (T .next) (values entries) i a
+  pub inside : (i a : ℕ) → i < length entries → a < T .symbols → leadsTo (T .next) (values entries) i a < length entries
+  pub beside : Beside entries
 
-pub sweep-begins : (next : ℕ → ℕ → ℕ) (start k limit w : ℕ) (found table : List ℕ) → 0 < limit → 0 < length found
-    → SweepLeft next start k limit w 0 1 (set found 0 start) table
-unfolding values
-sweep-begins next start k limit w found table h l =
+pub all-found : {T : Task} {Beside : List (Entry ℕ) → Type 0} (i n : ℕ) {found table : List ℕ} → T .symbols ≤ T .width → n ≤ length found
+    → n ≤ i → SweepLeft T Beside i n found table → AllFound T Beside n found table
+all-found {T} i n {found} {table} wide fits h s =
     record {
-      entries = record { value = start; trail = [] } ∷ [];
-      held = sym (take-suc-set found 0 start l);
-      left = rw (sub-zero limit) (sym (explore-some (numbers next start k) limit h));
-      tabled = tabled-none (take 1 (set found 0 start)) table;
+      entries = s .entries;
+      told = sym (s .left) ∙ sweep-end (system T) (T .limit) (T .limit - i) i (s .entries) (omega (arith, size));
+      size = size;
+      numbers = ap (λ m. take m found) size ∙ sym (s .held);
+      moved = λ j a l k. tabled .entry j a k (place j a l k);
+      inside = λ j a l k. omega (arith, tabled .inside j a k (place j a l k), length-values (s .entries));
+      beside = s .beside;
     }
+  where
+    size : length (s .entries) ≡ n
+    size = held-count n found (s .entries) (s .held) fits
+
+    tabled : Tabled (T .next) (T .width) (T .symbols) (T .width * i) (values (s .entries)) table
+    tabled = subst (λ v. Tabled (T .next) (T .width) (T .symbols) (T .width * i) v table) (sym (s .held)) (s .tabled)
+
+    place : (j a : ℕ) → j < length (s .entries) → a < T .symbols → T .width * j + a < T .width * i
+    place j a l k = omega (arith, row-within (T .width) j i (omega (arith, size)))
+
+-- What was told is one.
+
+pub entries-same : (o : Exploration ℕ) (l m : List (Entry ℕ)) → o ≡ all l → o ≡ all m → l ≡ m
+entries-same o l m p q = cc
+
+pub not-both : (o : Exploration ℕ) (l : List (Entry ℕ)) → o ≡ all l → o ≡ over → ⊥
+not-both o l p q = let z : _≡_ {A = ℕ} 0 1 = cc in omega arith
+
+pub not-all : (n : ℕ) → All n ≡ Over → ⊥
+not-all n p = let z : _≡_ {A = ℕ} 0 1 = cc in omega arith

@@ -18,6 +18,7 @@ pub mod FirstAccepted
 pub mod FindStates
 pub mod FindLaws
 -- What the code keeps and promises.
+pub mod Cleared
 pub mod StandingBelow
 pub mod PlaceOfLaws
 pub mod CollectLaws
@@ -27,6 +28,7 @@ pub mod NumberIndex
 pub mod NumberIndexLaws
 pub mod MoveTable
 pub mod Exploring
+pub mod StandingsExploring
 pub mod StandingsTold
 pub mod ImageSearch
 pub mod Sources
@@ -40,7 +42,6 @@ pub mod ImagesTold
 pub mod UnionSteps
 pub mod ImageRows
 pub mod Trailed
-pub mod TrailedExploring
 pub mod StatesExploring
 pub mod StatesTold
 pub mod FirstWords

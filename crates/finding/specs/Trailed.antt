@@ -2,7 +2,7 @@
 -- parent, and the symbol that led there.
 use Prim.Native.Nat.{ℕ, zero, suc, _<_}
 use mathlib.Core.List.{List, [], _∷_, _++_}
-use mathlib.Core.Path.{_≡_, refl, ap, ap₂, sym, _∙_}
+use mathlib.Core.Path.{_≡_, refl, ap, ap₂, sym, _∙_, subst}
 use native.Mathlib.Decide.{ℕ-discrete}
 use native.Mathlib.Omega.{arith}
 use lib.ListN.{length, getD, set, length-append, List·getD-append}
@@ -25,12 +25,12 @@ unfolding trails
 length-trails [] = refl
 length-trails (e ∷ l) = ap suc (length-trails l)
 
-pub trails-append : {A : Type 0} (l m : List (Entry A)) → trails (l ++ m) ≡ trails l ++ trails m
+trails-append : {A : Type 0} (l m : List (Entry A)) → trails (l ++ m) ≡ trails l ++ trails m
 unfolding trails
 trails-append [] m = refl
 trails-append (e ∷ l) m = ap (λ t. e .trail ∷ t) (trails-append l m)
 
-pub trail-at : {A : Type 0} (l : List (Entry A)) (i : ℕ) (e : Entry A) → i < length l → getD (trails l) i [] ≡ getD l i e .trail
+trail-at : {A : Type 0} (l : List (Entry A)) (i : ℕ) (e : Entry A) → i < length l → getD (trails l) i [] ≡ getD l i e .trail
 unfolding trails
 trail-at [] i e h = absurd (omega arith)
 trail-at (x ∷ l) zero e h = refl
@@ -46,7 +46,7 @@ trailed-start parents symbols =
     }
 
 -- One more, over the symbol a from entry i.
-pub trailed-more : {parents symbols : List ℕ} {found : List (List ℕ)} (i a : ℕ) → Trailed parents symbols found → i < length found
+trailed-more : {parents symbols : List ℕ} {found : List (List ℕ)} (i a : ℕ) → Trailed parents symbols found → i < length found
     → length found < length parents → length found < length symbols
     → Trailed (set parents (length found) i) (set symbols (length found) a) (found ++ ((a ∷ getD found i []) ∷ []))
 trailed-more {parents} {symbols} {found} i a t h room room′ =
@@ -85,3 +85,15 @@ trailed-more {parents} {symbols} {found} i a t h room room′ =
         ∙ ap₂ (λ x y. x ∷ y) (sym (getD-set-other symbols (length found) j a 0 d))
         (sym (kept (getD parents j 0) (omega arith))
         ∙ ap (λ q. getD (found ++ (new ∷ [])) q []) (sym (getD-set-other parents (length found) j i 0 d))))
+
+-- The same for entries: x is the value that the symbol a leads to, n their number.
+pub trailed-entry : {A : Type 0} {parents symbols : List ℕ} (l : List (Entry A)) (i a n : ℕ) (x : A) (e : Entry A) → length l ≡ n → i < n
+    → n < length parents → n < length symbols → Trailed parents symbols (trails l)
+    → Trailed (set parents n i) (set symbols n a) (trails (l ++ (record { value = x; trail = a ∷ getD l i e .trail } ∷ [])))
+unfolding trails
+trailed-entry {A} {parents} {symbols} l i a n x e size h room room′ t =
+    let count : length (trails l) ≡ n = length-trails l ∙ size in
+    subst (Trailed (set parents n i) (set symbols n a)) (sym (trails-append l (record { value = x; trail = a ∷ getD l i e .trail } ∷ [])))
+    (subst (λ m. Trailed (set parents m i) (set symbols m a) (trails l ++ ((a ∷ getD l i e .trail) ∷ []))) count
+    (subst (λ r. Trailed (set parents (length (trails l)) i) (set symbols (length (trails l)) a) (trails l ++ ((a ∷ r) ∷ [])))
+    (trail-at l i e (omega arith)) (trailed-more i a t (omega (arith, count)) (omega (arith, count)) (omega (arith, count)))))

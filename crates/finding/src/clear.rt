@@ -1,11 +1,9 @@
 // Zeros in the first part of lent memory.
-ghost use mathlib.Core.Path.{_≡_};
-ghost use mathlib.Core.List.{_++_};
-ghost use Prim.Native.Nat.{_≤_};
-ghost use lib.ListN.{length, drop, replicate};
+ghost use Rattle.finding.specs.Cleared.{Cleared};
 
+// The first n numbers become zero; where there are fewer, nothing is changed.
 pub fn clear_numbers(numbers: &mut [u16], n: usize)
-    ensures { λ _. ⌜ (n ≤ length (now (numbers .entry)) → now (numbers .exit) ≡ replicate n 0 ++ drop n (now (numbers .entry))) ⌝ }
+    ensures { λ _. ⌜ Cleared n (now (numbers .entry)) (now (numbers .exit)) ⌝ }
 {
     if n > numbers.len() {
         return;
@@ -17,8 +15,9 @@ pub fn clear_numbers(numbers: &mut [u16], n: usize)
     }
 }
 
+// The first n words become zero; where there are fewer, nothing is changed.
 pub fn clear_words(words: &mut [u64], n: usize)
-    ensures { λ _. ⌜ (n ≤ length (now (words .entry)) → now (words .exit) ≡ replicate n 0 ++ drop n (now (words .entry))) ⌝ }
+    ensures { λ _. ⌜ Cleared n (now (words .entry)) (now (words .exit)) ⌝ }
 {
     if n > words.len() {
         return;
@@ -30,8 +29,9 @@ pub fn clear_words(words: &mut [u64], n: usize)
     }
 }
 
+// The first n bytes become zero; where there are fewer, nothing is changed.
 pub fn clear_bytes(bytes: &mut [u8], n: usize)
-    ensures { λ _. ⌜ (n ≤ length (now (bytes .entry)) → now (bytes .exit) ≡ replicate n 0 ++ drop n (now (bytes .entry))) ⌝ }
+    ensures { λ _. ⌜ Cleared n (now (bytes .entry)) (now (bytes .exit)) ⌝ }
 {
     if n > bytes.len() {
         return;

@@ -1,10 +1,9 @@
 // The query's standings (document 01, "Standing"), by exploration over the labels, and where each label leads from each of them.
 ghost use Prim.Native.Nat.{_*_, _≤_, _<_};
 ghost use lib.ListN.{length};
-ghost use Rattle.theory.specs.Automaton.{step as stepOf};
-ghost use Rattle.finding.specs.Plain.{plain};
 ghost use Rattle.finding.specs.NumberIndex.{Indexed, IndexedAll};
-ghost use Rattle.finding.specs.StandingsTold.{RowResult, SweepResult, Room, StandingsTold};
+ghost use Rattle.finding.specs.StandingsExploring.{standingTask, Room, RowTold, SweepTold};
+ghost use Rattle.finding.specs.StandingsTold.{StandingsTold};
 use crate::index::bucket;
 use crate::index::find_place;
 use crate::index::note;
@@ -32,7 +31,7 @@ fn row(
     nexts: &mut [u8; 255],
 ) -> Explored
     requires { ⌜ Room labels limit i n (now enter) (now found) (now moves) × Indexed (now found) n (now heads) (now nexts) ⌝ }
-    ensures { λ r. ⌜ RowResult (stepOf (plain (now (follow .entry)) (now (enter .entry)) 0)) 1 labels limit 32 i n
+    ensures { λ r. ⌜ RowTold (standingTask (now (follow .entry)) (now (enter .entry)) labels limit) i n
         (now (found .entry)) (now (moves .entry)) r (now (found .exit)) (now (moves .exit)) ⌝ }
     ensures indexed { λ r. ⌜ IndexedAll (now (found .exit)) (now (heads .exit)) (now (nexts .exit)) r ⌝ }
 {
@@ -68,7 +67,7 @@ fn sweep(
     moves: &mut [u8],
 ) -> Explored
     requires { ⌜ Room labels limit 0 1 (now enter) (now found) (now moves) ⌝ }
-    ensures { λ r. ⌜ SweepResult (stepOf (plain (now (follow .entry)) (now (enter .entry)) 0)) 1 labels limit 32 r
+    ensures { λ r. ⌜ SweepTold (standingTask (now (follow .entry)) (now (enter .entry)) labels limit) r
         (now (found .exit)) (now (moves .exit)) ⌝ }
 {
     let mut heads: [u8; 509] = [0; 509];

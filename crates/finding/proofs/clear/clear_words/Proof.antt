@@ -1,7 +1,7 @@
 -- The loop's invariant: the first i words are zeros, the rest is as it was.
 use Prim.Native.Nat.{_≤_, _-_}
 use native.Mathlib.Omega.{arith}
-use mathlib.Core.Path.{_≡_, ap, _∙_}
+use mathlib.Core.Path.{_≡_, refl, ap, _∙_}
 use mathlib.Core.List.{_++_}
 use borrow.Author.Fill.{fill-more}
 use lib.ListN.{length, drop, replicate, set, length-set}
@@ -17,7 +17,7 @@ abbrev μ-loop : tie.MeasureT-loop
 μ-loop words₀ n i₀ words i = n - i
 
 returns : tie.Need-returns Inv-loop μ-loop
-returns c = λ h. absurd (omega arith)
+returns c = record { enough = λ h. absurd (omega arith); short = λ h. refl }
 
 loop-holds : tie.Need-loop-holds Inv-loop μ-loop
 loop-holds c = search needs
@@ -49,8 +49,12 @@ same-length c = search needs
 
 returns-2 : tie.Need-returns-2 Inv-loop μ-loop
 returns-2 c =
+    let before = c .before .before .before .args .words .now in
     let e : c .before .loop .i ≡ c .before .before .before .args .n = omega arith in
-    λ h. c .before .loop .inv .3 ∙ ap (λ k. replicate k 0 ++ drop k (c .before .before .before .args .words .now)) e
+    record {
+      enough = λ h. c .before .loop .inv .3 ∙ ap (λ k. replicate k 0 ++ drop k before) e;
+      short = λ h. absurd (omega arith);
+    }
 
 pub clear-words-spec : {M : Type 1} → statement M
 clear-words-spec =

@@ -58,7 +58,7 @@ returns-2 c =
     let bytes = c .before .before .before .clear-bytes in
     core-over (a .follow .now) (a .enter .now) (a .sizes .now) (a .accepting .now) (a .labels) (a .lists) (a .most-standings) (a .most-states)
     (a .table .now) (a .marks .now) (q .result) (q .last .1 .1 .1 .1 .1 .0) (q .last .1 .1 .1 .1 .1 .1 .0) (q .ensures) (c .refused .result)
-    (numbers .last .0) (bytes .last .0) (matched .enum-told .given .1) (numbers .ensures) (bytes .ensures) (c .refused .ensures)
+    (numbers .last .0) (bytes .last .0) (matched .enum-told .given .1) (numbers .ensures .enough) (bytes .ensures .enough) (c .refused .ensures)
 
 pub find-rows-spec : {M : Type 1} → statement M
 find-rows-spec =

@@ -70,7 +70,7 @@ returns c =
     let all = c .before .before .before .before .before .before .before .before .before .told .given in
     part-all T (a .lists) (a .limit) (a .found .now) (a .table .now) (a .marks .now) (imaged .last .1 .1 .1 .1 .1 .1 .1 .1 .0) (zeroed .last .0)
     (unmarked .last .0) (told .result) (told .last .1 .1 .1 .1 .0) (told .last .1 .1 .1 .1 .1 .0) (told .last .1 .1 .1 .1 .1 .1 .0)
-    (told .last .1 .1 .1 .1 .1 .1 .1 .0) (λ h. imaged .ensures h (start .pre .0 h)) (zeroed .ensures) (unmarked .ensures)
+    (told .last .1 .1 .1 .1 .1 .1 .1 .0) (λ h. imaged .ensures h (start .pre .0 h)) (zeroed .ensures .enough) (unmarked .ensures .enough)
     (λ f h m t. told .ensures f h (omega (arith, start .pre .0 h, imaged .kept .1 .1 .1 .1 .1 .1 .1 .1 .0)) m t) (told .kept .1 .1 .1 .1 .1 .1 .1 .0)
     (zeroed .kept .0) (omega (arith, lent .stood .given .0)) (all .0 .0) (f .result)
     (f .last .1 .1 .1 .1 .1 .1 .1 .0) (all .1) (f .ensures)
@@ -102,10 +102,11 @@ returns-2 c =
     let again = c .before .before .before .clear-numbers2 in
     part-over T (a .lists) (a .limit) (a .found .now) (a .table .now) (a .marks .now) (imaged .last .1 .1 .1 .1 .1 .1 .1 .1 .0) (zeroed .last .0)
     (unmarked .last .0) (told .result) (told .last .1 .1 .1 .1 .0) (told .last .1 .1 .1 .1 .1 .0) (told .last .1 .1 .1 .1 .1 .1 .0)
-    (told .last .1 .1 .1 .1 .1 .1 .1 .0) (λ h. imaged .ensures h (start .pre .0 h)) (zeroed .ensures) (unmarked .ensures)
+    (told .last .1 .1 .1 .1 .1 .1 .1 .0) (λ h. imaged .ensures h (start .pre .0 h)) (zeroed .ensures .enough) (unmarked .ensures .enough)
     (λ f h m t. told .ensures f h (omega (arith, start .pre .0 h, imaged .kept .1 .1 .1 .1 .1 .1 .1 .1 .0)) m t) (told .kept .1 .1 .1 .1 .1 .1 .1 .0)
     (zeroed .kept .0) (omega (arith, lent .stood .given .0))
-    (again .last .0) (c .refused .result) (c .before .before .before .before .before .enum-told .given .1) (again .ensures) (c .refused .ensures)
+    (again .last .0) (c .refused .result) (c .before .before .before .before .before .enum-told .given .1)
+    (again .ensures .enough) (c .refused .ensures)
 
 pub states-in-spec : {M : Type 1} → statement M
 states-in-spec =

@@ -23,7 +23,7 @@ loop-holds : tie.Need-loop-holds Inv-loop μ-loop
 loop-holds c =
     let start = c .before .before .before .before .before .before in
     let x = start .args in
-    let e = c .before .before .clear-words .ensures (start .pre .2) in (
+    let e = c .before .before .clear-words .ensures .enough (start .pre .2) in (
       omega arith,
       refl,
       subst (λ l. Turned (x .count) (x .places) (x .accepting) (x .from .now) 0 l l) (sym e)
@@ -76,7 +76,7 @@ returns c =
     let p = start .pre in
     let x = start .args in
     let e : l .to ≡ x .count = omega arith in
-    let f = c .before .before .before .before .clear-words .ensures (p .2) in
+    let f = c .before .before .before .before .clear-words .ensures .enough (p .2) in
     turned-cleared (x .count) (x .places) (x .accepting) (x .from .now) (x .out .now) (x .count) (l .out) (p .2)
     (subst
     (λ z. Turned (x .count) (x .places) (x .accepting) (x .from .now) z (replicate (x .count) 0 ++ drop (x .count) (x .out .now)) (l .out))

@@ -32,7 +32,7 @@ loop-holds c =
     let x = start .args in (
       omega arith,
       refl,
-      subst (λ l. Begun (x .count) 0 (x .places) l 0) (sym (c .before .before .clear-words .ensures (start .pre .2)))
+      subst (λ l. Begun (x .count) 0 (x .places) l 0) (sym (c .before .before .clear-words .ensures .enough (start .pre .2)))
           (begun-none (x .count) (x .places) (x .from .now)),
     )
 

@@ -1,16 +1,15 @@
--- The loop's invariant: the row from the label a on tells what the whole row tells (Exploring, RowLoop).
+-- The loop's invariant: the row from the label a on tells what the whole row tells (StandingsExploring, RowLoop).
 use Prim.Native.Nat.{_-_}
 use mathlib.Core.Logic.{⊎-elim, inl, inr}
-use mathlib.Core.Path.{_≡_, sym, ap, _∙_}
-use lib.Seq.{getD-take, length-take-le}
+use mathlib.Core.Path.{_≡_, ap}
+use lib.Seq.{length-take-le}
 use lib.ListN.{getD, take}
 use Rattle.theory.specs.Places.{intersection}
 use Rattle.theory.specs.Automaton.{nexts as reached, step}
-use Rattle.finding.specs.Plain.{plain}
 use Rattle.finding.specs.PlaceOfLaws.{place-within}
 use Rattle.finding.specs.NumberIndex.{Indexed}
 use Rattle.finding.specs.NumberIndexLaws.{indexed-more, indexed-as, indexed-all, indexed-over}
-use Rattle.finding.specs.Exploring.{RowLoop, row-begins, row-ends, loop-turn, loop-over}
+use Rattle.finding.specs.StandingsExploring.{standingTask, RowLoop, row-begins, row-ends, loop-turn, loop-over}
 use native.Mathlib.Omega.{arith}
 use borrow.Author.Needs.{needs}
 use Rattle.finding.proofs.standings.row.Statement.{statement}
@@ -18,8 +17,8 @@ use Rattle.finding.proofs.standings.row.Tie as tie
 
 abbrev Inv-loop : tie.InvT-loop
 Inv-loop follow enter labels limit i n found₀ moves₀ heads₀ nexts₀ from after m₀ a₀ found moves heads nexts m a =
-    (after .0 ≡ reached (getD (take n found₀) i 0) follow)
-    × RowLoop (step (plain follow enter 0)) 1 labels limit 32 i n found₀ moves₀ a m found moves
+    (after .0 ≡ reached (getD found₀ i 0) follow)
+    × RowLoop (standingTask follow enter labels limit) i n found₀ moves₀ a m found moves
     × Indexed found m heads nexts
 
 abbrev μ-loop : tie.MeasureT-loop
@@ -35,15 +34,7 @@ follows-requires : tie.Need-follows-requires Inv-loop μ-loop
 follows-requires c κs = search needs
 
 loop-holds : tie.Need-loop-holds Inv-loop μ-loop
-loop-holds c =
-    let s = c .before .before .before .before .before .before in
-    let x = s .args in
-    let p = s .pre .0 in (
-      c .follows .ensures ∙ ap (λ y. reached y (x .follow .now)) (sym (getD-take (x .n) (x .found .now) (x .i) 0 (p .inside))),
-      row-begins (step (plain (x .follow .now) (x .enter .now) 0)) 1 (x .labels) (x .limit) 32 (x .i) (x .n) (x .found .now) (x .moves .now)
-          (p .within),
-      s .pre .1,
-    )
+loop-holds c = let s = c .before .before .before .before .before .before in (c .follows .ensures, row-begins (s .pre .0 .within), s .pre .1)
 
 mul-next : tie.Need-mul-next Inv-loop μ-loop
 mul-next c = search needs
@@ -56,9 +47,10 @@ bucket-requires c κs = search needs
 
 find-place-requires : tie.Need-find-place-requires Inv-loop μ-loop
 find-place-requires c κs =
-    let l = c .before .before .before .before .before .before .before .loop in
-    let p = c .before .before .before .before .before .before .before .before .before .before .before .before .before .before .pre .0 in (
-      omega (arith, l .inv .1 .within, l .inv .1 .room),
+    let head = c .before .before .before .before .before .before .before in
+    let l = head .loop in
+    let p = head .before .before .before .before .before .before .before .pre .0 in (
+      omega (arith, l .inv .1 .within, l .inv .1 .room, p .numbers),
       omega (arith, l .inv .1 .within, p .most),
       c .before .before .before .bucket .ensures,
       l .inv .2,
@@ -66,9 +58,10 @@ find-place-requires c κs =
 
 cast-moves : tie.Need-cast-moves Inv-loop μ-loop
 cast-moves c =
-    let l = c .before .before .before .before .before .before .before .before .loop in
-    let x = c .before .before .before .before .before .before .before .before .before .before .before .before .before .before .before .args in
-    let next = intersection (c .before .before .before .before .before .before .before .before .before .follows .result .0) (getD (x .enter .now) (l .a) 0) in
+    let head = c .before .before .before .before .before .before .before .before in
+    let l = head .loop in
+    let entered = getD (head .before .before .before .before .before .before .before .args .enter .now) (l .a) 0 in
+    let next = intersection (head .before .follows .result .0) entered in
     omega (arith, c .find-place .ensures, place-within next (take (l .m) (l .found)), length-take-le (l .m) (l .found) (omega arith))
 
 mul-moves : tie.Need-mul-moves Inv-loop μ-loop
@@ -89,15 +82,16 @@ same-length-2 c = search needs
 returns : tie.Need-returns Inv-loop μ-loop
 unfolding step
 returns c =
-    let l = c .before .before .before .before .before .before .before .before .before .before .loop in
-    let s = c .before .before .before .before .before .before .before .before .before .before .before .before .before .before .before .before .before in
-    let x = s .args in
-    let p = s .pre .0 in
-    let entered = getD (x .enter .now) (l .a) 0 in (
-      loop-over (step (plain (x .follow .now) (x .enter .now) 0)) 1 (x .labels) (x .limit) 32 (x .i) (x .n) (x .found .now) (x .moves .now)
-          (l .a) (l .m) (l .found) (l .moves) (l .inv .1) (c .before .before .before .before .before .before .before .before .before .loop-test .taken) (p .inside) (p .numbers) (p .row) (omega arith)
-          (intersection (c .before .before .before .before .before .before .before .before .before .before .before .follows .result .0) entered) (c .before .before .find-place .result)
-          (ap (λ y. intersection y entered) (l .inv .0)) (c .before .before .find-place .ensures) (c .before .if1 .taken) (omega arith),
+    let head = c .before .before .before .before .before .before .before .before .before .before in
+    let start = head .before .before .before .before .before .before .before in
+    let l = head .loop in
+    let p = start .pre .0 in
+    let more = c .before .before .before .before .before .before .before .before .before .loop-test .taken in
+    let entered = getD (start .args .enter .now) (l .a) 0 in
+    let f = c .before .before .find-place in (
+      loop-over (l .inv .1) more (p .inside) (p .numbers) (p .row) (omega (arith, more, p .inside, p .within, p .row, p .rows))
+          (intersection (head .before .follows .result .0) entered) (f .result)
+          (ap (λ y. intersection y entered) (l .inv .0)) (f .ensures) (c .before .if1 .taken) (omega arith),
       indexed-over,
     )
 
@@ -125,22 +119,22 @@ loop-less c = search needs
 loop-again : tie.Need-loop-again Inv-loop μ-loop
 unfolding step
 loop-again c =
-    let l = c .before .before .before .before .before .before .before .before .before .loop in
-    let s = c .before .before .before .before .before .before .before .before .before .before .before .before .before .before .before .before in
-    let x = s .args in
-    let p = s .pre .0 in
-    let entered = getD (x .enter .now) (l .a) 0 in
-    let next = intersection (c .before .before .before .before .before .before .before .before .before .before .follows .result .0) entered in
+    let head = c .before .before .before .before .before .before .before .before .before in
+    let start = head .before .before .before .before .before .before .before in
+    let l = head .loop in
+    let p = start .pre .0 in
+    let more = c .before .before .before .before .before .before .before .before .loop-test .taken in
+    let entered = getD (start .args .enter .now) (l .a) 0 in
+    let next = intersection (head .before .follows .result .0) entered in
     let f = c .before .find-place in (
       l .inv .0,
-      loop-turn (step (plain (x .follow .now) (x .enter .now) 0)) 1 (x .labels) (x .limit) 32 (x .i) (x .n) (x .found .now) (x .moves .now)
-          (l .a) (l .m) (l .found) (l .moves) (l .inv .1) (c .before .before .before .before .before .before .before .before .loop-test .taken) (p .inside) (p .numbers) (p .row) (omega arith)
-          next (f .result) (c .if1 .m) (c .if1 .found) (ap (λ y. intersection y entered) (l .inv .0)) (f .ensures)
+      loop-turn (l .inv .1) more (p .inside) (p .numbers) (p .row) (omega (arith, more, p .inside, p .within, p .row, p .rows))
+          next (f .result) (ap (λ y. intersection y entered) (l .inv .0)) (f .ensures) (c .if1 .m) (c .if1 .found)
           (⊎-elim (λ w. inl (w .0 .taken, omega arith, w .5, w .8)) (λ w. inr (w .0 .left, w .1, w .4)) (c .if1 .came)),
       ⊎-elim
           (λ w. indexed-as (w .5) (w .6) (w .7) (w .8)
-          (indexed-more (l .found) (l .m) next _ _ _ _ _ (c .before .before .before .before .before .bucket .ensures) (omega (arith, p .most, l .inv .1 .within)) (omega arith)
-          (omega (arith, f .ensures, w .0 .taken)) (l .inv .2) (w .4 .ensures)))
+          (indexed-more (l .found) (l .m) next _ _ _ _ _ (c .before .before .before .before .before .bucket .ensures)
+          (omega (arith, p .most, l .inv .1 .within)) (omega arith) (omega (arith, f .ensures, w .0 .taken)) (l .inv .2) (w .4 .ensures)))
           (λ w. indexed-as (w .1) (w .2) (w .3) (w .4) (l .inv .2))
           (c .if1 .came),
     )
@@ -152,13 +146,7 @@ same-length-4 : tie.Need-same-length-4 Inv-loop μ-loop
 same-length-4 c = search needs
 
 returns-2 : tie.Need-returns-2 Inv-loop μ-loop
-returns-2 c =
-    let l = c .before .loop in
-    let x = c .before .before .before .before .before .before .before .before .args in (
-      row-ends (step (plain (x .follow .now) (x .enter .now) 0)) 1 (x .labels) (x .limit) 32 (x .i) (x .n) (x .found .now) (x .moves .now)
-          (l .m) (l .found) (l .moves) (let e : l .a ≡ x .labels = omega arith in rw e at (l .inv .1)),
-      indexed-all (l .inv .2),
-    )
+returns-2 c = let l = c .before .loop in (row-ends (l .inv .1) (c .loop-test .left), indexed-all (l .inv .2))
 
 pub row-spec : {M : Type 1} → statement M
 row-spec =

@@ -27,7 +27,7 @@ returns-5 c =
     let x = c .before .before .before .before .before .before .before .before .before .args in
     λ h k l.
     standings-told (x .follow .now) (x .enter .now) (x .labels) (x .limit) (c .sweep .last .1 .1 .1 .1 .0) (c .sweep .last .1 .1 .1 .1 .1 .0)
-    (c .sweep .result) h (c .sweep .ensures)
+    (c .sweep .result) (c .sweep .ensures)
 
 pub standings-spec : {M : Type 1} → statement M
 standings-spec = tie.close (tie.spec returns returns-2 returns-3 returns-4 sweep-requires returns-5)

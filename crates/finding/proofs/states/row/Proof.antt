@@ -21,10 +21,8 @@ abbrev μ-loop : tie.MeasureT-loop
 loop-holds : tie.Need-loop-holds Inv-loop μ-loop
 loop-holds c =
     let start = c .before .before .before .before .before in
-    let a = start .args in
-    let old = memory (a .found .now) (a .parents .now) (a .symbols .now) (a .table .now) in
     let held = start .pre in
-    (in-row-start (a .images .now) (a .count) (a .lists) (a .limit) (a .s) (a .n) old (held .1) (held .2) (held .3), held .4)
+    (in-row-start (held .1) (held .2) (held .3), held .4)
 
 extend-requires : tie.Need-extend-requires Inv-loop μ-loop
 extend-requires c κs =
@@ -32,7 +30,8 @@ extend-requires c κs =
     let l = c .before .before .before .before .before .before .before .loop in
     let h = c .before .before .before .before .before .before .loop-test .taken in
     let inv = l .inv .0 in
-    (omega (arith, h, start .pre .0), omega (arith, start .pre .1, inv .kept), inv .within, inv .room, l .inv .1, start .pre .5, omega (arith, h, start .pre .6))
+    let p = start .pre in
+    (omega (arith, h, p .0), omega (arith, p .1, inv .kept), inv .within, inv .room, l .inv .1, p .5, omega (arith, h, p .6))
 
 enum-known-told : tie.Need-enum-known-told Inv-loop μ-loop
 enum-known-told c = search needs
@@ -68,16 +67,9 @@ returns : tie.Need-returns Inv-loop μ-loop
 returns c =
     let call = c .before .before .before .before .before .before .before .before .before .before in
     let head = call .before .before .before .before .before .before .before .before in
-    let start = head .before .before .before .before .before .before in
-    let a = start .args in
-    let l = head .loop in
-    let e = call .extend in
-    let last = e .last .1 .1 .1 .1 .1 .1 in (
-      in-row-over (a .images .now) (a .count) (a .lists) (a .limit) (a .s) (a .n)
-          (memory (a .found .now) (a .parents .now) (a .symbols .now) (a .table .now))
-          (l .list) (l .m) (memory (l .found) (l .parents) (l .symbols) (l .table)) (e .result)
-          (memory (last .0) (last .1 .0) (last .1 .1 .0) (last .1 .1 .1 .0)) (l .inv .0)
-          (call .before .before .before .before .before .before .before .loop-test .taken) (e .ensures .0) (c .enum-told .given .1),
+    let start = head .before .before .before .before .before .before in (
+      in-row-over (head .loop .inv .0) (call .before .before .before .before .before .before .before .loop-test .taken) (start .pre .0)
+          (call .extend .ensures .0) (c .enum-told .given .1),
       indexed-over,
     )
 
@@ -92,16 +84,9 @@ loop-again c =
     let call = c .before .before .before .before .before .before .before .before .before .before .before in
     let head = call .before .before .before .before .before .before .before .before in
     let start = head .before .before .before .before .before .before in
-    let a = start .args in
-    let l = head .loop in
     let e = call .extend in
-    let last = e .last .1 .1 .1 .1 .1 .1 in
     let kept = e .kept .1 .1 .1 .1 .1 .1 in (
-      in-row-more (a .images .now) (a .count) (a .lists) (a .limit) (a .s) (a .n)
-          (memory (a .found .now) (a .parents .now) (a .symbols .now) (a .table .now))
-          (l .list) (l .m) (memory (l .found) (l .parents) (l .symbols) (l .table)) (e .result) (c .before .told .given .0 .0)
-          (memory (last .0) (last .1 .0) (last .1 .1 .0) (last .1 .1 .1 .0)) (l .inv .0)
-          (call .before .before .before .before .before .before .before .loop-test .taken) (start .pre .0)
+      in-row-more (head .loop .inv .0) (call .before .before .before .before .before .before .before .loop-test .taken) (start .pre .0)
           (e .ensures .0) (c .before .told .given .1)
           (record { states = kept .0; origins = kept .1 .0; steps = kept .1 .1 .0; rows = kept .1 .1 .1 .0 }),
       e .ensures .1 _ (c .before .told .given .1),
@@ -120,15 +105,7 @@ same-length-8 : tie.Need-same-length-8 Inv-loop μ-loop
 same-length-8 c = c .before .loop .inv .0 .sizes .rows
 
 returns-2 : tie.Need-returns-2 Inv-loop μ-loop
-returns-2 c =
-    let start = c .before .before .before .before .before .before .before in
-    let a = start .args in
-    let l = c .before .loop in (
-      in-row-end (a .images .now) (a .count) (a .lists) (a .limit) (a .s) (a .n)
-          (memory (a .found .now) (a .parents .now) (a .symbols .now) (a .table .now)) (l .list) (l .m)
-          (memory (l .found) (l .parents) (l .symbols) (l .table)) (l .inv .0) (c .loop-test .left),
-      indexed-all (l .inv .1),
-    )
+returns-2 c = let l = c .before .loop in (in-row-end (l .inv .0) (c .loop-test .left), indexed-all (l .inv .1))
 
 pub row-spec : {M : Type 1} → statement M
 row-spec =

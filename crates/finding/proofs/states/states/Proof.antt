@@ -44,7 +44,7 @@ returns-7 c =
     let last = e .last .1 .1 .1 .1 in
     λ h k i l m.
     states-told (a .images .now) (a .count) (a .lists) (a .limit) (a .table .now) (last .0) (last .1 .0) (last .1 .1 .0) (last .1 .1 .1 .0)
-    (e .result) k h (omega (arith, e .kept .1 .1 .1 .1 .0)) (e .ensures)
+    (e .result) (e .ensures)
 
 pub states-spec : {M : Type 1} → statement M
 states-spec =

@@ -26,8 +26,7 @@ loop-holds : tie.Need-loop-holds Inv-loop μ-loop
 loop-holds c =
     let start = c .before .before .before .before .before in
     let a = start .args in (
-      in-sweep-start (a .images .now) (a .count) (a .lists) (a .limit) (a .found .now) (a .parents .now) (a .symbols .now)
-          (a .table .now) (start .pre .1) (start .pre .2),
+      in-sweep-start (a .found .now) (a .parents .now) (a .symbols .now) (a .table .now) (start .pre .1) (start .pre .2),
       indexed-first (set (a .found .now) 0 1),
     )
 
@@ -36,7 +35,8 @@ row-requires c κs =
     let head = c .before .before .before .before .before .before .before in
     let start = head .before .before .before .before .before .before in
     let inv = head .loop .inv in
-    (start .pre .0, c .before .before .before .before .before .before .loop-test .taken, inv .0 .within, inv .0 .room, inv .1, start .pre .3, start .pre .4)
+    let p = start .pre in
+    (p .0, c .before .before .before .before .before .before .loop-test .taken, inv .0 .within, inv .0 .room, inv .1, p .3, p .4)
 
 enum-known-told : tie.Need-enum-known-told Inv-loop μ-loop
 enum-known-told c = search needs
@@ -72,15 +72,8 @@ returns : tie.Need-returns Inv-loop μ-loop
 returns c =
     let call = c .before .before .before .before .before .before .before .before .before .before in
     let head = call .before .before .before .before .before .before .before .before in
-    let start = head .before .before .before .before .before .before in
-    let a = start .args in
-    let l = head .loop in
-    let e = call .row in
-    let last = e .last .1 .1 .1 .1 .1 .1 in
-    in-sweep-over (a .images .now) (a .count) (a .lists) (a .limit)
-    (memory (set (a .found .now) 0 1) (a .parents .now) (a .symbols .now) (a .table .now))
-    (l .s) (l .n) (memory (l .found) (l .parents) (l .symbols) (l .table)) (e .result)
-    (memory (last .0) (last .1 .0) (last .1 .1 .0) (last .1 .1 .1 .0)) (l .inv .0) (start .pre .0) (e .ensures .0) (c .enum-told .given .1)
+    in-sweep-over (head .loop .inv .0) (call .before .before .before .before .before .before .before .loop-test .taken) (call .row .ensures .0)
+    (c .enum-told .given .1)
 
 add-s : tie.Need-add-s Inv-loop μ-loop
 add-s c =
@@ -97,17 +90,10 @@ loop-again c =
     let call = c .before .before .before .before .before .before .before .before .before .before .before in
     let head = call .before .before .before .before .before .before .before .before in
     let start = head .before .before .before .before .before .before in
-    let a = start .args in
-    let l = head .loop in
     let e = call .row in
-    let last = e .last .1 .1 .1 .1 .1 .1 in
     let kept = e .kept .1 .1 .1 .1 .1 .1 in (
-      in-sweep-more (a .images .now) (a .count) (a .lists) (a .limit)
-          (memory (set (a .found .now) 0 1) (a .parents .now) (a .symbols .now) (a .table .now))
-          (l .s) (l .n) (memory (l .found) (l .parents) (l .symbols) (l .table)) (e .result) (c .before .told .given .0 .0)
-          (memory (last .0) (last .1 .0) (last .1 .1 .0) (last .1 .1 .1 .0)) (l .inv .0)
-          (call .before .before .before .before .before .before .before .loop-test .taken) (start .pre .0)
-          (e .ensures .0) (c .before .told .given .1)
+      in-sweep-more (head .loop .inv .0) (call .before .before .before .before .before .before .before .loop-test .taken) (e .ensures .0)
+          (start .pre .0) (c .before .told .given .1)
           (record { states = kept .0; origins = kept .1 .0; steps = kept .1 .1 .0; rows = kept .1 .1 .1 .0 }),
       e .ensures .1 _ (c .before .told .given .1),
     )
@@ -126,12 +112,8 @@ same-length-8 c = c .before .loop .inv .0 .sizes .rows
 
 returns-2 : tie.Need-returns-2 Inv-loop μ-loop
 returns-2 c =
-    let start = c .before .before .before .before .before .before .before in
-    let a = start .args in
     let l = c .before .loop in
-    in-sweep-end (a .images .now) (a .count) (a .lists) (a .limit)
-    (memory (set (a .found .now) 0 1) (a .parents .now) (a .symbols .now) (a .table .now)) (l .s) (l .n)
-    (memory (l .found) (l .parents) (l .symbols) (l .table)) (l .inv .0) (c .loop-test .left)
+    in-sweep-end (c .before .before .before .before .before .before .before .pre .0) (l .inv .0) (c .loop-test .left)
 
 pub sweep-spec : {M : Type 1} → statement M
 sweep-spec =

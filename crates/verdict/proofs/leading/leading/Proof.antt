@@ -30,7 +30,7 @@ loop-holds c =
     let s = c .before .before .before .before .before .before .before in (
       omega arith,
       lists-start (s .args .lists) (s .args .follow .now) (s .args .sizes .now) (c .before .before .clear-words .last .0)
-          (λ i h. subst (λ (z : List ℕ). getD z i 0 ≡ 0) (sym (c .before .before .clear-words .ensures (s .pre .2)))
+          (λ i h. subst (λ (z : List ℕ). getD z i 0 ≡ 0) (sym (c .before .before .clear-words .ensures .enough (s .pre .2)))
           (cleared-zero (64 * s .args .lists) (s .args .before .now) i h)),
       refl,
     )

@@ -38,7 +38,7 @@ step-rows-requires c κs =
       p .laid-room,
       rows-within p (wordsAt (s .args .workspace .now) (18 * s .args .i + 1) 16) (s .pre .0 .rows-laid h),
       c .step-rows-arg .given .0 .1,
-      ap numberOf (c .before .clear-words .ensures (omega (arith, words)))
+      ap numberOf (c .before .clear-words .ensures .enough (omega (arith, words)))
           ∙ number-cleared 16 (s .args .cover .now)
           (subst (λ k. numberOf (s .args .cover .now) < 2 ^ (64 * k)) (s .pre .3 .plain (p .plain)) (s .pre .4)),
     )
@@ -110,7 +110,7 @@ step-ranges-requires c κs =
       s .pre .1,
       simp (length-take, length-drop) (omega (arith, s .pre .2)),
       c .step-ranges-arg2 .given .0 .1,
-      ap numberOf (c .before .before .clear-words2 .ensures (omega (arith, words, s .pre .3 .within)))
+      ap numberOf (c .before .before .clear-words2 .ensures .enough (omega (arith, words, s .pre .3 .within)))
           ∙ number-cleared (s .args .used) (s .args .cover .now) (s .pre .4),
     )
 

@@ -21,7 +21,7 @@ step-columns-requires c κs =
       s .pre .4,
       s .pre .5,
       c .step-columns-arg .given .0 .1,
-      ap numberOf (c .before .clear-words .ensures (omega (arith, words, s .pre .11)))
+      ap numberOf (c .before .clear-words .ensures .enough (omega (arith, words, s .pre .11)))
           ∙ number-cleared (s .args .used) (s .args .cover .now) (s .pre .12),
       s .pre .6,
       s .pre .7,

@@ -36,7 +36,7 @@ returns-3 c =
     let at-clear-bytes = c .before .before in
     let at-clear-numbers = at-clear-bytes .before .before .before .before in
     let matched = at-clear-numbers .before .before .before in
-    answered-refused (matched .told3 .given .1) (at-clear-numbers .clear-numbers .ensures) (at-clear-bytes .clear-bytes .ensures)
+    answered-refused (matched .told3 .given .1) (at-clear-numbers .clear-numbers .ensures .enough) (at-clear-bytes .clear-bytes .ensures .enough)
 
 pub answer-spec : {M : Type 1} → statement M
 answer-spec =

@@ -47,8 +47,8 @@ returns c =
     let z = start .pre .1 in
     let k = at-find-verdict .find-verdict .kept in
     λ J g.
-    job-left g z (at-clear-bytes .clear-bytes .ensures (z .path-room)) (at-find-verdict .find-verdict .ensures)
-    (omega (arith, k)) (omega (arith, k)) (omega (arith, k)) (at-clear-words .clear-words .ensures (omega (arith, k, z .room)))
+    job-left g z (at-clear-bytes .clear-bytes .ensures .enough (z .path-room)) (at-find-verdict .find-verdict .ensures)
+    (omega (arith, k)) (omega (arith, k)) (omega (arith, k)) (at-clear-words .clear-words .ensures .enough (omega (arith, k, z .room)))
     (at-answer .answer .ensures)
 
 pub job-verdict-spec : {M : Type 1} → statement M

@@ -33,7 +33,7 @@ loop-holds c =
       omega arith,
       refl,
       alone-start (a .k) (a .states) (clear-words .last .0)
-          (λ i h. subst (λ (z : List ℕ). getD z i 0 ≡ 0) (sym (clear-words .ensures (s .pre .2)))
+          (λ i h. subst (λ (z : List ℕ). getD z i 0 ≡ 0) (sym (clear-words .ensures .enough (s .pre .2)))
           (cleared-zero (a .k * a .states) (a .passes .now) i h)),
     )
 

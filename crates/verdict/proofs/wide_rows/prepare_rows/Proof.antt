@@ -37,7 +37,7 @@ loop-holds c =
       refl,
       refl,
       preparing-start (a .follow .now) (a .enter .now) (a .sizes .now) (a .accepting .now) (clear-words .last .0)
-          (λ i h. subst (λ (z : List ℕ). getD z i 0 ≡ 0) (sym (clear-words .ensures (p .5))) (cleared-zero 352 (a .rows .now) i h)),
+          (λ i h. subst (λ (z : List ℕ). getD z i 0 ≡ 0) (sym (clear-words .ensures .enough (p .5))) (cleared-zero 352 (a .rows .now) i h)),
     )
 
 add-size : tie.Need-add-size Inv-loop μ-loop
