@@ -2,7 +2,7 @@
 -- those behind it that leave the same recording.
 use Prim.Native.Nat.{ℕ, _+_, _/_, _≤_, _<_}
 use mathlib.Core.List.{List}
-use mathlib.Core.Path.{_≡_, sym, ap, _∙_, subst}
+use mathlib.Core.Path.{_≡_, sym, ap, _∙_}
 use native.Mathlib.Decide.{ℕ-discrete}
 use native.Mathlib.Omega.{arith}
 use lib.ListN.{length, getD, set, replicate, length-replicate}
@@ -38,23 +38,7 @@ module _ {t : Table} {n : ℕ} {begins : List ℕ} where
     there = λ x h j l m. absurd (omega arith);
   }
 
-  -- A triple that leaves none of the recordings is passed ..
-  pub begun-over : {i : ℕ} → n ≤ leaves t i → Begun t n (i + 1) begins → Begun t n i begins
-  begun-over {i} o b = record {
-    within = b .within;
-    before = λ x h j l m. before' x h j l m (ℕ-discrete j i);
-    there = λ x h j l m. there' x h j l m (ℕ-discrete j i);
-  }
-    where
-      before' : (x : ℕ) → x < n → (j : ℕ) → i ≤ j → j < getD begins x 0 → Dec (j ≡ i) → ¬ (leaves t j ≡ x)
-      before' x h j l m (yes e) q = let p : leaves t i ≡ x = subst (λ j. leaves t j ≡ x) e q in omega arith
-      before' x h j l m (no e) q = b .before x h j (omega arith) m q
-
-      there' : (x : ℕ) → x < n → (j : ℕ) → i ≤ j → j < length t / 3 → Dec (j ≡ i) → leaves t j ≡ x → leaves t (getD begins x 0) ≡ x
-      there' x h j l m (yes e) q = let p : leaves t i ≡ x = subst (λ j. leaves t j ≡ x) e q in absurd (omega arith)
-      there' x h j l m (no e) q = b .there x h j (omega arith) m q
-
-  -- .. and one that leaves a recording is its first so far.
+  -- A triple that leaves a recording is its first so far.
   pub begun-more : {i y : ℕ} → i < length t / 3 → y < length begins → y ≡ leaves t i → Begun t n (i + 1) begins
       → Begun t n i (set begins y i)
   begun-more {i} {y} l k e b = record {

@@ -1,7 +1,7 @@
--- The test for a table (Table) one triple at a time, by the number of the triple before: from the place i on, the triples are in range,
--- and their numbers rise.
-use Prim.Native.Nat.{ℕ, suc, _+_, _*_, _%_, _≤_, _<_}
-use mathlib.Core.Bool.{Bool, true, false, _&&_, _||_}
+-- The test for a table (Table) one triple at a time, by the numbers of the triples: from the place i on, the triples are in range, and their
+-- numbers rise.
+use Prim.Native.Nat.{ℕ, zero, suc, _+_, _*_, _%_, _≤_, _<_}
+use mathlib.Core.Bool.{Bool, true, false, _&&_, _||_, and-true, and-false}
 use mathlib.Core.List.{[], _∷_}
 use mathlib.Core.Path.{_≡_, refl, sym, ap, _∙_}
 use native.Mathlib.Decide.{ℕ-discrete, decLt}
@@ -18,6 +18,10 @@ use Rattle.answering.specs.TableLaws.{is-table-exactly, table-length}
 -- Triples of numbers below 65,536 are in the order of these numbers, which are above 0.
 abbrev pub tripleNumber : ℕ → ℕ → ℕ → ℕ
 tripleNumber x a y = 4294967296 * x + 65536 * a + y + 1
+
+-- Past the numbers of all of them.
+abbrev pub pastTriples : ℕ
+pastTriples = 281474976710657
 
 -- The numbers are triples within range, each with a greater number than the one before, whose number was n.
 unfoldable pub numbersRise : ℕ → ℕ → ℕ → Table → Bool
@@ -113,41 +117,77 @@ table-uneven N k t h = go (isTable N k t) refl
     go true e = absurd (h (table-length (is-table-exactly N k t .0 e)))
     go false e = e
 
--- What the whole test says, where one triple is tested after the other.
+-- The triples are tested from the last to the first. From the place i on, they are in range and rise ..
 
-pub rises-first : (N k : ℕ) (t : Table) → length t ≤ 3 * mostLinks → ((i : ℕ) → getD t i 0 < 65536) → isTable N k t ≡ risesFrom N k 0 t 0
-unfolding risesFrom
-rises-first N k t l h = table-short N k t l ∙ rising-numbers N k t h
+-- .. from those numbers of triples, and from 0, that come before `after` ..
+abbrev pub RiseBefore : ℕ → ℕ → Table → ℕ → ℕ → Type 0
+RiseBefore N k t i after = (n : ℕ) → n < pastTriples → risesFrom N k n t i ≡ ltb n after
 
-pub rises-end : (N k n : ℕ) (t : Table) (i : ℕ) → length t ≤ i → risesFrom N k n t i ≡ true
+-- .. or from no number.
+abbrev pub RiseNever : ℕ → ℕ → Table → ℕ → Type 0
+RiseNever N k t i = (n : ℕ) → risesFrom N k n t i ≡ false
+
+pub rise-end : (N k : ℕ) (t : Table) (i : ℕ) → length t ≤ i → RiseBefore N k t i pastTriples
 unfolding risesFrom numbersRise
-rises-end N k n t i h = rw (drop-of-length-le t h)
+rise-end N k t i h n l = rw (drop-of-length-le t h) (sym (lt-ltb n pastTriples l))
 
-module _ (N k n : ℕ) (t : Table) (i : ℕ) (h : i + 2 < length t) where
+module _ (N k : ℕ) (t : Table) (i : ℕ) (h : i + 2 < length t) where
   abbrev numberAt : ℕ
   numberAt = tripleNumber (getD t i 0) (getD t (i + 1) 0) (getD t (i + 2) 0)
 
-  triple-tested : risesFrom N k n t i
-      ≡ ((ltb (getD t i 0) N && (ltb (getD t (i + 1) 0) k && ltb (getD t (i + 2) 0) N))
-      && (ltb n numberAt && risesFrom N k numberAt t (i + 3)))
+  abbrev inRange : Bool
+  inRange = ltb (getD t i 0) N && (ltb (getD t (i + 1) 0) k && ltb (getD t (i + 2) 0) N)
+
+  triple-tested : (n : ℕ) → risesFrom N k n t i ≡ (inRange && (ltb n numberAt && risesFrom N k numberAt t (i + 3)))
   unfolding risesFrom numbersRise
-  triple-tested = ap (numbersRise N k n) (triple-at t i h)
+  triple-tested n = ap (numbersRise N k n) (triple-at t i h)
 
-  pub first-out : N ≤ getD t i 0 → risesFrom N k n t i ≡ false
-  first-out f = triple-tested ∙ rw (le-ltb (getD t i 0) N f)
+  -- The triple is out of range ..
+  pub first-out : N ≤ getD t i 0 → RiseNever N k t i
+  first-out f n = triple-tested n ∙ rw (le-ltb (getD t i 0) N f)
 
-  pub label-out : getD t i 0 < N → k ≤ getD t (i + 1) 0 → risesFrom N k n t i ≡ false
-  label-out f g = triple-tested ∙ rw (lt-ltb (getD t i 0) N f, le-ltb (getD t (i + 1) 0) k g)
+  pub label-out : getD t i 0 < N → k ≤ getD t (i + 1) 0 → RiseNever N k t i
+  label-out f g n = triple-tested n ∙ rw (lt-ltb (getD t i 0) N f, le-ltb (getD t (i + 1) 0) k g)
 
-  pub last-out : getD t i 0 < N → getD t (i + 1) 0 < k → N ≤ getD t (i + 2) 0 → risesFrom N k n t i ≡ false
-  last-out f g l = triple-tested ∙ rw (lt-ltb (getD t i 0) N f, lt-ltb (getD t (i + 1) 0) k g, le-ltb (getD t (i + 2) 0) N l)
+  pub last-out : getD t i 0 < N → getD t (i + 1) 0 < k → N ≤ getD t (i + 2) 0 → RiseNever N k t i
+  last-out f g l n = triple-tested n ∙ rw (lt-ltb (getD t i 0) N f, lt-ltb (getD t (i + 1) 0) k g, le-ltb (getD t (i + 2) 0) N l)
 
-  module _ (f : getD t i 0 < N) (g : getD t (i + 1) 0 < k) (l : getD t (i + 2) 0 < N) where
-    triple-in : risesFrom N k n t i ≡ (ltb n numberAt && risesFrom N k numberAt t (i + 3))
-    triple-in = triple-tested ∙ rw (lt-ltb (getD t i 0) N f, lt-ltb (getD t (i + 1) 0) k g, lt-ltb (getD t (i + 2) 0) N l)
+  -- .. or the triples behind it rise from no number ..
+  never-before : RiseNever N k t (i + 3) → RiseNever N k t i
+  never-before f n = triple-tested n ∙ rw (f numberAt, and-false (ltb n numberAt)) (and-false inRange)
 
-    pub unordered : numberAt ≤ n → risesFrom N k n t i ≡ false
-    unordered o = triple-in ∙ rw (le-ltb n numberAt o)
+  module _ (f : getD t i 0 < N) (g : getD t (i + 1) 0 < k) (l : getD t (i + 2) 0 < N) (narrow : (j : ℕ) → getD t j 0 < 65536) (after : ℕ)
+      (rest : RiseBefore N k t (i + 3) after) where
+    triple-in : (n : ℕ) → risesFrom N k n t i ≡ (ltb n numberAt && ltb numberAt after)
+    triple-in n =
+        triple-tested n
+        ∙ rw (
+          lt-ltb (getD t i 0) N f,
+          lt-ltb (getD t (i + 1) 0) k g,
+          lt-ltb (getD t (i + 2) 0) N l,
+          rest numberAt (omega (arith, narrow i, narrow (i + 1), narrow (i + 2))),
+        )
 
-    pub rises-next : n < numberAt → risesFrom N k n t i ≡ risesFrom N k numberAt t (i + 3)
-    rises-next o = triple-in ∙ rw (lt-ltb n numberAt o)
+    -- .. or not from its own ..
+    pub unordered : after ≤ numberAt → RiseNever N k t i
+    unordered o n = triple-in n ∙ rw (le-ltb numberAt after o) (and-false (ltb n numberAt))
+
+    -- .. or all of them rise.
+    pub rise-more : numberAt < after → RiseBefore N k t i numberAt
+    rise-more o n m = triple-in n ∙ rw (lt-ltb numberAt after o) (and-true (ltb n numberAt))
+
+-- What the whole test says.
+
+module _ (N k : ℕ) (t : Table) (short : length t ≤ 3 * mostLinks) (narrow : (i : ℕ) → getD t i 0 < 65536) where
+  whole : isTable N k t ≡ risesFrom N k 0 t 0
+  unfolding risesFrom
+  whole = table-short N k t short ∙ rising-numbers N k t narrow
+
+  pub table-rises : (after : ℕ) → 0 < after → RiseBefore N k t 0 after → isTable N k t ≡ true
+  table-rises after h r = whole ∙ r 0 (omega arith) ∙ lt-ltb 0 after h
+
+  pub table-fails : (m : ℕ) → 3 * m + 2 < length t → RiseNever N k t (3 * m) → isTable N k t ≡ false
+  table-fails zero h f = whole ∙ f 0
+  table-fails (suc m) h f =
+      let e : 3 * suc m ≡ 3 * m + 3 = omega arith in
+      table-fails m (omega arith) (never-before N k t (3 * m) (omega arith) (rw e at f))

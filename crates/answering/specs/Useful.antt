@@ -4,10 +4,11 @@
 use Prim.Native.Nat.{ℕ, zero, suc, _+_, _*_, _≤_, _<_}
 use mathlib.Core.Bool.{Bool, true, false, false≢true}
 use mathlib.Core.List.{List, [], _∷_}
+use mathlib.Core.Logic.{_⊎_, inl, inr}
 use mathlib.Core.Path.{_≡_, refl, sym, _∙_, subst}
 use native.Mathlib.Decide.{ℕ-discrete}
 use native.Mathlib.Omega.{arith}
-use borrow.Author.Tests.{ne-eqb}
+use borrow.Author.Tests.{ne-eqb, eq-eqb}
 use lib.Dec.{eqb}
 use lib.ListN.{length, getD, set}
 use lib.Seq.{getD-set-same, getD-set-other}
@@ -67,115 +68,141 @@ pub useful-room-kept : {next : List ℕ} {lists states : ℕ} {before after : Li
     → length after ≡ length before → UsefulRoom next lists states after
 useful-room-kept f e = record { few-lists = f .few-lists; rows = f .rows; bytes = let b = f .bytes in omega arith }
 
--- No next state of s over the first lists is in the set.
-abbrev pub LeadsNowhere : List ℕ → ℕ → ℕ → List ℕ → ℕ → Type 0
-LeadsNowhere next lists states set s = (v : ℕ) → v < lists → nextOf next s v < states → ¬ InSet set (nextOf next s v)
+-- Beside the set, the states are noted that are wanted: those that a state which was not added leads to. The next states of s over the first
+-- lists are wanted, and none is in the set.
+abbrev pub OnlyWanted : List ℕ → ℕ → ℕ → List ℕ → List ℕ → ℕ → Type 0
+OnlyWanted next lists states set wanted s =
+    (v : ℕ) → v < lists → nextOf next s v < states → InSet wanted (nextOf next s v) × (¬ InSet set (nextOf next s v))
+
+-- Where r says that the set has no next state of s, they are all wanted. What was wanted is wanted still.
+pub record LedInto (next : List ℕ) (lists states s : ℕ) (set before after : List ℕ) (r : Bool) : Type 0 where
+  pub kept : (t : ℕ) → InSet before t → InSet after t
+  pub nowhere : r ≡ false → OnlyWanted next lists states set after s
 
 -- One list more.
 
-pub nowhere-none : (next : List ℕ) (states : ℕ) (set : List ℕ) (s : ℕ) → LeadsNowhere next 0 states set s
-nowhere-none next states set s v h = absurd (omega arith)
+pub led-none : (next : List ℕ) (states s : ℕ) (set wanted : List ℕ) → LedInto next 0 states s set wanted wanted false
+led-none next states s set wanted = record { kept = λ t m. m; nowhere = λ e v h. absurd (omega arith) }
 
-pub nowhere-more : (next : List ℕ) (v states : ℕ) (set : List ℕ) (s : ℕ) {t : ℕ} → LeadsNowhere next v states set s
-    → t ≡ nextOf next s v → ¬ ((t < states) × InSet set t) → LeadsNowhere next (v + 1) states set s
-nowhere-more next v states set s f at d u h l m = go (ℕ-discrete u v)
-  where
-    go : Dec (u ≡ v) → ⊥
-    go (yes e) =
-        d
-        (subst (λ t. (t < states) × InSet set t) (sym at)
-        (subst (λ u. (nextOf next s u < states) × InSet set (nextOf next s u)) e (l, m)))
-    go (no e) = f u (omega arith) l m
+module _ {next : List ℕ} {v states s : ℕ} {set before middle : List ℕ} (f : LedInto next v states s set before middle false) where
+  -- The set has the next state ..
+  pub led-into : (lists : ℕ) → LedInto next lists states s set before middle true
+  led-into lists = record { kept = f .kept; nowhere = λ e. absurd (false≢true (sym e)) }
 
--- Where r says that nothing was added, the set is closed under the states from `from` on; otherwise it has grown.
-pub record Round (next : List ℕ) (lists states from : ℕ) (before after : List ℕ) (r : Bool) : Type 0 where
-  pub kept : (s : ℕ) → InSet before s → InSet after s
-  pub closed : r ≡ false → (s : ℕ) → from ≤ s → s < states → ClosedUnder next lists states after s
-  pub grown : r ≡ true → lacks after < lacks before
-  pub same : r ≡ false → after ≡ before
+  -- .. or it has not.
+  pub led-more : {after : List ℕ} {t : ℕ} → t ≡ nextOf next s v → ((u : ℕ) → InSet middle u → InSet after u)
+      → (t < states → InSet after t × (¬ InSet set t)) → LedInto next (v + 1) states s set before after false
+  led-more {after} {t} at still d = record { kept = λ u m. still u (f .kept u m); nowhere = λ e u h l. go u h l (ℕ-discrete u v) }
+    where
+      Passed : ℕ → Type 0
+      Passed t = t < states → InSet after t × (¬ InSet set t)
 
--- One state: nothing is changed where the set has it or it leads nowhere, else it is added.
-pub record StateAdded (next : List ℕ) (lists states s : ℕ) (before after : List ℕ) (r : Bool) : Type 0 where
-  pub kept : (t : ℕ) → InSet before t → InSet after t
-  pub closed : r ≡ false → ClosedUnder next lists states after s
-  pub grown : r ≡ true → lacks after < lacks before
-  pub same : r ≡ false → after ≡ before
+      go : (u : ℕ) → u < v + 1 → nextOf next s u < states → Dec (u ≡ v)
+          → InSet after (nextOf next s u) × (¬ InSet set (nextOf next s u))
+      go u h l (yes e) = subst (λ u. Passed (nextOf next s u)) (sym e) (subst Passed at d) l
+      go u h l (no e) = let m = f .nowhere refl u (omega arith) l in (still (nextOf next s u) (m .0), m .1)
 
-module _ (next : List ℕ) (lists states : ℕ) (l : List ℕ) (s : ℕ) where
-  -- The state was there ..
-  pub state-there : {r : Bool} → InSet l s → r ≡ false → StateAdded next lists states s l l r
-  state-there m f = record {
+-- The set has s, or it has none of its next states, which are all wanted: s need not be added while no wanted state is.
+abbrev pub Settled : List ℕ → ℕ → ℕ → List ℕ → List ℕ → ℕ → Type 0
+Settled next lists states set wanted s = InSet set s ⊎ OnlyWanted next lists states set wanted s
+
+settled-closed : (next : List ℕ) (lists states : ℕ) (set wanted : List ℕ) (s : ℕ) → Settled next lists states set wanted s
+    → ClosedUnder next lists states set s
+settled-closed next lists states set wanted s (inl m) v h l n = m
+settled-closed next lists states set wanted s (inr f) v h l n = absurd (f v h l .1 n)
+
+-- One state is settled: it was in the set, or it leads nowhere, or it is added. Where r says that it was not added or not wanted before, no
+-- state that was wanted is new.
+pub record StateAdded (next : List ℕ) (lists states s : ℕ) (set wanted set′ wanted′ : List ℕ) (r : Bool) : Type 0 where
+  pub kept : (t : ℕ) → InSet set t → InSet set′ t
+  pub wanted-kept : (t : ℕ) → InSet wanted t → InSet wanted′ t
+  pub settled : Settled next lists states set′ wanted′ s
+  pub unwanted : r ≡ false → (t : ℕ) → InSet wanted t → InSet set′ t → InSet set t
+  pub grown : r ≡ true → lacks set′ < lacks set
+  pub fewer : lacks set′ ≤ lacks set
+
+module _ (next : List ℕ) (lists states : ℕ) (l : List ℕ) (s : ℕ) {wanted wanted′ : List ℕ} where
+  -- The set is as it was ..
+  pub state-same : ((t : ℕ) → InSet wanted t → InSet wanted′ t) → Settled next lists states l wanted′ s
+      → StateAdded next lists states s l wanted l wanted′ false
+  state-same k m = record {
     kept = λ t n. n;
-    closed = λ e v h k n. m;
-    grown = λ e. absurd (false≢true (sym f ∙ e));
-    same = λ e. refl;
+    wanted-kept = k;
+    settled = m;
+    unwanted = λ e t w n. n;
+    grown = λ e. absurd (false≢true e);
+    fewer = omega arith;
   }
 
-  -- .. or it leads nowhere ..
-  pub state-nowhere : {r : Bool} → LeadsNowhere next lists states l s → r ≡ false → StateAdded next lists states s l l r
-  state-nowhere m f = record {
-    kept = λ t n. n;
-    closed = λ e v h k n. absurd (m v h k n);
-    grown = λ e. absurd (false≢true (sym f ∙ e));
-    same = λ e. refl;
-  }
-
-  -- .. or it is added.
-  pub state-new : {r : Bool} → s < length l → ¬ InSet l s → r ≡ true → StateAdded next lists states s l (set l s 1) r
-  state-new h d f = record {
+  -- .. or the state is added.
+  pub state-new : ((t : ℕ) → InSet wanted t → InSet wanted′ t) → s < length l → ¬ InSet l s
+      → StateAdded next lists states s l wanted (set l s 1) wanted′ (eqb (getD wanted′ s 0) 1)
+  state-new k h d = record {
     kept = set-still l h;
-    closed = λ e. absurd (false≢true (sym e ∙ f));
+    wanted-kept = k;
+    settled = inl (set-in l h);
+    unwanted = λ e t w n. go e t w n (ℕ-discrete t s);
     grown = λ e. set-lacks l s h d;
-    same = λ e. absurd (false≢true (sym e ∙ f));
+    fewer = omega (arith, set-lacks l s h d);
   }
+    where
+      go : eqb (getD wanted′ s 0) 1 ≡ false → (t : ℕ) → InSet wanted t → InSet (set l s 1) t → Dec (t ≡ s) → InSet l t
+      go e t w n (yes f) = absurd (false≢true (sym e ∙ eq-eqb (getD wanted′ s 0) 1 (subst (InSet wanted′) f (k t w))))
+      go e t w n (no f) = sym (getD-set-other l s t 1 0 f) ∙ n
 
--- A round over the states.
+-- A round over the states from `from` on. Where r says that none was added that had been wanted before, each of them is settled; otherwise
+-- the set has grown.
+pub record Round (next : List ℕ) (lists states from : ℕ) (before after wanted : List ℕ) (r : Bool) : Type 0 where
+  pub kept : (s : ℕ) → InSet before s → InSet after s
+  pub settled : r ≡ false → (s : ℕ) → from ≤ s → s < states → Settled next lists states after wanted s
+  pub grown : r ≡ true → lacks after < lacks before
+  pub fewer : lacks after ≤ lacks before
 
-pub round-none : (next : List ℕ) (lists states : ℕ) (set : List ℕ) {r : Bool} → r ≡ false → Round next lists states states set set r
-round-none next lists states set f = record {
+pub round-none : (next : List ℕ) (lists states : ℕ) (set wanted : List ℕ) → Round next lists states states set set wanted false
+round-none next lists states set wanted = record {
   kept = λ s m. m;
-  closed = λ e s h l. absurd (omega arith);
-  grown = λ e. absurd (false≢true (sym f ∙ e));
-  same = λ e. refl;
+  settled = λ e s h l. absurd (omega arith);
+  grown = λ e. absurd (false≢true e);
+  fewer = omega arith;
 }
 
-module _ {next : List ℕ} {lists states from s : ℕ} {before middle after : List ℕ} {b r : Bool} (at : from ≡ suc s)
-    (g : Round next lists states from before middle b) (a : StateAdded next lists states s middle after r) where
-  -- The state was added ..
-  pub round-grown : {d : Bool} → r ≡ true → d ≡ true → Round next lists states s before after d
-  round-grown {d} e f = record {
+module _ {next : List ℕ} {lists states from s : ℕ} {before middle after wanted wanted′ : List ℕ} {b r : Bool} (at : from ≡ suc s)
+    (g : Round next lists states from before middle wanted b) (a : StateAdded next lists states s middle wanted after wanted′ r) where
+  -- The state was added and wanted ..
+  pub round-grown : r ≡ true → Round next lists states s before after wanted′ true
+  round-grown e = record {
     kept = λ t m. a .kept t (g .kept t m);
-    closed = λ z. absurd (false≢true (sym z ∙ f));
-    grown = λ z. less b refl;
-    same = λ z. absurd (false≢true (sym z ∙ f));
+    settled = λ z. absurd (false≢true (sym z));
+    grown = λ z. omega (arith, g .fewer, a .grown e);
+    fewer = omega (arith, g .fewer, a .fewer);
   }
-    where
-      less : (q : Bool) → b ≡ q → lacks after < lacks before
-      less true h = omega (arith, g .grown h, a .grown e)
-      less false h = subst (λ l. lacks after < lacks l) (g .same h) (a .grown e)
 
   -- .. or it was not.
-  pub round-same : r ≡ false → Round next lists states s before after b
+  pub round-same : r ≡ false → Round next lists states s before after wanted′ b
   round-same e = record {
     kept = λ t m. a .kept t (g .kept t m);
-    closed = λ z t h l. go z t h l (ℕ-discrete t s);
-    grown = λ z. subst (λ l. lacks l < lacks before) (sym (a .same e)) (g .grown z);
-    same = λ z. a .same e ∙ g .same z;
+    settled = λ z t h l. go z t h l (ℕ-discrete t s);
+    grown = λ z. omega (arith, g .grown z, a .fewer);
+    fewer = omega (arith, g .fewer, a .fewer);
   }
     where
-      go : b ≡ false → (t : ℕ) → s ≤ t → t < states → Dec (t ≡ s) → ClosedUnder next lists states after t
-      go z t h l (yes f) = subst (ClosedUnder next lists states after) (sym f) (a .closed e)
-      go z t h l (no f) =
-          subst (λ k. ClosedUnder next lists states k t) (sym (a .same e)) (g .closed z t (omega arith) l)
+      still : (t : ℕ) → Settled next lists states middle wanted t → Settled next lists states after wanted′ t
+      still t (inl m) = inl (a .kept t m)
+      still t (inr f) =
+          inr (λ v h l. (a .wanted-kept _ (f v h l .0), λ n. f v h l .1 (a .unwanted e _ (f v h l .0) n)))
 
--- The rounds: while one adds something.
+      go : b ≡ false → (t : ℕ) → s ≤ t → t < states → Dec (t ≡ s) → Settled next lists states after wanted′ t
+      go z t h l (yes f) = subst (Settled next lists states after wanted′) (sym f) (a .settled)
+      go z t h l (no f) = still t (g .settled z t (omega arith) l)
 
--- How many rounds may follow: each adds some state, of those that the set lacks.
+-- The rounds: while one adds a wanted state.
+
+-- How many rounds may follow: each but the last adds some state, of those that the set lacks.
 abbrev pub roundsLeft : Bool → List ℕ → ℕ
 roundsLeft true set = suc (lacks set)
 roundsLeft false set = 0
 
--- No state is lost, and once a round adds nothing, the set is closed.
+-- No state is lost, and once a round adds no wanted state, the set is closed.
 pub record Rounds (next : List ℕ) (lists states : ℕ) (before after : List ℕ) (more : Bool) : Type 0 where
   pub kept : (s : ℕ) → InSet before s → InSet after s
   pub closed : more ≡ false → (s : ℕ) → s < states → ClosedUnder next lists states after s
@@ -183,10 +210,13 @@ pub record Rounds (next : List ℕ) (lists states : ℕ) (before after : List �
 pub rounds-none : (next : List ℕ) (lists states : ℕ) (set : List ℕ) {more : Bool} → more ≡ true → Rounds next lists states set set more
 rounds-none next lists states set e = record { kept = λ s m. m; closed = λ f. absurd (false≢true (sym f ∙ e)) }
 
-module _ {next : List ℕ} {lists states : ℕ} {before middle after : List ℕ} {b r : Bool} (g : Rounds next lists states before middle b)
-    (a : Round next lists states 0 middle after r) where
+module _ {next : List ℕ} {lists states : ℕ} {before middle after wanted : List ℕ} {b r : Bool}
+    (g : Rounds next lists states before middle b) (a : Round next lists states 0 middle after wanted r) where
   pub rounds-more : Rounds next lists states before after r
-  rounds-more = record { kept = λ s m. a .kept s (g .kept s m); closed = λ e s h. a .closed e s (omega arith) h }
+  rounds-more = record {
+    kept = λ s m. a .kept s (g .kept s m);
+    closed = λ e s h. settled-closed next lists states after wanted s (a .settled e s (omega arith) h);
+  }
 
   pub rounds-less : b ≡ true → roundsLeft r after < roundsLeft b middle
   rounds-less e = subst (λ q. roundsLeft r after < roundsLeft q middle) (sym e) (go r refl)

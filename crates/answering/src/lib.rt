@@ -22,4 +22,3 @@ pub use links_operation::Answered;
 pub use links_operation::answer_from_links;
 pub use lists_operation::answer_from_lists;
 pub use marks::mark;
-pub use table::is_table;

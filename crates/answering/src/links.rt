@@ -1,9 +1,8 @@
-// Where the links that leave a recording begin in a rising table, which link stands at a place, and which place comes next.
+// Which link stands at a place of a rising table, and which place comes next.
 use super::table::index;
 use super::table::wide;
 ghost use mathlib.Core.Path.{_≡_};
 ghost use Rattle.answering.specs.LinkAt.{linkAt, placeAfter};
-ghost use Rattle.answering.specs.LinkBegins.{Unlisted, LinkBegins};
 
 // What a recording has at a place among the triples: whether a link that leaves it stands there, the place, and that link's label and end.
 pub(super) struct Link {
@@ -11,21 +10,6 @@ pub(super) struct Link {
     pub(super) at: usize,
     pub(super) label: usize,
     pub(super) end: usize,
-}
-
-// The first triple that leaves each recording, where one does, from the last to the first; nothing is listed before.
-pub(super) fn link_begins(table: &[u16], recordings: usize, begins: &mut [usize])
-    requires { ⌜ Unlisted recordings (now begins) ⌝ }
-    ensures { λ _. ⌜ LinkBegins (now (table .entry)) recordings (now (begins .exit)) ⌝ }
-{
-    let mut at = table.len() / 3;
-    while 0 < at {
-        at -= 1;
-        let x = index(table[3 * at]);
-        if x < recordings {
-            begins[x] = at;
-        }
-    }
 }
 
 // What x has at the place.

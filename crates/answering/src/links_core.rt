@@ -7,6 +7,7 @@ use finding::standings::Explored;
 use finding::standings::standings;
 ghost use Rattle.finding.specs.Plain.{plain};
 ghost use Rattle.answering.specs.Links.{InRange};
+ghost use Rattle.answering.specs.LinkBegins.{LinkBegins};
 ghost use Rattle.answering.specs.LinksCore.{Lent, StandingsMarked, LinksGiven, LinksTold};
 
 pub(super) enum Links {
@@ -24,18 +25,28 @@ fn mark_places(
     accepting: u64,
     labels: u64,
     table: &[u16],
+    begins: &[u16],
     recordings: u64,
     start: u64,
     marks: &mut [u8],
     workspace: &mut [u64],
 ) -> u64
-    requires { ⌜ InRange labels recordings (now table) ⌝ }
+    requires { ⌜ InRange labels recordings (now table) × LinkBegins (now table) recordings (now begins) ⌝ }
     ensures { λ r. ⌜ (LinksGiven (now (enter .entry)) labels (now (table .entry)) recordings
         → Lent recordings start (now (marks .entry)) (now (workspace .entry))
         → StandingsMarked (plain (now (follow .entry)) (now (enter .entry)) accepting) labels recordings (now (table .entry)) start
         (now (marks .entry)) (now (workspace .entry)) (now (marks .exit)) (now (workspace .exit)) r) ⌝ }
 {
-    search_places(follow, enter, labels, table, recordings, start, workspace);
+    search_places(
+        follow,
+        enter,
+        labels,
+        table,
+        begins,
+        recordings,
+        start,
+        workspace,
+    );
     let accepts: [u64; 4] = [accepting, 0, 0, 0];
     let ones = mark(workspace, 1, &accepts, recordings, marks);
     clear_words(workspace, recordings as usize);
@@ -50,12 +61,13 @@ pub(super) fn mark_links(
     accepting: u64,
     labels: u64,
     table: &[u16],
+    begins: &[u16],
     recordings: u64,
     start: u64,
     marks: &mut [u8],
     workspace: &mut [u64],
 ) -> Links
-    requires { ⌜ InRange labels recordings (now table) ⌝ }
+    requires { ⌜ InRange labels recordings (now table) × LinkBegins (now table) recordings (now begins) ⌝ }
     ensures { λ r. ⌜ (LinksGiven (now (enter .entry)) labels (now (table .entry)) recordings
         → Lent recordings start (now (marks .entry)) (now (workspace .entry))
         → LinksTold (plain (now (follow .entry)) (now (enter .entry)) accepting) labels recordings (now (table .entry)) start
@@ -72,6 +84,7 @@ pub(super) fn mark_links(
                 accepting,
                 labels,
                 table,
+                begins,
                 recordings,
                 start,
                 marks,

@@ -1,17 +1,22 @@
 // Answer from links: the chosen expression of a job, over a table of links.
 use super::links_core::Links;
 use super::links_core::mark_links;
-use super::table::is_table;
+use super::table::index_table;
 use reading::Answer;
-use reading::load;
+use reading::lists_at_most;
+use reading::load_rows;
 use syntax::Refusal;
 ghost use mathlib.Core.Path.{_≡_};
 ghost use mathlib.Core.Bool.{true};
-ghost use Prim.Native.Nat.{_≤_, _<_};
+ghost use Prim.Native.Nat.{_+_, _*_, _≤_, _<_};
+ghost use lib.ListN.{length};
 ghost use Rattle.theory.specs.Job.{Job};
 ghost use Rattle.reading.specs.Read.{read};
+ghost use Rattle.reading.specs.RowRoom.{askedRows, HasRows};
+ghost use Rattle.finding.specs.RowsFit.{RowsFit};
 ghost use Rattle.answering.specs.Table.{isTable};
 ghost use Rattle.answering.specs.AnswerJob.{linksJob};
+ghost use Rattle.answering.specs.LinkBegins.{Unlisted, LinkBegins};
 ghost use Rattle.answering.specs.LinksCore.{Lent};
 ghost use Rattle.answering.specs.LinksOperation.{outcome, left, readLinks, linksAnswer, Sized, JobGiven, ExpressionTold};
 
@@ -24,20 +29,21 @@ pub enum Answered {
 
 // The expression number x of the tables.
 fn expression_links(
-    follow: &[u64; 1088],
-    enter: &[u64; 544],
+    follow: &[u64],
+    enter: &[u64],
     sizes: &[u64; 17],
     accepting: &[u64; 17],
     x: usize,
     labels: u64,
     table: &[u16],
+    begins: &[u16],
     recordings: u64,
     start: u64,
     marks: &mut [u8],
     workspace: &mut [u64],
 ) -> Answered
-    requires { ⌜ (x < 17) × (labels ≤ 32) × (isTable recordings labels (now table) ≡ true)
-        × Lent recordings start (now marks) (now workspace) ⌝ }
+    requires { ⌜ (x < 17) × (64 * x + 64 ≤ length (now follow)) × (32 * x + 32 ≤ length (now enter)) × (labels ≤ 32) × (isTable recordings labels (now table) ≡ true)
+        × LinkBegins (now table) recordings (now begins) × Lent recordings start (now marks) (now workspace) ⌝ }
     ensures { λ r. ⌜ ExpressionTold (now (follow .entry)) (now (enter .entry)) (now (sizes .entry)) (now (accepting .entry)) x labels
         (now (table .entry)) recordings start (now (marks .entry)) (now (workspace .entry))
         (outcome r (now (marks .exit)) (now (workspace .exit))) ⌝ }
@@ -51,14 +57,13 @@ fn expression_links(
     let to = from + size + 1;
     let first = 32 * x;
     let end = first + 32;
-    let follows = &follow[..];
-    let enters = &enter[..];
     let told = mark_links(
-        &follows[from..to],
-        &enters[first..end],
+        &follow[from..to],
+        &enter[first..end],
         accepting[x],
         labels,
         table,
+        begins,
         recordings,
         start,
         marks,
@@ -70,10 +75,10 @@ fn expression_links(
     }
 }
 
-// The job of the tables.
-fn job_links(
-    follow: &[u64; 1088],
-    enter: &[u64; 544],
+// The job of the tables, with room for where the links of each recording begin.
+fn indexed_links(
+    follow: &[u64],
+    enter: &[u64],
     sizes: &[u64; 17],
     accepting: &[u64; 17],
     labels: u64,
@@ -81,11 +86,13 @@ fn job_links(
     recordings: u64,
     chosen: u64,
     table: &[u16],
+    begins: &mut [u16],
     start: u64,
     marks: &mut [u8],
     workspace: &mut [u64],
 ) -> Answered
-    requires { ⌜ (labels ≤ 32) × (lists ≤ 16) × Sized recordings (now marks) (now workspace) ⌝ }
+    requires { ⌜ (labels ≤ 32) × (lists ≤ 16) × RowsFit lists (now follow) (now enter) × Sized recordings (now marks) (now workspace)
+        × Unlisted recordings (now begins) ⌝ }
     ensures { λ r. ⌜ ((J : Job) → JobGiven J (now (follow .entry)) (now (enter .entry)) (now (sizes .entry)) (now (accepting .entry)) labels lists
         → outcome r (now (marks .exit)) (now (workspace .exit))
         ≡ left recordings (now (marks .entry)) (now (workspace .entry)) (linksJob J recordings chosen (now (table .entry)) start)) ⌝ }
@@ -93,7 +100,7 @@ fn job_links(
     if lists < chosen {
         return Answered::Refused(Refusal::NoExpression, 0);
     }
-    if !is_table(table, recordings, labels) {
+    if !index_table(table, recordings, labels, begins) {
         return Answered::Refused(Refusal::BadTable, 0);
     }
     if recordings <= start {
@@ -107,6 +114,7 @@ fn job_links(
         chosen as usize,
         labels,
         table,
+        begins,
         recordings,
         start,
         marks,
@@ -114,9 +122,14 @@ fn job_links(
     )
 }
 
-// The job of a text, read into tables.
-fn read_links(
-    text: &[u8],
+// The job of the tables. To zero room for many recordings takes longer than to search a table of few.
+fn job_links(
+    follow: &[u64],
+    enter: &[u64],
+    sizes: &[u64; 17],
+    accepting: &[u64; 17],
+    labels: u64,
+    lists: u64,
     recordings: u64,
     chosen: u64,
     table: &[u16],
@@ -124,27 +137,71 @@ fn read_links(
     marks: &mut [u8],
     workspace: &mut [u64],
 ) -> Answered
-    requires { ⌜ Sized recordings (now marks) (now workspace) ⌝ }
+    requires { ⌜ (labels ≤ 32) × (lists ≤ 16) × RowsFit lists (now follow) (now enter) × Sized recordings (now marks) (now workspace) ⌝ }
+    ensures { λ r. ⌜ ((J : Job) → JobGiven J (now (follow .entry)) (now (enter .entry)) (now (sizes .entry)) (now (accepting .entry)) labels lists
+        → outcome r (now (marks .exit)) (now (workspace .exit))
+        ≡ left recordings (now (marks .entry)) (now (workspace .entry)) (linksJob J recordings chosen (now (table .entry)) start)) ⌝ }
+{
+    if recordings <= 256 {
+        let mut begins: [u16; 256] = [0; 256];
+        return indexed_links(
+            follow,
+            enter,
+            sizes,
+            accepting,
+            labels,
+            lists,
+            recordings,
+            chosen,
+            table,
+            &mut begins,
+            start,
+            marks,
+            workspace,
+        );
+    }
+    let mut begins: [u16; 4096] = [0; 4096];
+    indexed_links(
+        follow,
+        enter,
+        sizes,
+        accepting,
+        labels,
+        lists,
+        recordings,
+        chosen,
+        table,
+        &mut begins,
+        start,
+        marks,
+        workspace,
+    )
+}
+
+// The job of a text, read into lent tables that have rows for it.
+fn links_in(
+    text: &[u8],
+    follow: &mut [u64],
+    enter: &mut [u64],
+    recordings: u64,
+    chosen: u64,
+    table: &[u16],
+    start: u64,
+    marks: &mut [u8],
+    workspace: &mut [u64],
+) -> Answered
+    requires { ⌜ HasRows (askedRows (now text)) (now follow) (now enter) × Sized recordings (now marks) (now workspace) ⌝ }
     ensures { λ r. ⌜ outcome r (now (marks .exit)) (now (workspace .exit))
         ≡ readLinks (read (now (text .entry))) recordings chosen (now (table .entry)) start (now (marks .entry)) (now (workspace .entry)) ⌝ }
 {
     let mut names = [0; 96];
-    let mut follow = [0; 1088];
-    let mut enter = [0; 544];
     let mut sizes = [0; 17];
     let mut accepting = [0; 17];
-    let told = load(
-        text,
-        &mut names,
-        &mut follow,
-        &mut enter,
-        &mut sizes,
-        &mut accepting,
-    );
+    let told = load_rows(text, &mut names, follow, enter, &mut sizes, &mut accepting);
     match told {
         Answer::Job(labels, lists) => job_links(
-            &follow,
-            &enter,
+            follow,
+            enter,
             &sizes,
             &accepting,
             labels,
@@ -158,6 +215,50 @@ fn read_links(
         ),
         Answer::Refused(refusal, line) => Answered::Refused(refusal, line),
     }
+}
+
+// The job of a text. To zero tables for 16 lists takes longer than to answer a small job, so that a text of few lists has smaller ones.
+fn read_links(
+    text: &[u8],
+    recordings: u64,
+    chosen: u64,
+    table: &[u16],
+    start: u64,
+    marks: &mut [u8],
+    workspace: &mut [u64],
+) -> Answered
+    requires { ⌜ Sized recordings (now marks) (now workspace) ⌝ }
+    ensures { λ r. ⌜ outcome r (now (marks .exit)) (now (workspace .exit))
+        ≡ readLinks (read (now (text .entry))) recordings chosen (now (table .entry)) start (now (marks .entry)) (now (workspace .entry)) ⌝ }
+{
+    if lists_at_most(text) <= 4 {
+        let mut follow = [0; 384];
+        let mut enter = [0; 192];
+        return links_in(
+            text,
+            &mut follow,
+            &mut enter,
+            recordings,
+            chosen,
+            table,
+            start,
+            marks,
+            workspace,
+        );
+    }
+    let mut follow = [0; 1088];
+    let mut enter = [0; 544];
+    links_in(
+        text,
+        &mut follow,
+        &mut enter,
+        recordings,
+        chosen,
+        table,
+        start,
+        marks,
+        workspace,
+    )
 }
 
 // Answer from links (document 01): the number of recordings that are marked, or the refusal with its line.

@@ -11,6 +11,7 @@ ghost use Prim.Native.Nat.{_*_, _≤_, _<_};
 ghost use lib.ListN.{length};
 ghost use Rattle.verdict.specs.Cover.{Rewritten};
 ghost use Rattle.answering.specs.Links.{InRange};
+ghost use Rattle.answering.specs.LinkBegins.{LinkBegins};
 ghost use Rattle.answering.specs.ListsCore.{ListsLent, ListsGiven, ListsMarked};
 
 // Whether there are states, at most 256 of them, and at most 16 lists, with a row of next states for each state.
@@ -37,12 +38,13 @@ pub(super) fn mark_lists(
     states: u64,
     lists: u64,
     table: &[u16],
+    begins: &[u16],
     recordings: u64,
     start: u64,
     marks: &mut [u8],
     workspace: &mut [u64],
 ) -> u64
-    requires { ⌜ InRange lists recordings (now table) ⌝ }
+    requires { ⌜ InRange lists recordings (now table) × LinkBegins (now table) recordings (now begins) ⌝ }
     ensures { λ r. ⌜ (ListsLent recordings start (now (marks .entry)) (now (workspace .entry)) → (R : Rewritten)
         → ListsGiven R lists (now (next .entry)) (now (flags .entry)) states (now (table .entry)) recordings
         → ListsMarked R recordings (now (table .entry)) start (now (marks .entry)) (now (workspace .entry))
@@ -76,6 +78,7 @@ pub(super) fn mark_lists(
         &kept,
         count as u64,
         table,
+        begins,
         recordings,
         start,
         workspace,

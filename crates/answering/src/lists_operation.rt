@@ -1,13 +1,13 @@
 // Answer from lists: the rewriting that Find gives for a job, over a table of links over its lists.
 use super::links_operation::Answered;
 use super::lists_core::mark_lists;
-use super::table::is_table;
+use super::table::index_table;
 use finding::answer::Finding;
 use finding::clear::clear_bytes;
 use finding::clear::clear_words;
 use finding::core::find_rows;
 use reading::Answer;
-use reading::few_lines;
+use reading::lists_at_most;
 use reading::load_rows;
 use syntax::Refusal;
 ghost use mathlib.Core.Path.{_≡_};
@@ -15,12 +15,13 @@ ghost use mathlib.Core.Bool.{true};
 ghost use Prim.Native.Nat.{_≤_};
 ghost use Rattle.theory.specs.Job.{Job, WellFormed};
 ghost use Rattle.reading.specs.Read.{read};
-ghost use Rattle.reading.specs.RowRoom.{newlines, HasRows};
+ghost use Rattle.reading.specs.RowRoom.{askedRows, HasRows};
 ghost use Rattle.finding.specs.RowsFit.{RowsFit};
 ghost use Rattle.finding.specs.Find.{Found, find};
 ghost use Rattle.answering.specs.Table.{isTable};
 ghost use Rattle.answering.specs.AnswerJob.{markedLists, listsJob};
 ghost use Rattle.answering.specs.Links.{InRange};
+ghost use Rattle.answering.specs.LinkBegins.{Unlisted, LinkBegins};
 ghost use Rattle.answering.specs.LinksOperation.{outcome, JobGiven};
 ghost use Rattle.answering.specs.ListsCore.{ListsLent};
 ghost use Rattle.answering.specs.ListsOperation.{listsLeft, readLists, listsAnswer, ListsSized, FoundGiven};
@@ -32,12 +33,14 @@ fn finding_lists(
     flags: &[u8; 256],
     lists: u64,
     table: &[u16],
+    begins: &[u16],
     recordings: u64,
     start: u64,
     marks: &mut [u8],
     workspace: &mut [u64],
 ) -> Answered
-    requires { ⌜ ListsLent recordings start (now marks) (now workspace) × InRange lists recordings (now table) ⌝ }
+    requires { ⌜ ListsLent recordings start (now marks) (now workspace) × InRange lists recordings (now table)
+        × LinkBegins (now table) recordings (now begins) ⌝ }
     ensures { λ r. ⌜ ((F : Found) → FoundGiven F lists finding (now (next .entry)) (now (flags .entry)) (now (table .entry)) recordings
         → outcome r (now (marks .exit)) (now (workspace .exit))
         ≡ listsLeft recordings (now (marks .entry)) (now (workspace .entry)) (markedLists recordings (now (table .entry)) start F)) ⌝ }
@@ -50,6 +53,7 @@ fn finding_lists(
                 states,
                 lists,
                 table,
+                begins,
                 recordings,
                 start,
                 marks,
@@ -74,13 +78,15 @@ fn rewriting_lists(
     labels: u64,
     lists: u64,
     table: &[u16],
+    begins: &[u16],
     recordings: u64,
     start: u64,
     marks: &mut [u8],
     workspace: &mut [u64],
 ) -> Answered
     requires { ⌜ (labels ≤ 32) × (lists ≤ 16) × (isTable recordings lists (now table) ≡ true)
-        × ListsLent recordings start (now marks) (now workspace) × RowsFit lists (now follow) (now enter) ⌝ }
+        × LinkBegins (now table) recordings (now begins) × ListsLent recordings start (now marks) (now workspace)
+        × RowsFit lists (now follow) (now enter) ⌝ }
     ensures { λ r. ⌜ ((J : Job) → WellFormed J
         → JobGiven J (now (follow .entry)) (now (enter .entry)) (now (sizes .entry)) (now (accepting .entry)) labels lists
         → outcome r (now (marks .exit)) (now (workspace .exit))
@@ -107,6 +113,7 @@ fn rewriting_lists(
         &flags,
         lists,
         table,
+        begins,
         recordings,
         start,
         marks,
@@ -114,7 +121,51 @@ fn rewriting_lists(
     )
 }
 
-// The job of the tables.
+// The job of the tables, with room for where the links of each recording begin.
+fn indexed_lists(
+    follow: &[u64],
+    enter: &[u64],
+    sizes: &[u64; 17],
+    accepting: &[u64; 17],
+    labels: u64,
+    lists: u64,
+    table: &[u16],
+    begins: &mut [u16],
+    recordings: u64,
+    start: u64,
+    marks: &mut [u8],
+    workspace: &mut [u64],
+) -> Answered
+    requires { ⌜ (labels ≤ 32) × (lists ≤ 16) × ListsSized recordings (now marks) (now workspace)
+        × RowsFit lists (now follow) (now enter) × Unlisted recordings (now begins) ⌝ }
+    ensures { λ r. ⌜ ((J : Job) → WellFormed J
+        → JobGiven J (now (follow .entry)) (now (enter .entry)) (now (sizes .entry)) (now (accepting .entry)) labels lists
+        → outcome r (now (marks .exit)) (now (workspace .exit))
+        ≡ listsLeft recordings (now (marks .entry)) (now (workspace .entry)) (listsJob J recordings (now (table .entry)) start)) ⌝ }
+{
+    if !index_table(table, recordings, lists, begins) {
+        return Answered::Refused(Refusal::BadTable, 0);
+    }
+    if recordings <= start {
+        return Answered::Refused(Refusal::BadStart, 0);
+    }
+    rewriting_lists(
+        follow,
+        enter,
+        sizes,
+        accepting,
+        labels,
+        lists,
+        table,
+        begins,
+        recordings,
+        start,
+        marks,
+        workspace,
+    )
+}
+
+// The job of the tables. To zero room for many recordings takes longer than to search a table of few.
 fn job_lists(
     follow: &[u64],
     enter: &[u64],
@@ -135,13 +186,25 @@ fn job_lists(
         → outcome r (now (marks .exit)) (now (workspace .exit))
         ≡ listsLeft recordings (now (marks .entry)) (now (workspace .entry)) (listsJob J recordings (now (table .entry)) start)) ⌝ }
 {
-    if !is_table(table, recordings, lists) {
-        return Answered::Refused(Refusal::BadTable, 0);
+    if recordings <= 256 {
+        let mut begins: [u16; 256] = [0; 256];
+        return indexed_lists(
+            follow,
+            enter,
+            sizes,
+            accepting,
+            labels,
+            lists,
+            table,
+            &mut begins,
+            recordings,
+            start,
+            marks,
+            workspace,
+        );
     }
-    if recordings <= start {
-        return Answered::Refused(Refusal::BadStart, 0);
-    }
-    rewriting_lists(
+    let mut begins: [u16; 4096] = [0; 4096];
+    indexed_lists(
         follow,
         enter,
         sizes,
@@ -149,6 +212,7 @@ fn job_lists(
         labels,
         lists,
         table,
+        &mut begins,
         recordings,
         start,
         marks,
@@ -167,7 +231,7 @@ fn lists_in(
     marks: &mut [u8],
     workspace: &mut [u64],
 ) -> Answered
-    requires { ⌜ HasRows (newlines (now text)) (now follow) (now enter) × ListsSized recordings (now marks) (now workspace) ⌝ }
+    requires { ⌜ HasRows (askedRows (now text)) (now follow) (now enter) × ListsSized recordings (now marks) (now workspace) ⌝ }
     ensures { λ r. ⌜ outcome r (now (marks .exit)) (now (workspace .exit))
         ≡ readLists (read (now (text .entry))) recordings (now (table .entry)) start (now (marks .entry)) (now (workspace .entry)) ⌝ }
 {
@@ -193,7 +257,7 @@ fn lists_in(
     }
 }
 
-// The job of a text. To zero tables for 16 lists takes longer than to answer a small job, so that a text of few lines has smaller ones.
+// The job of a text. To zero tables for 16 lists takes longer than to answer a small job, so that a text of few lists has smaller ones.
 fn read_lists(
     text: &[u8],
     recordings: u64,
@@ -206,9 +270,9 @@ fn read_lists(
     ensures { λ r. ⌜ outcome r (now (marks .exit)) (now (workspace .exit))
         ≡ readLists (read (now (text .entry))) recordings (now (table .entry)) start (now (marks .entry)) (now (workspace .entry)) ⌝ }
 {
-    if few_lines(text) {
-        let mut follow = [0; 576];
-        let mut enter = [0; 288];
+    if lists_at_most(text) <= 4 {
+        let mut follow = [0; 384];
+        let mut enter = [0; 192];
         return lists_in(
             text,
             &mut follow,

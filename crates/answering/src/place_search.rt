@@ -1,6 +1,5 @@
 // The places of an automaton that are reached over a table from one recording: the search of one word for each set (word_search), by the next
 // places of each place, which each label cuts to those that it enters.
-use super::links::link_begins;
 use super::sizes::Sizes;
 use super::word_search::follow_all_words;
 use finding::clear::clear_words;
@@ -10,6 +9,7 @@ ghost use mathlib.Core.Path.{_≡_};
 ghost use Prim.Native.Nat.{ℕ, _≤_, _<_};
 ghost use lib.ListN.{length, getD};
 ghost use Rattle.answering.specs.Links.{InRange};
+ghost use Rattle.answering.specs.LinkBegins.{LinkBegins};
 ghost use Rattle.answering.specs.SetSearchRun.{SetStarting, SetAllFound};
 ghost use Rattle.answering.specs.PlaceSteps.{PlaceStep, PlaceCount, PlacesSearchable, PlacesSearched};
 
@@ -41,26 +41,26 @@ fn search_few(
     follow: &[u64],
     sizes: Sizes,
     table: &[u16],
+    begins: &[u16],
     start: usize,
     reached: &mut [u64],
     images: &mut [u64],
 )
     requires { ⌜ SetStarting 1 (sizes .symbols) (sizes .states) (sizes .recordings) start (now reached)
         × (sizes .states ≤ length (now follow)) × (sizes .symbols ≤ length (now images)) × (sizes .recordings ≤ 256)
-        × InRange (sizes .symbols) (sizes .recordings) (now table) ⌝ }
+        × InRange (sizes .symbols) (sizes .recordings) (now table)
+        × LinkBegins (now table) (sizes .recordings) (now begins) ⌝ }
     ensures { λ _. ⌜ SetAllFound 1 (PlaceStep (now (follow .entry)) (now (images .entry))) (sizes .symbols) (sizes .states)
         (now (table .entry)) (sizes .recordings) start (now (reached .entry)) (now (reached .exit)) ⌝ }
 {
     let mut pending: [u64; 256] = [0; 256];
     let mut stack: [u16; 513] = [0; 513];
-    let mut begins: [usize; 256] = [0; 256];
-    link_begins(table, sizes.recordings, &mut begins);
     follow_all_words(
         follow,
         true,
         sizes,
         table,
-        &begins,
+        begins,
         start,
         reached,
         images,
@@ -74,26 +74,26 @@ fn search_many(
     follow: &[u64],
     sizes: Sizes,
     table: &[u16],
+    begins: &[u16],
     start: usize,
     reached: &mut [u64],
     images: &mut [u64],
 )
     requires { ⌜ SetStarting 1 (sizes .symbols) (sizes .states) (sizes .recordings) start (now reached)
         × (sizes .states ≤ length (now follow)) × (sizes .symbols ≤ length (now images))
-        × InRange (sizes .symbols) (sizes .recordings) (now table) ⌝ }
+        × InRange (sizes .symbols) (sizes .recordings) (now table)
+        × LinkBegins (now table) (sizes .recordings) (now begins) ⌝ }
     ensures { λ _. ⌜ SetAllFound 1 (PlaceStep (now (follow .entry)) (now (images .entry))) (sizes .symbols) (sizes .states)
         (now (table .entry)) (sizes .recordings) start (now (reached .entry)) (now (reached .exit)) ⌝ }
 {
     let mut pending: [u64; 4096] = [0; 4096];
     let mut stack: [u16; 8193] = [0; 8193];
-    let mut begins: [usize; 4096] = [0; 4096];
-    link_begins(table, sizes.recordings, &mut begins);
     follow_all_words(
         follow,
         true,
         sizes,
         table,
-        &begins,
+        begins,
         start,
         reached,
         images,
@@ -128,11 +128,12 @@ pub(super) fn search_places(
     enter: &[u64],
     labels: u64,
     table: &[u16],
+    begins: &[u16],
     recordings: u64,
     start: u64,
     reached: &mut [u64],
 )
-    requires { ⌜ InRange labels recordings (now table) ⌝ }
+    requires { ⌜ InRange labels recordings (now table) × LinkBegins (now table) recordings (now begins) ⌝ }
     ensures { λ _. ⌜ PlacesSearched (now (follow .entry)) (now (enter .entry)) labels (now (table .entry)) recordings start
         (now (reached .entry)) (now (reached .exit)) ⌝ }
 {
@@ -149,8 +150,24 @@ pub(super) fn search_places(
     let mut images: [u64; 32] = [0; 32];
     load_enter(enter, sizes.symbols, &mut images);
     if recordings <= 256 {
-        search_few(follow, sizes, table, start as usize, reached, &mut images);
+        search_few(
+            follow,
+            sizes,
+            table,
+            begins,
+            start as usize,
+            reached,
+            &mut images,
+        );
     } else {
-        search_many(follow, sizes, table, start as usize, reached, &mut images);
+        search_many(
+            follow,
+            sizes,
+            table,
+            begins,
+            start as usize,
+            reached,
+            &mut images,
+        );
     }
 }

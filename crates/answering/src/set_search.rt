@@ -2,7 +2,6 @@
 // have several next states for a state and a symbol; they are given by words, so that links are followed from all states at once.
 use super::link_view::leaving_at;
 use super::link_view::next_leaving;
-use super::links::link_begins;
 use super::pairs::any_from;
 use super::pairs::next_state;
 use super::pairs::put;
@@ -141,7 +140,7 @@ fn follow_all(
     sets: &[u64],
     sizes: Sizes,
     table: &[u16],
-    begins: &[usize],
+    begins: &[u16],
     start: usize,
     reached: &mut [u64],
     images: &mut [u64],
@@ -163,7 +162,7 @@ fn follow_all(
         let x = index(stack[top]);
         spread(sets, sizes, x, pending, images);
         zero_from(pending, words * x, words);
-        let first = begins[x];
+        let first = index(begins[x]);
         top = follow_links(images, sizes, table, first, x, reached, pending, stack, top);
     }
 }
@@ -173,7 +172,7 @@ fn search_from(
     sets: &[u64],
     sizes: Sizes,
     table: &[u16],
-    begins: &[usize],
+    begins: &[u16],
     start: usize,
     reached: &mut [u64],
     images: &mut [u64],
@@ -217,23 +216,29 @@ fn search_from(
 }
 
 // The search with room for a few recordings.
-fn search_few(sets: &[u64], sizes: Sizes, table: &[u16], start: usize, reached: &mut [u64])
+fn search_few(
+    sets: &[u64],
+    sizes: Sizes,
+    table: &[u16],
+    begins: &[u16],
+    start: usize,
+    reached: &mut [u64],
+)
     requires { ⌜ SetStarting (sizes .words) (sizes .symbols) (sizes .states) (sizes .recordings) start (now reached)
         × (sizes .words * (sizes .symbols * sizes .states) ≤ length (now sets))
-        × (sizes .words * sizes .recordings ≤ 256) × InRange (sizes .symbols) (sizes .recordings) (now table) ⌝ }
+        × (sizes .words * sizes .recordings ≤ 256) × InRange (sizes .symbols) (sizes .recordings) (now table)
+        × LinkBegins (now table) (sizes .recordings) (now begins) ⌝ }
     ensures { λ _. ⌜ SetAllFound (sizes .words) (Steps (now (sets .entry)) (sizes .symbols) (sizes .words)) (sizes .symbols) (sizes .states)
         (now (table .entry)) (sizes .recordings) start (now (reached .entry)) (now (reached .exit)) ⌝ }
 {
     let mut images: [u64; 128] = [0; 128];
     let mut pending: [u64; 256] = [0; 256];
     let mut stack: [u16; 513] = [0; 513];
-    let mut begins: [usize; 256] = [0; 256];
-    link_begins(table, sizes.recordings, &mut begins);
     search_from(
         sets,
         sizes,
         table,
-        &begins,
+        begins,
         start,
         reached,
         &mut images,
@@ -243,23 +248,29 @@ fn search_few(sets: &[u64], sizes: Sizes, table: &[u16], start: usize, reached: 
 }
 
 // The search with room for as many recordings as there may be, of one word each.
-fn search_middle(sets: &[u64], sizes: Sizes, table: &[u16], start: usize, reached: &mut [u64])
+fn search_middle(
+    sets: &[u64],
+    sizes: Sizes,
+    table: &[u16],
+    begins: &[u16],
+    start: usize,
+    reached: &mut [u64],
+)
     requires { ⌜ SetStarting (sizes .words) (sizes .symbols) (sizes .states) (sizes .recordings) start (now reached)
         × (sizes .words * (sizes .symbols * sizes .states) ≤ length (now sets))
-        × (sizes .words * sizes .recordings ≤ 4096) × InRange (sizes .symbols) (sizes .recordings) (now table) ⌝ }
+        × (sizes .words * sizes .recordings ≤ 4096) × InRange (sizes .symbols) (sizes .recordings) (now table)
+        × LinkBegins (now table) (sizes .recordings) (now begins) ⌝ }
     ensures { λ _. ⌜ SetAllFound (sizes .words) (Steps (now (sets .entry)) (sizes .symbols) (sizes .words)) (sizes .symbols) (sizes .states)
         (now (table .entry)) (sizes .recordings) start (now (reached .entry)) (now (reached .exit)) ⌝ }
 {
     let mut images: [u64; 128] = [0; 128];
     let mut pending: [u64; 4096] = [0; 4096];
     let mut stack: [u16; 8193] = [0; 8193];
-    let mut begins: [usize; 4096] = [0; 4096];
-    link_begins(table, sizes.recordings, &mut begins);
     search_from(
         sets,
         sizes,
         table,
-        &begins,
+        begins,
         start,
         reached,
         &mut images,
@@ -268,24 +279,30 @@ fn search_middle(sets: &[u64], sizes: Sizes, table: &[u16], start: usize, reache
     );
 }
 
-// The search with room for as many recordings as there may be. The local arrays take about 177 KiB of the thread's stack.
-fn search_many(sets: &[u64], sizes: Sizes, table: &[u16], start: usize, reached: &mut [u64])
+// The search with room for as many recordings as there may be. The local arrays take about 145 KiB of the thread's stack.
+fn search_many(
+    sets: &[u64],
+    sizes: Sizes,
+    table: &[u16],
+    begins: &[u16],
+    start: usize,
+    reached: &mut [u64],
+)
     requires { ⌜ SetStarting (sizes .words) (sizes .symbols) (sizes .states) (sizes .recordings) start (now reached)
         × (sizes .words * (sizes .symbols * sizes .states) ≤ length (now sets))
-        × InRange (sizes .symbols) (sizes .recordings) (now table) ⌝ }
+        × InRange (sizes .symbols) (sizes .recordings) (now table)
+        × LinkBegins (now table) (sizes .recordings) (now begins) ⌝ }
     ensures { λ _. ⌜ SetAllFound (sizes .words) (Steps (now (sets .entry)) (sizes .symbols) (sizes .words)) (sizes .symbols) (sizes .states)
         (now (table .entry)) (sizes .recordings) start (now (reached .entry)) (now (reached .exit)) ⌝ }
 {
     let mut images: [u64; 128] = [0; 128];
     let mut pending: [u64; 16384] = [0; 16384];
     let mut stack: [u16; 8193] = [0; 8193];
-    let mut begins: [usize; 4096] = [0; 4096];
-    link_begins(table, sizes.recordings, &mut begins);
     search_from(
         sets,
         sizes,
         table,
-        &begins,
+        begins,
         start,
         reached,
         &mut images,
@@ -339,11 +356,12 @@ pub(super) fn search_sets(
     words: u64,
     states: u64,
     table: &[u16],
+    begins: &[u16],
     recordings: u64,
     start: u64,
     reached: &mut [u64],
 )
-    requires { ⌜ InRange symbols recordings (now table) ⌝ }
+    requires { ⌜ InRange symbols recordings (now table) × LinkBegins (now table) recordings (now begins) ⌝ }
     ensures { λ _. ⌜ SetSearched (now (sets .entry)) symbols words states (now (table .entry)) recordings start
         (now (reached .entry)) (now (reached .exit)) ⌝ }
 {
@@ -359,10 +377,10 @@ pub(super) fn search_sets(
         recordings: recordings as usize,
     };
     if all <= 256 {
-        search_few(sets, sizes, table, start as usize, reached);
+        search_few(sets, sizes, table, begins, start as usize, reached);
     } else if all <= 4096 {
-        search_middle(sets, sizes, table, start as usize, reached);
+        search_middle(sets, sizes, table, begins, start as usize, reached);
     } else {
-        search_many(sets, sizes, table, start as usize, reached);
+        search_many(sets, sizes, table, begins, start as usize, reached);
     }
 }

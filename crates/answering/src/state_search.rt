@@ -4,6 +4,7 @@ use super::state_sets::put_rows;
 ghost use Prim.Native.Nat.{_*_, _≤_};
 ghost use lib.ListN.{length};
 ghost use Rattle.answering.specs.Links.{InRange};
+ghost use Rattle.answering.specs.LinkBegins.{LinkBegins};
 ghost use Rattle.answering.specs.StateSets.{RankedStep, StatesLent, Filled};
 ghost use Rattle.answering.specs.StateSearch.{StatesSearched};
 
@@ -17,6 +18,7 @@ fn search_lent(
     kept: &[u16],
     count: u64,
     table: &[u16],
+    begins: &[u16],
     recordings: u64,
     start: u64,
     sets: &mut [u64],
@@ -25,7 +27,8 @@ fn search_lent(
     requires { ⌜ StatesLent (now next) lists states words (now ranks) (now kept) count
         × (words * (lists * count) ≤ length (now sets))
         × Filled lists words (RankedStep (now next) states (now ranks) (now kept) count) 0 (now sets)
-        × InRange lists recordings (now table) ⌝ }
+        × InRange lists recordings (now table)
+        × LinkBegins (now table) recordings (now begins) ⌝ }
     ensures { λ _. ⌜ StatesSearched (now (next .entry)) lists states words (now (ranks .entry)) (now (kept .entry)) count
         (now (table .entry)) recordings start (now (reached .entry)) (now (reached .exit)) ⌝ }
 {
@@ -39,7 +42,17 @@ fn search_lent(
         count as usize,
         sets,
     );
-    search_sets(sets, lists, words, count, table, recordings, start, reached);
+    search_sets(
+        sets,
+        lists,
+        words,
+        count,
+        table,
+        begins,
+        recordings,
+        start,
+        reached,
+    );
 }
 
 // The search, where 256 words suffice for the next states: they are zeroed sooner than those for all automata.
@@ -52,12 +65,14 @@ fn search_few(
     kept: &[u16],
     count: u64,
     table: &[u16],
+    begins: &[u16],
     recordings: u64,
     start: u64,
     reached: &mut [u64],
 )
     requires { ⌜ StatesLent (now next) lists states words (now ranks) (now kept) count × (words * (lists * count) ≤ 256)
-        × InRange lists recordings (now table) ⌝ }
+        × InRange lists recordings (now table)
+        × LinkBegins (now table) recordings (now begins) ⌝ }
     ensures { λ _. ⌜ StatesSearched (now (next .entry)) lists states words (now (ranks .entry)) (now (kept .entry)) count
         (now (table .entry)) recordings start (now (reached .entry)) (now (reached .exit)) ⌝ }
 {
@@ -71,6 +86,7 @@ fn search_few(
         kept,
         count,
         table,
+        begins,
         recordings,
         start,
         &mut sets,
@@ -88,11 +104,13 @@ fn search_many(
     kept: &[u16],
     count: u64,
     table: &[u16],
+    begins: &[u16],
     recordings: u64,
     start: u64,
     reached: &mut [u64],
 )
-    requires { ⌜ StatesLent (now next) lists states words (now ranks) (now kept) count × InRange lists recordings (now table) ⌝ }
+    requires { ⌜ StatesLent (now next) lists states words (now ranks) (now kept) count × InRange lists recordings (now table)
+        × LinkBegins (now table) recordings (now begins) ⌝ }
     ensures { λ _. ⌜ StatesSearched (now (next .entry)) lists states words (now (ranks .entry)) (now (kept .entry)) count
         (now (table .entry)) recordings start (now (reached .entry)) (now (reached .exit)) ⌝ }
 {
@@ -106,6 +124,7 @@ fn search_many(
         kept,
         count,
         table,
+        begins,
         recordings,
         start,
         &mut sets,
@@ -124,11 +143,13 @@ pub(super) fn search_states(
     kept: &[u16],
     count: u64,
     table: &[u16],
+    begins: &[u16],
     recordings: u64,
     start: u64,
     reached: &mut [u64],
 )
-    requires { ⌜ StatesLent (now next) lists states words (now ranks) (now kept) count × InRange lists recordings (now table) ⌝ }
+    requires { ⌜ StatesLent (now next) lists states words (now ranks) (now kept) count × InRange lists recordings (now table)
+        × LinkBegins (now table) recordings (now begins) ⌝ }
     ensures { λ _. ⌜ StatesSearched (now (next .entry)) lists states words (now (ranks .entry)) (now (kept .entry)) count
         (now (table .entry)) recordings start (now (reached .entry)) (now (reached .exit)) ⌝ }
 {
@@ -142,6 +163,7 @@ pub(super) fn search_states(
             kept,
             count,
             table,
+            begins,
             recordings,
             start,
             reached,
@@ -156,6 +178,7 @@ pub(super) fn search_states(
             kept,
             count,
             table,
+            begins,
             recordings,
             start,
             reached,

@@ -1,11 +1,16 @@
-// Whether lent numbers are a table of links or of lists.
+// Whether lent numbers are a table of links or of lists, and where the links of each recording begin in it.
+ghost use mathlib.Core.Bool.{true};
 ghost use mathlib.Core.Path.{_≡_};
 ghost use Prim.Native.Nat.{_<_};
 ghost use Rattle.answering.specs.Table.{isTable};
 ghost use Rattle.answering.specs.TableSteps.{tripleNumber};
+ghost use Rattle.answering.specs.LinkBegins.{Unlisted, LinkBegins};
 
 // The most links or lists of a table.
 const MOST_LINKS: usize = 16384;
+
+// A number past those of all triples.
+const PAST_TRIPLES: u64 = 281474976710657;
 
 // A lent number at 64 bits.
 pub(super) fn wide(number: u16) -> u64
@@ -29,9 +34,13 @@ fn number_of(x: u64, a: u64, y: u64) -> u64
     4294967296 * x + 65536 * a + y + 1
 }
 
-// Whether the numbers are a table: each triple is in range and comes after the one before it, whose number is `before`.
-pub fn is_table(table: &[u16], recordings: u64, symbols: u64) -> bool
+// Whether the numbers are a table: each triple is in range and comes before the one behind it, whose number is `after`. They are tested from
+// the last to the first, so that each takes the place of those behind it that leave the same recording: of a table, the first triple that
+// leaves each recording is listed at the end, where one does. Nothing is listed before.
+pub(super) fn index_table(table: &[u16], recordings: u64, symbols: u64, begins: &mut [u16]) -> bool
+    requires { ⌜ Unlisted recordings (now begins) ⌝ }
     ensures { λ r. ⌜ r ≡ isTable recordings symbols (now (table .entry)) ⌝ }
+    ensures listed { λ r. ⌜ (r ≡ true → LinkBegins (now (table .entry)) recordings (now (begins .exit))) ⌝ }
 {
     if 3 * MOST_LINKS < table.len() {
         return false;
@@ -39,12 +48,13 @@ pub fn is_table(table: &[u16], recordings: u64, symbols: u64) -> bool
     if table.len() % 3 != 0 {
         return false;
     }
-    let mut before: u64 = 0;
-    let mut i = 0;
-    while i < table.len() {
-        let x = wide(table[i]);
-        let a = wide(table[i + 1]);
-        let y = wide(table[i + 2]);
+    let mut after = PAST_TRIPLES;
+    let mut at = table.len() / 3;
+    while 0 < at {
+        at -= 1;
+        let x = wide(table[3 * at]);
+        let a = wide(table[3 * at + 1]);
+        let y = wide(table[3 * at + 2]);
         let number = number_of(x, a, y);
         if recordings <= x {
             return false;
@@ -55,11 +65,11 @@ pub fn is_table(table: &[u16], recordings: u64, symbols: u64) -> bool
         if recordings <= y {
             return false;
         }
-        if number <= before {
+        if after <= number {
             return false;
         }
-        before = number;
-        i += 3;
+        after = number;
+        begins[x as usize] = at as u16;
     }
     true
 }

@@ -185,7 +185,7 @@ pub(super) fn follow_all_words(
     cut: bool,
     sizes: Sizes,
     table: &[u16],
-    begins: &[usize],
+    begins: &[u16],
     start: usize,
     reached: &mut [u64],
     images: &mut [u64],
@@ -208,7 +208,7 @@ pub(super) fn follow_all_words(
         head += 1;
         let next = next_images(rows, cut, sizes.symbols, pending[x] & known, images);
         pending[x] = 0;
-        let first = begins[x];
+        let first = index(begins[x]);
         top = follow_word_links(
             images,
             next,

@@ -34,6 +34,7 @@ pub mod ImageSearch
 pub mod Sources
 pub mod SourcesLaws
 pub mod SourcesGathered
+pub mod SourcesBrought
 pub mod SourcesSearch
 pub mod ImageNodes
 pub mod ListWidth

@@ -43,21 +43,36 @@ room (x ∷ l) = (2 ^ 64 - x) + room l
 unfoldable pub left : List ℕ → ℕ → ℕ
 left from waiting = room from * 2 ^ 64 + waiting
 
--- From one moment to a later one, sources were passed on over steps of S, each from what it began with; what gained is pending.
-pub record Followed (w : ℕ) (S : ℕ × ℕ → ℕ × ℕ → Type 0) (X Y : Sources) : Type 0 where
+-- From one moment to a later one, sources were added: a pair that gained is pending, and a place where something came to be pending waits.
+pub record Grown (w : ℕ) (X Y : Sources) : Type 0 where
   pub words : length (Y .from) ≡ length (X .from)
   pub slots : length (Y .pending) ≡ length (X .pending)
   pub kept : (v : ℕ × ℕ) (i : ℕ) → Member i (sourcesOf w (X .from) v) → Member i (sourcesOf w (Y .from) v)
-  pub covers : (u v : ℕ × ℕ) (i : ℕ) → S u v → Member i (sourcesOf w (X .from) u) → Member i (sourcesOf w (Y .from) v)
-  pub sound : (v : ℕ × ℕ) (i : ℕ) → v .0 < w → Member i (sourcesOf w (Y .from) v)
-      → (u : ℕ × ℕ) × (u .0 < w) × Member i (sourcesOf w (X .from) u) × Reaches S u v
   pub new : (v : ℕ × ℕ) → v .0 < w
       → (sourcesOf w (Y .from) v ≡ sourcesOf w (X .from) v) ⊎ Member (v .0) (getD (Y .pending) (v .1) 0)
   pub still : (q s : ℕ) → Member s (getD (X .pending) q 0) → Member s (getD (Y .pending) q 0)
   pub stays : (q : ℕ) → Member q (X .waiting) → Member q (Y .waiting)
   pub waits : (q s : ℕ) → Member s (getD (Y .pending) q 0) → Member s (getD (X .pending) q 0) ⊎ (Member q (Y .waiting) × (s < w))
-  pub told : (q : ℕ) → Member q (Y .waiting) → Member q (X .waiting) ⊎ ((u : ℕ × ℕ) × (v : ℕ × ℕ) × S u v × (v .1 ≡ q))
   pub less : left (Y .from) (Y .waiting) ≤ left (X .from) (X .waiting)
+
+-- Just the sources of B were added: i to the pair v where B v i.
+pub record Gained (w : ℕ) (B : ℕ × ℕ → ℕ → Type 0) (X Y : Sources) : Type 0 where
+  pub grown : Grown w X Y
+  pub covers : (v : ℕ × ℕ) (i : ℕ) → B v i → Member i (sourcesOf w (Y .from) v)
+  pub sound : (v : ℕ × ℕ) (i : ℕ) → v .0 < w → Member i (sourcesOf w (Y .from) v) → Member i (sourcesOf w (X .from) v) ⊎ B v i
+  pub told : (q : ℕ) → Member q (Y .waiting) → Member q (X .waiting) ⊎ ((v : ℕ × ℕ) × (i : ℕ) × B v i × (v .1 ≡ q))
+
+-- The sources x of the one pair (to, next).
+abbrev pub At : ℕ → ℕ → ℕ → ℕ × ℕ → ℕ → Type 0
+At next to x v i = (v .1 ≡ next) × (v .0 ≡ to) × Member i x
+
+-- Sources were passed on over steps of S, each from what it began with.
+pub record Followed (w : ℕ) (S : ℕ × ℕ → ℕ × ℕ → Type 0) (X Y : Sources) : Type 0 where
+  pub grown : Grown w X Y
+  pub covers : (u v : ℕ × ℕ) (i : ℕ) → S u v → Member i (sourcesOf w (X .from) u) → Member i (sourcesOf w (Y .from) v)
+  pub sound : (v : ℕ × ℕ) (i : ℕ) → v .0 < w → Member i (sourcesOf w (Y .from) v)
+      → (u : ℕ × ℕ) × (u .0 < w) × Member i (sourcesOf w (X .from) u) × Reaches S u v
+  pub told : (q : ℕ) → Member q (Y .waiting) → Member q (X .waiting) ⊎ ((u : ℕ × ℕ) × (v : ℕ × ℕ) × S u v × (v .1 ≡ q))
 
 -- The one step from (s, p) to (to, next).
 abbrev pub Only : ℕ → ℕ → ℕ → ℕ → ℕ × ℕ → ℕ × ℕ → Type 0

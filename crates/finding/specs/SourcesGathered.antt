@@ -14,8 +14,8 @@ use borrow.Author.Tests.{eq-eqb, ne-eqb}
 use Rattle.theory.specs.Places.{Member, one, union}
 use Rattle.theory.specs.PlacesLaws.{member-none, member-one, member-union, one-below, union-below}
 use Rattle.places.specs.UnionLaws.{union-assoc}
-use Rattle.finding.specs.Sources.{Sources, sources, gainOf, gathered, Followed, Only}
-use Rattle.finding.specs.SourcesLaws.{followed-as, gained-none, gained-more}
+use Rattle.finding.specs.Sources.{Sources, sources, gainOf, gathered, Gained, At}
+use Rattle.finding.specs.SourcesLaws.{sources-as, gained-none, gained-more}
 
 -- A gain, moved up to a place.
 
@@ -50,21 +50,19 @@ gathered-none from pending waiting next =
     (ap (union waiting) (up-none 0 0 next refl) ∙ or-zero-r waiting)
 
 -- What is gathered may be named otherwise.
-pub gathered-as : {w : ℕ} {S : ℕ × ℕ → ℕ × ℕ → Type 0} {X : Sources} {from from′ : List ℕ} {added added′ : ℕ} (pending : List ℕ) (waiting next : ℕ)
-    → from′ ≡ from → added′ ≡ added → Followed w S X (gathered from pending waiting next added)
-    → Followed w S X (gathered from′ pending waiting next added′)
-gathered-as {w} {S} {X} pending waiting next e f r =
-    subst (Followed w S X) (λ k. gathered (sym e k) pending waiting next (sym f k)) r
+pub gathered-as : (P : Sources → Type 0) {from from′ : List ℕ} {added added′ : ℕ} (pending : List ℕ) (waiting next : ℕ)
+    → from′ ≡ from → added′ ≡ added → P (gathered from pending waiting next added) → P (gathered from′ pending waiting next added′)
+gathered-as P pending waiting next e f r = subst P (λ k. gathered (sym e k) pending waiting next (sym f k)) r
 
--- One step: with what it adds, the search gains as if that were put in at once.
-module _ (w p s next to : ℕ) (from pending : List ℕ) (waiting added : ℕ) (small : s < w) (narrow : to < w)
+-- Sources come to one pair: with what they add, the search gains as if that were put in at once.
+module _ (w next to x : ℕ) (from pending : List ℕ) (waiting added : ℕ) (narrow : to < w)
     (word : getD from (w * next + to) 0 < 2 ^ 64) (room₁ : w * next + to < length from) (room₂ : next < length pending) (low : next < 64)
     (few : waiting < 2 ^ 64) where
   abbrev k : ℕ
   k = w * next + to
 
   abbrev all : ℕ
-  all = union (getD from k 0) (getD from (w * p + s) 0)
+  all = union (getD from k 0) x
 
   abbrev held : Sources
   held = gathered from pending waiting next added
@@ -72,11 +70,11 @@ module _ (w p s next to : ℕ) (from pending : List ℕ) (waiting added : ℕ) (
   abbrev more : ℕ
   more = union added (gainOf (getD from k 0) all * 2 ^ to)
 
-  without : all ≡ getD from k 0 → Followed w (Only p s next to) held (gathered (set from k all) pending waiting next more)
+  without : all ≡ getD from k 0 → Gained w (At next to x) held (gathered (set from k all) pending waiting next more)
   without e =
       let f : more ≡ added = ap (union added) (up-none (getD from k 0) all to e) ∙ or-zero-r added in
-      followed-as (ap (set from k) e ∙ set-getD from k 0) (ap (λ z. set pending next (union (getD pending next 0) z)) f)
-      (ap (λ z. union waiting (gainOf 0 z * 2 ^ next)) f) (gained-none w p s next to held small narrow e)
+      sources-as (Gained _ _ _) (ap (set from k) e ∙ set-getD from k 0) (ap (λ z. set pending next (union (getD pending next 0) z)) f)
+      (ap (λ z. union waiting (gainOf 0 z * 2 ^ next)) f) (gained-none w next to x held narrow e)
 
   module _ (d : all ≢ getD from k 0) where
     adds : more ≡ union added (one to)
@@ -112,20 +110,20 @@ module _ (w p s next to : ℕ) (from pending : List ℕ) (waiting added : ℕ) (
         ∙ ap (λ z. set (held .pending) next (union z (one to)))
         (sym (getD-set-same pending next (union (getD pending next 0) added) 0 room₂))
 
-    with : Followed w (Only p s next to) held (gathered (set from k all) pending waiting next more)
+    with : Gained w (At next to x) held (gathered (set from k all) pending waiting next more)
     with =
-        followed-as refl slot refl
-        (gained-more w p s next to held small narrow word room₁
+        sources-as (Gained _ _ _) refl slot refl
+        (gained-more w next to x held narrow word room₁
         (omega (arith, room₂, length-set pending next (union (getD pending next 0) added))) waits
         (subst (_< 2 ^ 64) (sym here) (union-below 64 waiting (one next) few (one-below 64 next low))) grows d)
 
-  pub gathered-more : Followed w (Only p s next to) (gathered from pending waiting next added)
+  pub gathered-more : Gained w (At next to x) (gathered from pending waiting next added)
       (gathered
-      (set from (w * next + to) (union (getD from (w * next + to) 0) (getD from (w * p + s) 0))) pending waiting next
+      (set from (w * next + to) (union (getD from (w * next + to) 0) x)) pending waiting next
       (union added
-      (gainOf (getD from (w * next + to) 0) (union (getD from (w * next + to) 0) (getD from (w * p + s) 0)) * 2 ^ to)))
+      (gainOf (getD from (w * next + to) 0) (union (getD from (w * next + to) 0) x) * 2 ^ to)))
   gathered-more = go (ℕ-discrete all (getD from k 0))
     where
-      go : Dec (all ≡ getD from k 0) → Followed w (Only p s next to) held (gathered (set from k all) pending waiting next more)
+      go : Dec (all ≡ getD from k 0) → Gained w (At next to x) held (gathered (set from k all) pending waiting next more)
       go (yes e) = without e
       go (no d) = with d

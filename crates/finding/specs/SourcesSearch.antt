@@ -186,13 +186,13 @@ module _ (D : Tables) (n : ℕ) (X Y : Sources) (some : X .waiting ≢ 0) (word 
       taken m (inl (q, g)) =
           inr (λ v i o k. f .covers u v i
           (onward-labelled D n p Taken u v q (subst (λ z. Member (u .0) (getD (X .pending) z 0)) q m) o) (subst (Member i) e k))
-      taken m (inr (q, g)) = inl (f .still (u .1) (u .0) (subst (Member (u .0)) (sym g) m))
+      taken m (inr (q, g)) = inl (f .grown .still (u .1) (u .0) (subst (Member (u .0)) (sym g) m))
 
       before : Member (u .0) (getD (X .pending) (u .1) 0)
           ⊎ ((v : ℕ × ℕ) (i : ℕ) → OnwardBelow D n u v → Member i (sourcesOf (D .count) (X .from) u) → Member i (sourcesOf (D .count) (X .from) v))
           → Member (u .0) (getD (Y .pending) (u .1) 0)
           ⊎ ((v : ℕ × ℕ) (i : ℕ) → OnwardBelow D n u v → Member i (sourcesOf (D .count) (Y .from) u) → Member i (sourcesOf (D .count) (Y .from) v))
-      before (inr g) = inr (λ v i o m. f .kept v i (g v i o (subst (Member i) e m)))
+      before (inr g) = inr (λ v i o m. f .grown .kept v i (g v i o (subst (Member i) e m)))
       before (inl m) = taken m (written (X .pending) p 0 (u .1) slots)
 
   waits : (q t : ℕ) → Member t (getD (set (X .pending) p 0) q 0) ⊎ (Member q (Y .waiting) × (t < D .count))
@@ -201,7 +201,7 @@ module _ (D : Tables) (n : ℕ) (X Y : Sources) (some : X .waiting ≢ 0) (word 
   waits q t (inl m) =
       let (d, k) = pending-left q t m in
       let (w, h) = s .waits q t k in
-      (f .stays q (least-left 64 (X .waiting) some word q .1 (w, d)), h)
+      (f .grown .stays q (least-left 64 (X .waiting) some word q .1 (w, d)), h)
 
   below : (q : ℕ)
       → Member q (bitAnd (X .waiting) (X .waiting - 1))
@@ -213,16 +213,16 @@ module _ (D : Tables) (n : ℕ) (X Y : Sources) (some : X .waiting ≢ 0) (word 
   pub searching-turn : Searching D n Y
   searching-turn =
       record {
-        start = λ i h. f .kept (i, 0) i (s .start i h);
+        start = λ i h. f .grown .kept (i, 0) i (s .start i h);
         sound = sound;
-        closed = λ u h l. closed u h l (f .new u h);
-        waits = λ q t m. waits q t (f .waits q t m);
+        closed = λ u h l. closed u h l (f .grown .new u h);
+        waits = λ q t m. waits q t (f .grown .waits q t m);
         below = λ q m. below q (f .told q m);
       }
 
   pub searching-less : left (Y .from) (Y .waiting) < left (X .from) (X .waiting)
   unfolding left
-  searching-less = omega (arith, f .less, some, and-le-r (X .waiting) (X .waiting - 1))
+  searching-less = omega (arith, f .grown .less, some, and-le-r (X .waiting) (X .waiting - 1))
 
 -- The standings taken are standings.
 pub taken-standings : (D : Tables) (n : ℕ) (X : Sources) → Searching D n X → (q s : ℕ) → Member s (getD (X .pending) q 0) → s < D .count

@@ -3,13 +3,13 @@ use crate::answer::FindAnswer;
 use crate::answer::refused;
 use crate::core::find_rows;
 use reading::Answer;
-use reading::few_lines;
+use reading::lists_at_most;
 use reading::load_rows;
 use syntax::Refusal;
 ghost use mathlib.Core.Path.{_≡_};
 ghost use Prim.Native.Nat.{_≤_};
 ghost use lib.ListN.{length};
-ghost use Rattle.reading.specs.RowRoom.{newlines, HasRows};
+ghost use Rattle.reading.specs.RowRoom.{askedRows, HasRows};
 ghost use Rattle.finding.specs.Outcome.{left};
 ghost use Rattle.finding.specs.Operation.{outcome};
 
@@ -21,7 +21,7 @@ fn find_in(
     table: &mut [u16],
     marks: &mut [u8],
 ) -> FindAnswer
-    requires { ⌜ HasRows (newlines (now text)) (now follow) (now enter) × (4096 ≤ length (now table)) × (256 ≤ length (now marks)) ⌝ }
+    requires { ⌜ HasRows (askedRows (now text)) (now follow) (now enter) × (4096 ≤ length (now table)) × (256 ≤ length (now marks)) ⌝ }
     ensures { λ r. ⌜ left r (now (table .exit)) (now (marks .exit))
         ≡ outcome (now (text .entry)) (now (table .entry)) (now (marks .entry)) ⌝ }
 {
@@ -47,7 +47,7 @@ fn find_in(
 }
 
 // The table gets 4,096 numbers and the flags 256 bytes; what lies beyond stays. To zero tables for 16 lists takes longer than to find the
-// states of a small job, so that a text of few lines has smaller ones.
+// states of a small job, so that a text of few lists has smaller ones.
 pub fn find(text: &[u8], table: &mut [u16], marks: &mut [u8]) -> FindAnswer
     ensures { λ r. ⌜ left r (now (table .exit)) (now (marks .exit))
         ≡ outcome (now (text .entry)) (now (table .entry)) (now (marks .entry)) ⌝ }
@@ -58,9 +58,15 @@ pub fn find(text: &[u8], table: &mut [u16], marks: &mut [u8]) -> FindAnswer
     if marks.len() < 256 {
         return refused(Refusal::BufferTooShort, 0);
     }
-    if few_lines(text) {
-        let mut follow = [0; 576];
-        let mut enter = [0; 288];
+    let lists = lists_at_most(text);
+    if lists <= 2 {
+        let mut follow = [0; 256];
+        let mut enter = [0; 128];
+        return find_in(text, &mut follow, &mut enter, table, marks);
+    }
+    if lists <= 4 {
+        let mut follow = [0; 384];
+        let mut enter = [0; 192];
         return find_in(text, &mut follow, &mut enter, table, marks);
     }
     let mut follow = [0; 1088];

@@ -7,6 +7,7 @@ ghost use lib.ListN.{length};
 ghost use Rattle.theory.specs.Places.{Member};
 ghost use Rattle.finding.specs.ImageSearch.{tables, Fitting};
 ghost use Rattle.finding.specs.Sources.{sources, gainOf, gathered, Followed, Only, Moved, Labelled, Begun, Searched};
+ghost use Rattle.finding.specs.SourcesBrought.{Brought, Received};
 use crate::clear::clear_words;
 use crate::number::wide;
 
@@ -74,7 +75,101 @@ fn follow_standings(
     waiting | (gain(0, added) << next)
 }
 
-// The label a is followed from the place p with the standings taken, to the places that it enters, those below `places`.
+// What the label a brings from the place p with the standings taken: `moved` has for each standing that it leads to the sources of all pairs
+// that it comes from. The standings that it leads to are returned.
+fn gather(
+    moves: &[u8; 2048],
+    count: usize,
+    a: usize,
+    p: usize,
+    taken: u64,
+    from: &[u64],
+    moved: &mut [u64; 64],
+) -> u64
+    requires { ⌜ (count ≤ 64) × (a < 32) × ((s : ℕ) → Member s taken → s < count) × (count * p + count ≤ length (now from)) ⌝ }
+    ensures { λ r. ⌜ Brought (now (moves .entry)) count a p (λ s. Member s taken) (now (from .entry)) (now (moved .exit)) r ⌝ }
+{
+    clear_words(moved, count);
+    let mut met: u64 = 0;
+    let mut rest = taken;
+    while rest != 0 {
+        let s = u64::trailing_zeros(rest) as usize;
+        let to = wide(moves[32 * s + a]);
+        if to < count {
+            let held = &moved[..];
+            moved[to] = held[to] | from[count * p + s];
+            met = met | (1 << to);
+        }
+        rest = rest & (rest - 1);
+    }
+    met
+}
+
+// The standings that were met get the sources that `moved` has for them, with the place next. Where some pairs gain, they are pending, and
+// their place waits; the waiting places are returned.
+fn give(
+    count: usize,
+    met: u64,
+    moved: &[u64; 64],
+    next: usize,
+    from: &mut [u64],
+    pending: &mut [u64; 64],
+    waiting: u64,
+) -> u64
+    requires { ⌜ (count ≤ 64) × (next < 64) × ((t : ℕ) → Member t met → t < count) × (count * next + count ≤ length (now from)) ⌝ }
+    ensures { λ r. ⌜ Received count met (now (moved .entry)) next
+        (sources (now (from .entry)) (now (pending .entry)) waiting) (sources (now (from .exit)) (now (pending .exit)) r) ⌝ }
+{
+    let mut added: u64 = 0;
+    let mut rest = met;
+    while rest != 0 {
+        let to = u64::trailing_zeros(rest) as usize;
+        let old = from[count * next + to];
+        let all = old | moved[to];
+        from[count * next + to] = all;
+        added = added | (gain(old, all) << to);
+        rest = rest & (rest - 1);
+    }
+    let held = &pending[..];
+    pending[next] = held[next] | added;
+    waiting | (gain(0, added) << next)
+}
+
+// The label a is followed from the place p with the standings taken, to the places that it enters, those below `places`: what it brings is
+// the same for all of them.
+fn follow_many(
+    moves: &[u8; 2048],
+    count: usize,
+    a: usize,
+    p: usize,
+    taken: u64,
+    entered: u64,
+    places: usize,
+    from: &mut [u64],
+    pending: &mut [u64; 64],
+    moved: &mut [u64; 64],
+    waiting: u64,
+) -> u64
+    requires { ⌜ (count ≤ 64) × (a < 32) × (p < places) × ((s : ℕ) → Member s taken → s < count)
+        × (count * places ≤ length (now from)) ⌝ }
+    ensures { λ r. ⌜ Followed count
+        (Moved (now (moves .entry)) count a p (λ s. Member s taken) (λ y. Member y entered × (y < places)))
+        (sources (now (from .entry)) (now (pending .entry)) waiting) (sources (now (from .exit)) (now (pending .exit)) r) ⌝ }
+{
+    let met = gather(moves, count, a, p, taken, from, moved);
+    let mut all = waiting;
+    let mut rest = entered;
+    while rest != 0 {
+        let next = u64::trailing_zeros(rest) as usize;
+        if next < places {
+            all = give(count, met, moved, next, from, pending, all);
+        }
+        rest = rest & (rest - 1);
+    }
+    all
+}
+
+// The same. To one place alone the sources are passed on at once.
 fn follow_places(
     moves: &[u8; 2048],
     count: usize,
@@ -85,6 +180,7 @@ fn follow_places(
     places: usize,
     from: &mut [u64],
     pending: &mut [u64; 64],
+    moved: &mut [u64; 64],
     waiting: u64,
 ) -> u64
     requires { ⌜ (count ≤ 64) × (a < 32) × (p < places) × ((s : ℕ) → Member s taken → s < count)
@@ -93,16 +189,29 @@ fn follow_places(
         (Moved (now (moves .entry)) count a p (λ s. Member s taken) (λ y. Member y entered × (y < places)))
         (sources (now (from .entry)) (now (pending .entry)) waiting) (sources (now (from .exit)) (now (pending .exit)) r) ⌝ }
 {
-    let mut all = waiting;
-    let mut rest = entered;
-    while rest != 0 {
-        let next = u64::trailing_zeros(rest) as usize;
-        if next < places {
-            all = follow_standings(moves, count, a, p, taken, next, from, pending, all);
-        }
-        rest = rest & (rest - 1);
+    if entered == 0 {
+        return waiting;
     }
-    all
+    if entered & (entered - 1) != 0 {
+        return follow_many(
+            moves,
+            count,
+            a,
+            p,
+            taken,
+            entered,
+            places,
+            from,
+            pending,
+            moved,
+            waiting,
+        );
+    }
+    let next = u64::trailing_zeros(entered) as usize;
+    if next < places {
+        return follow_standings(moves, count, a, p, taken, next, from, pending, waiting);
+    }
+    waiting
 }
 
 // All labels are followed from the place p with the standings taken.
@@ -116,6 +225,7 @@ fn follow_labels(
     taken: u64,
     from: &mut [u64],
     pending: &mut [u64; 64],
+    moved: &mut [u64; 64],
     waiting: u64,
 ) -> u64
     requires { ⌜ Fitting (tables (now moves) count labels (now follow) (now enter)) × (p < length (now follow))
@@ -139,6 +249,7 @@ fn follow_labels(
             follow.len(),
             from,
             pending,
+            moved,
             all,
         );
         a += 1;
@@ -178,6 +289,7 @@ pub fn find_sources(
         (length (now (follow .entry))) (now (from .exit)) ⌝ }
 {
     let mut pending = [0; 64];
+    let mut moved = [0; 64];
     pending[0] = begin(count, follow.len(), from);
     let mut waiting: u64 = 1;
     while waiting != 0 {
@@ -194,6 +306,7 @@ pub fn find_sources(
             taken,
             from,
             &mut pending,
+            &mut moved,
             waiting & (waiting - 1),
         );
     }

@@ -11,6 +11,7 @@ pub mod ReadLaws
 pub mod Tables
 pub mod Answering
 pub mod Scan
+pub mod ListStarts
 pub mod RowRoom
 pub mod OneList
 pub mod NamesLaws

@@ -1,8 +1,8 @@
--- A good line gives at most one list more.
-use Prim.Native.Nat.{ℕ, suc, _≤_}
+-- A good line gives no more lists than begin in it.
+use Prim.Native.Nat.{ℕ, _+_, _≤_}
 use mathlib.Core.Bool.{Bool, true, false}
 use mathlib.Core.Option.{Option, some, none}
-use mathlib.Core.Path.{_≡_}
+use mathlib.Core.Path.{_≡_, refl, sym, subst}
 use native.Mathlib.Omega.{arith}
 use lib.Dec.{leb, ltb}
 use lib.ListN.{length, length-append}
@@ -13,6 +13,8 @@ use Rattle.syntax.specs.Byte.{Bytes}
 use Rattle.syntax.specs.Check.{Checked, fine, faulty, check}
 use Rattle.reading.specs.Text.{space, labelWord, queryWord, listWord, mostLabels, mostLists}
 use Rattle.reading.specs.Refusing.{Progress, withList}
+use Rattle.reading.specs.ListStarts.{listStarts, word-starts}
+use Rattle.reading.specs.CutLaws.{after-exactly}
 use Rattle.reading.specs.Read.{Cut, cut, uncut, cutAt, after, fresh, Given, good, bad, givenLabel, givenQuery, givenList, early, late, given}
 
 -- How many lists there are with what a line gives; none where it is refused.
@@ -20,44 +22,45 @@ abbrev listsOf : Given → ℕ
 listsOf (good Q) = length (Q .listNames)
 listsOf (bad r) = 0
 
-record OneMore (P : Progress) (g : Given) : Type 0 where
-  most : listsOf g ≤ suc (length (P .listNames))
+-- At most k lists more.
+record More (P : Progress) (k : ℕ) (g : Given) : Type 0 where
+  most : listsOf g ≤ k + length (P .listNames)
 
-module _ {P : Progress} where
-  refuses : {r : Refusal} → OneMore P (bad r)
+module _ {P : Progress} {k : ℕ} where
+  refuses : {r : Refusal} → More P k (bad r)
   refuses = record { most = omega arith }
 
-  either : (b : Bool) {x y : Given} → OneMore P x → OneMore P y → OneMore P (elim b [ false ↦ x | true ↦ y ])
+  either : (b : Bool) {x y : Given} → More P k x → More P k y → More P k (elim b [ false ↦ x | true ↦ y ])
   either false h i = h
   either true h i = i
 
-  checked : (c : Checked) {f : Expression → Given} → ((e : Expression) → OneMore P (f e))
-      → OneMore P (elim c [ fine e ↦ f e | faulty r ↦ bad r ])
+  checked : (c : Checked) {f : Expression → Given} → ((e : Expression) → More P k (f e))
+      → More P k (elim c [ fine e ↦ f e | faulty r ↦ bad r ])
   checked (fine e) h = h e
   checked (faulty r) h = refuses
 
-  opened : (x : Option Bytes) {f : Bytes → Given} {g : Given} → ((s : Bytes) → OneMore P (f s)) → OneMore P g
-      → OneMore P (elim x [ some s ↦ f s | none ↦ g ])
+  opened : (x : Option Bytes) {f : Bytes → Given} {g : Given} → ((s : Bytes) → More P k (f s)) → More P k g
+      → More P k (elim x [ some s ↦ f s | none ↦ g ])
   opened (some s) h i = h s
   opened none h i = i
 
 module _ (P : Progress) where
-  one-label : (n : Bytes) → OneMore P (givenLabel P n)
+  one-label : (k : ℕ) (n : Bytes) → More P k (givenLabel P n)
   unfolding givenLabel
-  one-label n =
+  one-label k n =
       either (ltb (length (P .labels)) mostLabels) refuses (either (fresh n (P .labels)) refuses (record { most = omega arith }))
 
-  one-query : (text : Bytes) → OneMore P (givenQuery P text)
+  one-query : (k : ℕ) (text : Bytes) → More P k (givenQuery P text)
   unfolding givenQuery
-  one-query text =
+  one-query k text =
       either (leb 1 (length (P .labels))) refuses (checked (check (P .labels) text) (λ e. record { most = omega arith }))
 
-  one-list : (s : Bytes) → OneMore P (givenList P s)
+  one-list : (k : ℕ) → 1 ≤ k → (s : Bytes) → More P k (givenList P s)
   unfolding givenList
-  one-list s = go (cutAt space s)
+  one-list k h s = go (cutAt space s)
     where
       go : (x : Cut)
-          → OneMore P
+          → More P k
           (elim x [
             | uncut ↦ bad BadLine
             | cut n text ↦ elim (ltb (length (P .listNames)) mostLists) [
@@ -74,21 +77,26 @@ module _ (P : Progress) where
           (either (fresh n (P .listNames)) refuses
           (checked (check (P .labels) text) (λ e. record { most = simp length-append (omega arith) })))
 
-  one-early : (s : Bytes) → OneMore P (early P s)
+  one-early : (s : Bytes) → More P (listStarts s) (early P s)
   unfolding early
-  one-early s = opened (after labelWord s) one-label (opened (after queryWord s) one-query refuses)
+  one-early s = opened (after labelWord s) (one-label _) (opened (after queryWord s) (one-query _) refuses)
 
-  one-late : (s : Bytes) → OneMore P (late P s)
+  one-late : (s : Bytes) → More P (listStarts s) (late P s)
   unfolding late
-  one-late s = opened (after listWord s) one-list refuses
+  one-late s = go (after listWord s) refl
+    where
+      go : (x : Option Bytes) → after listWord s ≡ x → More P (listStarts s) (elim x [ some rest ↦ givenList P rest | none ↦ bad BadLine ])
+      go (some rest) e =
+          one-list (listStarts s) (subst (λ s. 1 ≤ listStarts s) (sym (after-exactly listWord s rest .0 e)) (word-starts rest)) rest
+      go none e = refuses
 
-  one-more : (s : Bytes) → OneMore P (given P s)
+  one-more : (s : Bytes) → More P (listStarts s) (given P s)
   unfolding given
   one-more s = go (P .query)
     where
-      go : (x : Option Expression) → OneMore P (elim x [ none ↦ early P s | some q ↦ late P s ])
+      go : (x : Option Expression) → More P (listStarts s) (elim x [ none ↦ early P s | some q ↦ late P s ])
       go none = one-early s
       go (some q) = one-late s
 
-pub given-one : (P Q : Progress) (s : Bytes) → given P s ≡ good Q → length (Q .listNames) ≤ suc (length (P .listNames))
+pub given-one : (P Q : Progress) (s : Bytes) → given P s ≡ good Q → length (Q .listNames) ≤ listStarts s + length (P .listNames)
 given-one P Q s e = rw e at (one-more P s) .most

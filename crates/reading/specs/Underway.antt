@@ -29,7 +29,8 @@ use Rattle.reading.specs.Loading.{Held, Tells, Gives, Loaded}
 use Rattle.reading.specs.LabelLaws.{labels-held}
 use Rattle.reading.specs.ListLaws.{lists-held}
 use Rattle.reading.specs.Scan.{before, cut-before, uncut-before}
-use Rattle.reading.specs.RowRoom.{newlines, HasRows, Roomy, roomy-job, newlines-cut}
+use Rattle.reading.specs.RowRoom.{askedRows, HasRows, Roomy, roomy-job}
+use Rattle.reading.specs.ListStarts.{listStarts, starts-cut}
 use Rattle.reading.specs.OneList.{given-one}
 
 pub record Underway (text : Bytes) (at n : ℕ) (p : Numbers) (T : Tables) : Type 0 where
@@ -39,8 +40,8 @@ pub record Underway (text : Bytes) (at n : ℕ) (p : Numbers) (T : Tables) : Typ
   pub calls : ℕ
   pub enough : length text - at ≤ calls
   pub left : readLines (suc calls) progress n (drop at text) ≡ read text
-  -- Each list has taken a line.
-  pub room : p .lists + newlines (drop at text) ≤ newlines text
+  -- Each list began in a line that is read.
+  pub room : p .lists + listStarts (drop at text) ≤ listStarts text
 
 -- At the beginning.
 held-nothing : (text : Bytes) (T : Tables) → Held text beginning (record { labels = 0; lists = 0; query = false }) T
@@ -127,10 +128,14 @@ module _ (text : Bytes) (at n : ℕ) (p : Numbers) (T : Tables) (u : Underway te
             holds = λ K f. let same : J ≡ K = cc in rw (sym same) (holds-whole text P y T e (u .held .holds));
           }
 
+  -- There is a row for the list that the next line may give.
+  pub list-within : p .lists + 1 ≤ askedRows text
+  list-within = omega (arith, u .room)
+
   -- The rows of the lists read so far are in the tables.
-  pub roomy-lists : {follow enter : List ℕ} → HasRows (newlines text) follow enter → Roomy (Job (p .labels) (p .lists)) follow enter
+  pub roomy-lists : {follow enter : List ℕ} → HasRows (askedRows text) follow enter → Roomy (Job (p .labels) (p .lists)) follow enter
   roomy-lists r =
-      roomy-job (p .labels) (p .lists) (newlines text) (omega (arith, u .room)) (omega (arith, lists-held (u .held), u .held .few-lists)) r
+      roomy-job (p .labels) (p .lists) (askedRows text) (omega (arith, u .room)) (omega (arith, lists-held (u .held), u .held .few-lists)) r
 
   module _ (inside : at < length text) (size : ℕ) (found : size ≡ before newline (drop at text)) where
     pub loaded-unclosed : (T′ : Tables) → length text - at ≤ size → Loaded text (Refused BadLine n) T′
@@ -147,16 +152,11 @@ module _ (text : Bytes) (at n : ℕ) (p : Numbers) (T : Tables) (u : Underway te
         ∙ ap₂ cut (ap (λ k. take k (drop at text)) (sym found))
         (ap (λ k. drop (suc k) (drop at text)) (sym found) ∙ drop-drop (suc size) at text ∙ ap (λ k. drop k text) i)
 
-    lines-left : size < length text - at → newlines (drop at text) ≡ suc (newlines (drop (at + size + 1) text))
-    lines-left h =
+    starts-left : listStarts (take size (drop at text)) + listStarts (drop (at + size + 1) text) ≤ listStarts (drop at text)
+    starts-left =
         let i : at + suc size ≡ at + size + 1 = omega arith in
-        newlines-cut (drop at text) (omega (arith, length-drop at text))
-        ∙ ap (λ k. suc (newlines (drop (suc k) (drop at text)))) (sym found)
-        ∙ ap suc (ap newlines (drop-drop (suc size) at text ∙ ap (λ k. drop k text) i))
-
-    -- The list that the line may give has a line of its own.
-    pub list-within : size < length text - at → p .lists + 1 ≤ newlines text
-    list-within h = omega (arith, lines-left h, u .room)
+        let e : drop (suc size) (drop at text) ≡ drop (at + size + 1) text = drop-drop (suc size) at text ∙ ap (λ k. drop k text) i in
+        omega (arith, starts-cut size (drop at text), ap listStarts e)
 
     pub loaded-fault : size < length text - at → {r : Told} {T′ : Tables} → Gives text (λ P. given P (take size (drop at text))) p T r T′
         → (f : Refusal) → r ≡ Bad f → Loaded text (Refused f n) T′
@@ -184,7 +184,7 @@ module _ (text : Bytes) (at n : ℕ) (p : Numbers) (T : Tables) (u : Underway te
           room =
               omega (
                 arith,
-                lines-left h,
+                starts-left,
                 u .room,
                 lists-held (u .held),
                 lists-held (d .2),

@@ -8,7 +8,7 @@ mod row;
 mod scan;
 
 pub use answer::Answer;
-pub use reader::few_lines;
+pub use reader::lists_at_most;
 pub use reader::load;
 pub use reader::load_rows;
 pub use reader::read;

@@ -5,14 +5,14 @@ use super::progress::Given;
 use super::progress::Progress;
 use super::scan::find_byte;
 use syntax::Refusal;
-ghost use Prim.Native.Nat.{_≤_};
-ghost use mathlib.Core.Bool.{true};
+ghost use Prim.Native.Nat.{_+_, _*_, _≤_};
 ghost use mathlib.Core.Path.{_≡_};
 ghost use lib.ListN.{length};
 ghost use Rattle.reading.specs.Read.{read};
 ghost use Rattle.reading.specs.Answering.{answerOf};
 ghost use Rattle.reading.specs.Loading.{tables, Loaded};
-ghost use Rattle.reading.specs.RowRoom.{newlines, HasRows, Roomy};
+ghost use Rattle.reading.specs.ListStarts.{listStarts};
+ghost use Rattle.reading.specs.RowRoom.{askedRows, AtMost, HasRows, Roomy};
 
 const MOST_TEXT: usize = 8192;
 
@@ -25,7 +25,7 @@ fn lines(
     sizes: &mut [u64; 17],
     accepting: &mut [u64; 17],
 ) -> Answer
-    requires { ⌜ (length (now text) ≤ 8192) × HasRows (newlines (now text)) (now follow) (now enter) ⌝ }
+    requires { ⌜ (length (now text) ≤ 8192) × HasRows (askedRows (now text)) (now follow) (now enter) ⌝ }
     ensures { λ r.
         ⌜ Loaded (now (text .entry)) r
         (tables (now (names .exit)) (now (follow .exit)) (now (enter .exit)) (now (sizes .exit)) (now (accepting .exit))) ⌝ }
@@ -68,14 +68,22 @@ fn lines(
     }
 }
 
-// How many lines a text has.
-fn count_lines(text: &[u8]) -> usize
-    ensures { λ r. ⌜ r ≡ newlines (now (text .entry)) ⌝ }
+// Two bytes as one number.
+fn pair(a: u8, b: u8) -> u16
+    ensures { λ r. ⌜ r ≡ 256 * a + b ⌝ }
 {
-    let mut n = 0;
+    256 * (a as u16) + (b as u16)
+}
+
+// How often the bytes `li` stand in a short text.
+fn list_starts(text: &[u8]) -> u16
+    requires { ⌜ length (now text) ≤ 1024 ⌝ }
+    ensures { λ r. ⌜ r ≡ listStarts (now (text .entry)) ⌝ }
+{
+    let mut n: u16 = 0;
     let mut i = 0;
-    while i < text.len() {
-        if text[i] == b'\n' {
+    while i + 1 < text.len() {
+        if pair(text[i], text[i + 1]) == 27753 {
             n += 1;
         }
         i += 1;
@@ -83,17 +91,18 @@ fn count_lines(text: &[u8]) -> usize
     n
 }
 
-// Whether a short text has so few lines that tables with nine rows hold its job. Of a long one the lines are not counted.
-pub fn few_lines(text: &[u8]) -> bool
-    ensures { λ r. ⌜ (r ≡ true → newlines (now (text .entry)) ≤ 8) ⌝ }
+// No fewer than the lists that a text's job has; a long text is not looked through, and may have as many as any. Tables with two rows more
+// hold the job.
+pub fn lists_at_most(text: &[u8]) -> u16
+    ensures { λ r. ⌜ AtMost r (now (text .entry)) ⌝ }
 {
-    if 256 < text.len() {
-        return false;
+    if 1024 < text.len() {
+        return 16;
     }
-    count_lines(text) <= 8
+    list_starts(text)
 }
 
-// Reads a job text into tables that have a row for each line and one more, or 17. Where the text is refused, what the tables hold means
+// Reads a job text into tables that have rows for it, which 17 are in any case. Where the text is refused, what the tables hold means
 // nothing.
 pub fn load_rows(
     text: &[u8],
@@ -103,7 +112,7 @@ pub fn load_rows(
     sizes: &mut [u64; 17],
     accepting: &mut [u64; 17],
 ) -> Answer
-    requires { ⌜ HasRows (newlines (now text)) (now follow) (now enter) ⌝ }
+    requires { ⌜ HasRows (askedRows (now text)) (now follow) (now enter) ⌝ }
     ensures { λ r.
         ⌜ Loaded (now (text .entry)) r
         (tables (now (names .exit)) (now (follow .exit)) (now (enter .exit)) (now (sizes .exit)) (now (accepting .exit))) ⌝ }

@@ -14,6 +14,7 @@ use Rattle.theory.specs.AutomatonLaws.{first-below, follows-below}
 use Rattle.finding.specs.Find.{Rewriting, found, find}
 use Rattle.finding.specs.ListWidth.{glushkov-width}
 use Rattle.finding.specs.FoundSizes.{job-sizes}
+use Rattle.finding.specs.RowsFit.{RowsFit}
 use Rattle.finding.specs.FindLaws.{find-finds}
 use Rattle.verdict.specs.Verdict.{verdict}
 use Rattle.verdict.specs.VerdictJob.{verdictFound, verdictJob}
@@ -69,9 +70,9 @@ module _ {J : Job} {follow enter sizes accepting : List ℕ} {labels lists : ℕ
   small : (v : ℕ) → v < lists → getD sizes (v + 1) 0 ≤ 63
   small v h = subst (λ x. getD sizes x 0 ≤ 63) (sym (add-one v)) (g .holding .listed v (glushkov (J .query)) h .fits)
 
-  sets : length follow ≡ 1088 → (v o : ℕ) → v < lists → o ≤ getD sizes (v + 1) 0
+  sets : RowsFit lists follow enter → (v o : ℕ) → v < lists → o ≤ getD sizes (v + 1) 0
       → getD follow (64 * (v + 1) + o) 0 < 2 ^ suc (getD sizes (v + 1) 0)
-  sets room v o h k =
+  sets rows v o h k =
       let A = automatonAt follow enter sizes accepting (v + 1) in
       let B = glushkov (J .query) in
       let same : A ≡ getD (map glushkov (J .lists)) v B =
@@ -81,7 +82,7 @@ module _ {J : Job} {follow enter sizes accepting : List ℕ} {labels lists : ℕ
       (listed-follows (J .lists) v o B (omega (arith, g .lists-told))) in
       let long : length (A .follow) ≡ suc (getD sizes (v + 1) 0) =
       length-take-le (suc (getD sizes (v + 1) 0)) (drop (64 * (v + 1)) follow)
-      (omega (arith, g .few-lists, small v h, length-drop (64 * (v + 1)) follow)) in
+      (omega (arith, rows .listsFollow (g .few-lists), small v h, length-drop (64 * (v + 1)) follow)) in
       subst (λ n. getD follow (64 * (v + 1) + o) 0 < 2 ^ n) long
       (subst (λ n. n < 2 ^ length (A .follow)) (follow-at follow enter sizes accepting (v + 1) o k) within)
 
@@ -95,22 +96,22 @@ module _ {J : Job} {follow enter sizes accepting : List ℕ} {labels lists : ℕ
         (λ i. verdict (g .holding .query .same i) (sym (g .labels-told) i) (rewritten (sym s i) (t i) (f i)) (given-lists i) 1024 allowance)
         ∙ sym (ap (verdictFound J allowance) e)
 
-    pub given-fit : length follow ≡ 1088 → length enter ≡ 544 → length sizes ≡ 17 → length accepting ≡ 17
+    pub given-fit : RowsFit lists follow enter → length sizes ≡ 17 → length accepting ≡ 17
         → Fit (lent states labels lists follow enter sizes accepting table) flags
-    given-fit follow-long enter-long sizes-long accepting-long =
+    given-fit long sizes-long accepting-long =
         let sized = job-sizes J R e in
         let rows = sized .table (omega (arith, g .lists-told, g .few-lists)) in
         let decides = finds-decides J R (find-finds J (g .formed) (omega (arith, g .lists-told, g .few-lists)) R e) in
         record {
           counted = record { few = g .few-lists; room = omega (arith, g .few-lists); small = small };
-          follow-room = omega (arith, g .few-lists);
-          enter-room = omega (arith, g .few-lists);
+          follow-room = omega (arith, long .listsFollow (g .few-lists));
+          enter-room = omega (arith, long .listsEnter (g .few-lists));
           accepting-room = omega (arith, g .few-lists);
           table-room = omega (arith, ap length t, rows);
           flags-room = omega (arith, ap length f, sized .flags);
           few-labels = g .few-labels;
           query = g .holding .query .fits;
-          sets = sets follow-long;
+          sets = sets long;
           some-state = omega (arith, decides .some-state);
           next = λ q v h k.
               subst (λ l. getD l (16 * q + v) 0 < states) (sym t)

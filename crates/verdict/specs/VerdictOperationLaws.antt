@@ -26,6 +26,7 @@ use Rattle.finding.specs.declared.answer.FindAnswer.{FindAnswer}
 use Rattle.finding.specs.declared.answer.Finding.the-variants.{Found as Finding, Refused as Unfound}
 use Rattle.finding.specs.Find.{Rewriting, Found, found, find, findAutomata, refused as unfound}
 use Rattle.finding.specs.FoundSizes.{job-sizes}
+use Rattle.finding.specs.RowsFit.{RowsFit}
 use Rattle.finding.specs.Padded.{cleared-front, cleared-behind}
 use Rattle.finding.specs.Outcome.{cleared, written, left as findLeft, leftBy as findLeftBy}
 use Rattle.finding.specs.StatesPart.{Room}
@@ -50,7 +51,7 @@ clash z = absurd (omega arith)
 
 -- The verdict on so many states.
 
-module _ {follow enter sizes accepting : List ℕ} {labels lists : ℕ} (follow-long : length follow ≡ 1088) (enter-long : length enter ≡ 544)
+module _ {follow enter sizes accepting : List ℕ} {labels lists : ℕ} (long : RowsFit lists follow enter)
     (sizes-long : length sizes ≡ 17) (accepting-long : length accepting ≡ 17) where
   pub found-told : {states : ℕ} {table flags : List ℕ} {allowance : ℕ} {path workspace : List ℕ} {r : Told} {path′ workspace′ : List ℕ}
       → Sized allowance table flags path workspace
@@ -60,7 +61,7 @@ module _ {follow enter sizes accepting : List ℕ} {labels lists : ℕ} (follow-
   found-told {allowance = allowance} {path = path} {path′ = path′} z t =
       record {
         told = λ J R g e s u v.
-            let fit = given-fit g R e s u v follow-long enter-long sizes-long accepting-long in
+            let fit = given-fit g R e s u v long sizes-long accepting-long in
             let same = given-verdict g R e s u v allowance in (
               t .answer fit (omega arith) (z .few) (z .room) (z .path-room) ∙ ap toldOf same,
               subst (PathAfter path path′) same (t .written fit (omega arith) (z .few) (z .room) (z .path-room)),

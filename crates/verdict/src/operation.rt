@@ -5,14 +5,17 @@ use finding::answer::Finding;
 use finding::clear::clear_bytes;
 use finding::clear::clear_numbers;
 use finding::clear::clear_words;
-use finding::core::find_core;
+use finding::core::find_rows;
 use reading::Answer;
-use reading::load;
+use reading::lists_at_most;
+use reading::load_rows;
 use syntax::Refusal;
 ghost use mathlib.Core.Path.{_≡_};
 ghost use Prim.Native.Nat.{_≤_};
 ghost use Rattle.theory.specs.Job.{Job};
 ghost use Rattle.reading.specs.Read.{read};
+ghost use Rattle.reading.specs.RowRoom.{askedRows, HasRows};
+ghost use Rattle.finding.specs.RowsFit.{RowsFit};
 ghost use Rattle.verdict.specs.VerdictOperation.{left, leftByJob, leftByReading, outcome};
 ghost use Rattle.verdict.specs.VerdictOperation.{Sized, JobGiven, SomeJob, FoundTold, FindTold, AnsweredTold};
 
@@ -29,8 +32,8 @@ pub enum VerdictAnswer {
 fn found_verdict(
     labels: u64,
     lists: u64,
-    follow: &[u64; 1088],
-    enter: &[u64; 544],
+    follow: &[u64],
+    enter: &[u64],
     sizes: &[u64; 17],
     accepting: &[u64; 17],
     states: u64,
@@ -40,7 +43,7 @@ fn found_verdict(
     path: &mut [u8],
     workspace: &mut [u64],
 ) -> Told
-    requires { ⌜ (states ≤ 256) × Sized allowance (now table) (now flags) (now path) (now workspace) ⌝ }
+    requires { ⌜ (states ≤ 256) × RowsFit lists (now follow) (now enter) × Sized allowance (now table) (now flags) (now path) (now workspace) ⌝ }
     ensures { λ r. ⌜ FoundTold (now (follow .entry)) (now (enter .entry)) (now (sizes .entry)) (now (accepting .entry)) labels lists states
         (now (table .entry)) (now (flags .entry)) allowance (now (path .entry)) (now (workspace .entry)) r
         (now (path .exit)) (now (workspace .exit)) ⌝ }
@@ -68,8 +71,8 @@ fn found_verdict(
 fn find_verdict(
     labels: u64,
     lists: u64,
-    follow: &[u64; 1088],
-    enter: &[u64; 544],
+    follow: &[u64],
+    enter: &[u64],
     sizes: &[u64; 17],
     accepting: &[u64; 17],
     allowance: u64,
@@ -78,13 +81,13 @@ fn find_verdict(
     path: &mut [u8],
     workspace: &mut [u64],
 ) -> Told
-    requires { ⌜ SomeJob (now follow) (now enter) (now sizes) (now accepting) labels lists
+    requires { ⌜ SomeJob (now follow) (now enter) (now sizes) (now accepting) labels lists × RowsFit lists (now follow) (now enter)
         × Sized allowance (now table) (now flags) (now path) (now workspace) ⌝ }
     ensures { λ r. ⌜ FindTold (now (follow .entry)) (now (enter .entry)) (now (sizes .entry)) (now (accepting .entry)) labels lists
         allowance (now (table .entry)) (now (flags .entry)) (now (path .entry)) (now (workspace .entry)) r
         (now (table .exit)) (now (flags .exit)) (now (path .exit)) (now (workspace .exit)) ⌝ }
 {
-    let found = find_core(
+    let found = find_rows(
         labels,
         lists,
         follow,
@@ -135,8 +138,8 @@ fn answer(told: Told, table: &mut [u16], flags: &mut [u8]) -> VerdictAnswer
 fn job_verdict(
     labels: u64,
     lists: u64,
-    follow: &[u64; 1088],
-    enter: &[u64; 544],
+    follow: &[u64],
+    enter: &[u64],
     sizes: &[u64; 17],
     accepting: &[u64; 17],
     allowance: u64,
@@ -145,7 +148,7 @@ fn job_verdict(
     path: &mut [u8],
     workspace: &mut [u64],
 ) -> VerdictAnswer
-    requires { ⌜ SomeJob (now follow) (now enter) (now sizes) (now accepting) labels lists
+    requires { ⌜ SomeJob (now follow) (now enter) (now sizes) (now accepting) labels lists × RowsFit lists (now follow) (now enter)
         × Sized allowance (now table) (now flags) (now path) (now workspace) ⌝ }
     ensures { λ r. ⌜ ((J : Job) → JobGiven J (now (follow .entry)) (now (enter .entry)) (now (sizes .entry)) (now (accepting .entry))
         labels lists → left r (now (table .exit)) (now (flags .exit)) (now (path .exit)) (now (workspace .exit))
@@ -169,7 +172,46 @@ fn job_verdict(
     answer(told, table, flags)
 }
 
-// The verdict on the job of a text, read into tables.
+// The verdict on the job of a text, read into lent tables that have rows for it.
+fn verdict_in(
+    text: &[u8],
+    follow: &mut [u64],
+    enter: &mut [u64],
+    allowance: u64,
+    table: &mut [u16],
+    flags: &mut [u8],
+    path: &mut [u8],
+    workspace: &mut [u64],
+) -> VerdictAnswer
+    requires { ⌜ HasRows (askedRows (now text)) (now follow) (now enter)
+        × Sized allowance (now table) (now flags) (now path) (now workspace) ⌝ }
+    ensures { λ r. ⌜ left r (now (table .exit)) (now (flags .exit)) (now (path .exit)) (now (workspace .exit))
+        ≡ leftByReading (read (now (text .entry))) allowance (now (table .entry)) (now (flags .entry)) (now (path .entry))
+        (now (workspace .entry)) ⌝ }
+{
+    let mut names = [0; 96];
+    let mut sizes = [0; 17];
+    let mut accepting = [0; 17];
+    let told = load_rows(text, &mut names, follow, enter, &mut sizes, &mut accepting);
+    match told {
+        Answer::Refused(refusal, line) => VerdictAnswer::Refused(refusal, line),
+        Answer::Job(labels, lists) => job_verdict(
+            labels,
+            lists,
+            follow,
+            enter,
+            &sizes,
+            &accepting,
+            allowance,
+            table,
+            flags,
+            path,
+            workspace,
+        ),
+    }
+}
+
+// The verdict on the job of a text. A text of few lists has smaller tables, which are zeroed sooner.
 fn read_verdict(
     text: &[u8],
     allowance: u64,
@@ -183,35 +225,32 @@ fn read_verdict(
         ≡ leftByReading (read (now (text .entry))) allowance (now (table .entry)) (now (flags .entry)) (now (path .entry))
         (now (workspace .entry)) ⌝ }
 {
-    let mut names = [0; 96];
-    let mut follow = [0; 1088];
-    let mut enter = [0; 544];
-    let mut sizes = [0; 17];
-    let mut accepting = [0; 17];
-    let told = load(
-        text,
-        &mut names,
-        &mut follow,
-        &mut enter,
-        &mut sizes,
-        &mut accepting,
-    );
-    match told {
-        Answer::Refused(refusal, line) => VerdictAnswer::Refused(refusal, line),
-        Answer::Job(labels, lists) => job_verdict(
-            labels,
-            lists,
-            &follow,
-            &enter,
-            &sizes,
-            &accepting,
+    if lists_at_most(text) <= 4 {
+        let mut follow = [0; 384];
+        let mut enter = [0; 192];
+        return verdict_in(
+            text,
+            &mut follow,
+            &mut enter,
             allowance,
             table,
             flags,
             path,
             workspace,
-        ),
+        );
     }
+    let mut follow = [0; 1088];
+    let mut enter = [0; 544];
+    verdict_in(
+        text,
+        &mut follow,
+        &mut enter,
+        allowance,
+        table,
+        flags,
+        path,
+        workspace,
+    )
 }
 
 // The table gets 4,096 numbers, the flags 256 bytes, the path as many bytes as the allowance, the workspace 18 words for each allowed pair;

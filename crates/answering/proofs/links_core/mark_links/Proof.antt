@@ -36,7 +36,7 @@ returns c =
     let at-mark-places = c .before .before .before .before in
     let at-enum-told = at-mark-places .before .before .before in
     let at-standings = at-enum-told .before .before in
-    let a = at-standings .before .before .before .before .before .before .before .before .args in
+    let a = at-standings .before .before .before .before .before .before .before .before .before .args in
     λ g l.
     links-marked (a .follow .now) (a .enter .now) (a .accepting) (a .labels) g
     (subst (λ r. StandingsTold (a .follow .now) (a .enter .now) (a .labels) 64 r (at-standings .standings .last .1 .1 .1 .1 .0)
@@ -56,7 +56,7 @@ returns-2 c =
     let at-clear-bytes = at-clear-words .before .before .before .before in
     let at-enum-told = at-clear-bytes .before .before in
     let at-standings = at-enum-told .before .before in
-    let a = at-standings .before .before .before .before .before .before .before .before .args in
+    let a = at-standings .before .before .before .before .before .before .before .before .before .args in
     λ g l.
     links-over (a .follow .now) (a .enter .now) (a .accepting) (a .labels) g
     (subst (λ r. StandingsTold (a .follow .now) (a .enter .now) (a .labels) 64 r (at-standings .standings .last .1 .1 .1 .1 .0)

@@ -25,7 +25,7 @@ returns c =
     let at-mark = at-clear-words .before .before .before .before in
     let at-reached = at-mark .before .before .before .before in
     let at-search-places = at-reached .before .before in
-    let at-enter = at-search-places .before .before .before .before .before in
+    let at-enter = at-search-places .before .before .before .before .before .before in
     let a = at-enter .before .before .args in
     λ g l.
     places-marked (a .follow .now) (a .enter .now) (a .accepting) (a .labels) g (λ i. at-enter .shared-slice-known2 .given i .fits)

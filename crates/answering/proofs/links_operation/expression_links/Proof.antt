@@ -64,9 +64,9 @@ element-copy-out-mark-links c = search needs
 
 mark-links-requires : tie.Need-mark-links-requires
 mark-links-requires c κs =
-    let start = c .before .before .before .before .before .before .before .before .before .before .before .before in
-    let a = start .args in
-    table-in-range (a .labels) (a .recordings) (a .table .now) (start .pre .2)
+    let at-start = c .before .before .before .before .before .before .before .before .before .before .before .before .before in
+    let a = at-start .args in
+    (table-in-range (a .labels) (a .recordings) (a .table .now) (at-start .pre .4), at-start .pre .5)
 
 enum-known-told : tie.Need-enum-known-told
 enum-known-told c = search needs
@@ -82,14 +82,15 @@ same-length-2 c = search needs
 
 returns-2 : tie.Need-returns-2
 returns-2 c =
-    let at-mark-links = c .before .before .before .before .before .before .before in
-    let start = at-mark-links .before .before .before .before .before .before .before .before .before .before .before .before .before in
-    let a = start .args in
+    let at-told = c .before in
+    let at-mark-links = at-told .before .before .before .before .before .before in
+    let at-start = at-mark-links .before .before .before .before .before .before .before .before .before .before .before .before .before .before in
+    let a = at-start .args in
     let x = a .x in
     let size = getD (a .sizes .now) x 0 in
     expression-marked (a .follow .now) (a .enter .now) (a .sizes .now) (a .accepting .now) x (64 * x + size + 1 - 64 * x) (32 * x + 32 - 32 * x)
-    (omega arith) (omega arith) (omega (arith, start .good, start .pre)) (start .pre .1) (start .pre .2)
-    (λ g. at-mark-links .mark-links .ensures g (start .pre .3)) (c .before .told .given .1)
+    (omega arith) (omega arith) (at-start .pre .2) (at-start .pre .3) (at-start .pre .4)
+    (λ g. at-mark-links .mark-links .ensures g (at-start .pre .6)) (at-told .told .given .1)
 
 same-length-3 : tie.Need-same-length-3
 same-length-3 c = search needs
@@ -100,13 +101,13 @@ same-length-4 c = search needs
 returns-3 : tie.Need-returns-3
 returns-3 c =
     let at-mark-links = c .before .before .before .before .before .before in
-    let start = at-mark-links .before .before .before .before .before .before .before .before .before .before .before .before .before in
-    let a = start .args in
+    let at-start = at-mark-links .before .before .before .before .before .before .before .before .before .before .before .before .before .before in
+    let a = at-start .args in
     let x = a .x in
     let size = getD (a .sizes .now) x 0 in
     expression-over (a .follow .now) (a .enter .now) (a .sizes .now) (a .accepting .now) x (64 * x + size + 1 - 64 * x) (32 * x + 32 - 32 * x)
-    (omega arith) (omega arith) (omega (arith, start .good, start .pre)) (start .pre .1) (start .pre .2)
-    (λ g. at-mark-links .mark-links .ensures g (start .pre .3)) (c .enum-told .given .1)
+    (omega arith) (omega arith) (at-start .pre .2) (at-start .pre .3) (at-start .pre .4)
+    (λ g. at-mark-links .mark-links .ensures g (at-start .pre .6)) (c .enum-told .given .1)
 
 pub expression-links-spec : {M : Type 1} → statement M
 expression-links-spec =

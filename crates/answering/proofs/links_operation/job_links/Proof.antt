@@ -1,56 +1,18 @@
--- `job_links` meets its contract: the checks come in the order of the job's own, and then the chosen expression.
-use mathlib.Core.Path.{sym, ap, _∙_}
-use borrow.Author.Tests.{not-true, not-false}
-use Rattle.answering.specs.Table.{isTable}
-use Rattle.answering.specs.LinksOperationLaws.{links-absent, links-bad-table, links-bad-start, links-marked-job}
-use native.Mathlib.Omega.{arith}
+-- `job_links` meets its contract: the room is zeroed, and there is enough for the recordings.
+use Rattle.answering.specs.LinkBegins.{unlisted-zeros}
 use borrow.Author.Needs.{needs}
 use Rattle.answering.proofs.links_operation.job_links.Statement.{statement}
 use Rattle.answering.proofs.links_operation.job_links.Tie as tie
 
-returns : tie.Need-returns
-returns c =
-    let a = c .before .before .before .before .args in
-    λ J g.
-    links-absent J (a .recordings) (a .chosen) (a .table .now) (a .start) (a .marks .now) (a .workspace .now) (omega (arith, g .lists-told))
+slice-aggregate-indexed-links : tie.Need-slice-aggregate-indexed-links
+slice-aggregate-indexed-links c = search needs
 
-is-table-requires : tie.Need-is-table-requires
-is-table-requires c κs = search needs
-
-returns-2 : tie.Need-returns-2
-returns-2 c =
-    let at-is-table = c .before in
-    let a = at-is-table .before .before .before .before .before .args in
-    λ J g.
-    links-bad-table J (a .recordings) (a .chosen) (a .table .now) (a .start) (a .marks .now) (a .workspace .now)
-    (omega (arith, g .lists-told))
-    (ap (λ k. isTable (a .recordings) k (a .table .now)) (g .labels-told)
-    ∙ sym (at-is-table .is-table .ensures)
-    ∙ not-true _ (c .if2 .taken))
-
-returns-3 : tie.Need-returns-3
-returns-3 c =
-    let at-if2 = c .before in
-    let at-is-table = at-if2 .before in
-    let a = at-is-table .before .before .before .before .before .args in
-    λ J g.
-    links-bad-start J (a .recordings) (a .chosen) (a .table .now) (a .start) (a .marks .now) (a .workspace .now)
-    (omega (arith, g .lists-told))
-    (ap (λ k. isTable (a .recordings) k (a .table .now)) (g .labels-told)
-    ∙ sym (at-is-table .is-table .ensures)
-    ∙ not-false _ (at-if2 .if2 .left)) (omega arith)
-
-expression-links-requires : tie.Need-expression-links-requires
-expression-links-requires c κs =
-    let at-if2 = c .before .before .before in
-    let at-is-table = at-if2 .before in
-    let at-start = at-is-table .before .before .before .before .before in
-    let p = at-start .pre in (
-      omega arith,
-      p .0,
-      sym (at-is-table .is-table .ensures) ∙ not-false _ (at-if2 .if2 .left),
-      record { few = p .2 .few; begins = omega arith; marks-fit = p .2 .marks-fit; room = p .2 .room },
-    )
+indexed-links-requires : tie.Need-indexed-links-requires
+indexed-links-requires c κs =
+    let at-if1 = c .before .before .before in
+    let at-start = at-if1 .before .before .before .before .before .before in
+    let p = at-start .pre in
+    (p .0, p .1, p .2, p .3, unlisted-zeros _ 256 (at-if1 .if1 .taken))
 
 same-length : tie.Need-same-length
 same-length c = search needs
@@ -58,28 +20,38 @@ same-length c = search needs
 same-length-2 : tie.Need-same-length-2
 same-length-2 c = search needs
 
-returns-4 : tie.Need-returns-4
-returns-4 c =
-    let at-expression-links = c .before .before .before .before in
-    let at-if3 = at-expression-links .before .before .before in
-    let at-if2 = at-if3 .before in
-    let at-is-table = at-if2 .before in
-    let at-if1 = at-is-table .before in
-    let a = at-if1 .before .before .before .before .args in
-    λ J g.
-    links-marked-job J (a .recordings) (a .chosen) (a .table .now) (a .start) (a .marks .now) (a .workspace .now) g (at-if1 .if1 .left)
-    (sym (at-is-table .is-table .ensures) ∙ not-false _ (at-if2 .if2 .left)) (at-if3 .if3 .left)
-    (at-expression-links .expression-links .ensures)
+returns : tie.Need-returns
+returns c = c .before .before .before .before .before .indexed-links .ensures
+
+slice-aggregate-indexed-links-2 : tie.Need-slice-aggregate-indexed-links-2
+slice-aggregate-indexed-links-2 c = search needs
+
+indexed-links-requires-2 : tie.Need-indexed-links-requires-2
+indexed-links-requires-2 c κs =
+    let at-start = c .before .before .before .before .before .before .before .before .before in
+    let p = at-start .pre in
+    (p .0, p .1, p .2, p .3, unlisted-zeros _ 4096 (p .3 .few))
+
+same-length-3 : tie.Need-same-length-3
+same-length-3 c = search needs
+
+same-length-4 : tie.Need-same-length-4
+same-length-4 c = search needs
+
+returns-2 : tie.Need-returns-2
+returns-2 c = c .before .before .before .before .before .indexed-links2 .ensures
 
 pub job-links-spec : {M : Type 1} → statement M
 job-links-spec =
     tie.close
     (tie.spec
-    returns
-    is-table-requires
-    returns-2
-    returns-3
-    expression-links-requires
+    slice-aggregate-indexed-links
+    indexed-links-requires
     same-length
     same-length-2
-    returns-4)
+    returns
+    slice-aggregate-indexed-links-2
+    indexed-links-requires-2
+    same-length-3
+    same-length-4
+    returns-2)

@@ -72,7 +72,8 @@ search-states-requires c κs =
     let at-if2 = at-rank-useful .before .before .before in
     let (some, few, lists, rows) = at-if2 .before .has-rows .ensures .0 (not-false _ (at-if2 .if2 .left)) in
     let k = at-rank-useful .rank-useful .ensures in
-    let n = k .few in (
+    let n = k .few in
+    let p = at-if2 .before .before .before .before .before .before .before .before .pre in (
       record {
         few-lists = lists;
         few = few;
@@ -84,7 +85,8 @@ search-states-requires c κs =
         width = omega arith;
         few-words = omega arith;
       },
-      at-if2 .before .before .before .before .before .before .before .pre,
+      p .0,
+      p .1,
     )
 
 mark-requires : tie.Need-mark-requires

@@ -32,7 +32,7 @@ returns : tie.Need-returns
 returns c =
     let at-mark-lists = c .before .before .before .before in
     let at-told = at-mark-lists .before .before .before in
-    let start = at-told .before .before .before .before .before .before .before in
+    let start = at-told .before .before .before .before .before .before .before .before in
     λ F g. finding-marked g (at-told .before .finding .given .1) (at-mark-lists .mark-lists .ensures (start .pre .0))
 
 same-length-3 : tie.Need-same-length-3
@@ -46,7 +46,7 @@ returns-2 c =
     let at-clear-words = c .before .before in
     let at-clear-bytes = at-clear-words .before .before .before .before in
     let at-told = at-clear-bytes .before .before in
-    let start = at-told .before .before .before .before .before .before .before in
+    let start = at-told .before .before .before .before .before .before .before .before in
     λ F g.
     finding-refused g (at-told .before .finding2 .given .1) (start .pre .0) (at-clear-bytes .clear-bytes .ensures)
     (at-clear-words .clear-words .ensures)

@@ -1,48 +1,18 @@
--- `job_lists` meets its contract: the checks come in the order of the job's own, and then the rewriting.
-use mathlib.Core.Path.{sym, ap, _∙_}
-use borrow.Author.Tests.{not-true, not-false}
-use Rattle.answering.specs.Table.{isTable}
-use Rattle.answering.specs.ListsOperationLaws.{lists-bad-table, lists-bad-start, lists-marked-job}
-use native.Mathlib.Omega.{arith}
+-- `job_lists` meets its contract: the room is zeroed, and there is enough for the recordings.
+use Rattle.answering.specs.LinkBegins.{unlisted-zeros}
 use borrow.Author.Needs.{needs}
 use Rattle.answering.proofs.lists_operation.job_lists.Statement.{statement}
 use Rattle.answering.proofs.lists_operation.job_lists.Tie as tie
 
-is-table-requires : tie.Need-is-table-requires
-is-table-requires c κs = search needs
+slice-aggregate-indexed-lists : tie.Need-slice-aggregate-indexed-lists
+slice-aggregate-indexed-lists c = search needs
 
-returns : tie.Need-returns
-returns c =
-    let at-is-table = c .before in
-    let a = at-is-table .before .before .before .before .before .before .args in
-    λ J w g.
-    lists-bad-table J (a .recordings) (a .table .now) (a .start) (a .marks .now) (a .workspace .now)
-    (ap (λ k. isTable (a .recordings) k (a .table .now)) (g .lists-told)
-    ∙ sym (at-is-table .is-table .ensures)
-    ∙ not-true _ (c .if1 .taken))
-
-returns-2 : tie.Need-returns-2
-returns-2 c =
-    let at-if1 = c .before in
-    let at-is-table = at-if1 .before in
-    let a = at-is-table .before .before .before .before .before .before .args in
-    λ J w g.
-    lists-bad-start J (a .recordings) (a .table .now) (a .start) (a .marks .now) (a .workspace .now)
-    (ap (λ k. isTable (a .recordings) k (a .table .now)) (g .lists-told)
-    ∙ sym (at-is-table .is-table .ensures)
-    ∙ not-false _ (at-if1 .if1 .left)) (omega arith)
-
-rewriting-lists-requires : tie.Need-rewriting-lists-requires
-rewriting-lists-requires c κs =
+indexed-lists-requires : tie.Need-indexed-lists-requires
+indexed-lists-requires c κs =
     let at-if1 = c .before .before .before in
-    let at-is-table = at-if1 .before in
-    let p = at-is-table .before .before .before .before .before .before .pre in (
-      p .0,
-      p .1,
-      sym (at-is-table .is-table .ensures) ∙ not-false _ (at-if1 .if1 .left),
-      record { few = p .2 .few; begins = omega arith; marks-fit = p .2 .marks-fit; room = p .2 .room },
-      p .3,
-    )
+    let at-start = at-if1 .before .before .before .before .before .before in
+    let p = at-start .pre in
+    (p .0, p .1, p .2, p .3, unlisted-zeros _ 256 (at-if1 .if1 .taken))
 
 same-length : tie.Need-same-length
 same-length c = search needs
@@ -50,27 +20,38 @@ same-length c = search needs
 same-length-2 : tie.Need-same-length-2
 same-length-2 c = search needs
 
-returns-3 : tie.Need-returns-3
-returns-3 c =
-    let at-rewriting-lists = c .before .before .before .before in
-    let at-if2 = at-rewriting-lists .before .before .before in
-    let at-if1 = at-if2 .before in
-    let at-is-table = at-if1 .before in
-    let a = at-is-table .before .before .before .before .before .before .args in
-    λ J w g.
-    lists-marked-job J (a .recordings) (a .table .now) (a .start) (a .marks .now) (a .workspace .now)
-    (ap (λ k. isTable (a .recordings) k (a .table .now)) (g .lists-told)
-    ∙ sym (at-is-table .is-table .ensures)
-    ∙ not-false _ (at-if1 .if1 .left)) (at-if2 .if2 .left) (at-rewriting-lists .rewriting-lists .ensures J w g)
+returns : tie.Need-returns
+returns c = c .before .before .before .before .before .indexed-lists .ensures
+
+slice-aggregate-indexed-lists-2 : tie.Need-slice-aggregate-indexed-lists-2
+slice-aggregate-indexed-lists-2 c = search needs
+
+indexed-lists-requires-2 : tie.Need-indexed-lists-requires-2
+indexed-lists-requires-2 c κs =
+    let at-start = c .before .before .before .before .before .before .before .before .before in
+    let p = at-start .pre in
+    (p .0, p .1, p .2, p .3, unlisted-zeros _ 4096 (p .2 .few))
+
+same-length-3 : tie.Need-same-length-3
+same-length-3 c = search needs
+
+same-length-4 : tie.Need-same-length-4
+same-length-4 c = search needs
+
+returns-2 : tie.Need-returns-2
+returns-2 c = c .before .before .before .before .before .indexed-lists2 .ensures
 
 pub job-lists-spec : {M : Type 1} → statement M
 job-lists-spec =
     tie.close
     (tie.spec
-    is-table-requires
-    returns
-    returns-2
-    rewriting-lists-requires
+    slice-aggregate-indexed-lists
+    indexed-lists-requires
     same-length
     same-length-2
-    returns-3)
+    returns
+    slice-aggregate-indexed-lists-2
+    indexed-lists-requires-2
+    same-length-3
+    same-length-4
+    returns-2)

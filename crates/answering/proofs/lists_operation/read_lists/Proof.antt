@@ -1,12 +1,12 @@
--- `read_lists` meets its contract: the text is read into tables of nine rows or of 17.
+-- `read_lists` meets its contract: the text is read into tables of six rows or of 17.
 use Rattle.reading.specs.RowRoom.{enough-rows, all-rows}
 use native.Mathlib.Omega.{arith}
 use borrow.Author.Needs.{needs}
 use Rattle.answering.proofs.lists_operation.read_lists.Statement.{statement}
 use Rattle.answering.proofs.lists_operation.read_lists.Tie as tie
 
-few-lines-requires : tie.Need-few-lines-requires
-few-lines-requires c κs = search needs
+lists-at-most-requires : tie.Need-lists-at-most-requires
+lists-at-most-requires c κs = search needs
 
 slice-aggregate-lists-in : tie.Need-slice-aggregate-lists-in
 slice-aggregate-lists-in c = search needs
@@ -16,10 +16,12 @@ slice-aggregate-lists-in-2 c = search needs
 
 lists-in-requires : tie.Need-lists-in-requires
 lists-in-requires c κs =
-    let at-if1 = c .before .before .before .before in
-    let at-few-lines = at-if1 .before in
-    let few = at-few-lines .few-lines .ensures (at-if1 .if1 .taken) in
-    (enough-rows 9 _ (omega (arith, few)) (omega arith) (omega arith), at-few-lines .before .before .before .before .before .pre)
+    let at-count = c .before .before .before .before .before in
+    let at-start = at-count .before .before .before .before .before in (
+      enough-rows 6 (at-count .lists-at-most .result) (at-start .args .text .now) (at-count .lists-at-most .ensures) (omega arith) (omega arith)
+          (omega arith),
+      at-start .pre,
+    )
 
 same-length : tie.Need-same-length
 same-length c = search needs
@@ -38,8 +40,8 @@ slice-aggregate-lists-in-4 c = search needs
 
 lists-in-requires-2 : tie.Need-lists-in-requires-2
 lists-in-requires-2 c κs =
-    let at-few-lines = c .before .before .before .before .before in
-    (all-rows _ (omega arith) (omega arith), at-few-lines .before .before .before .before .before .pre)
+    let at-start = c .before .before .before .before .before .before .before .before .before .before in
+    (all-rows _ (omega arith) (omega arith), at-start .pre)
 
 same-length-3 : tie.Need-same-length-3
 same-length-3 c = search needs
@@ -54,7 +56,7 @@ pub read-lists-spec : {M : Type 1} → statement M
 read-lists-spec =
     tie.close
     (tie.spec
-    few-lines-requires
+    lists-at-most-requires
     slice-aggregate-lists-in
     slice-aggregate-lists-in-2
     lists-in-requires

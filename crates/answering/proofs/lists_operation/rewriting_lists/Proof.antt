@@ -22,10 +22,10 @@ slice-aggregate-finding-lists c = search needs
 finding-lists-requires : tie.Need-finding-lists-requires
 finding-lists-requires c κs =
     let at-find-rows = c .before .before .before .before .before .before in
-    let start = at-find-rows .before .before .before .before .before .before .before .before in
+    let start = at-find-rows .before .before .before .before .before .before .before .before .before in
     let a = start .args in
     let p = start .pre in
-    (p .3, table-in-range (a .lists) (a .recordings) (a .table .now) (p .2))
+    (p .4, table-in-range (a .lists) (a .recordings) (a .table .now) (p .2), p .3)
 
 same-length : tie.Need-same-length
 same-length c = search needs
@@ -37,7 +37,7 @@ returns : tie.Need-returns
 returns c =
     let at-finding-lists = c .before .before .before .before in
     let at-find-rows = at-finding-lists .before .before .before .before .before .before .before in
-    let start = at-find-rows .before .before .before .before .before .before .before .before in
+    let start = at-find-rows .before .before .before .before .before .before .before .before .before in
     let p = start .pre in
     λ J w g.
     at-finding-lists .finding-lists .ensures (find J)

@@ -49,7 +49,8 @@ search-few-requires c κs =
     let f = at-fitting .fitting .ensures .0 (not-false _ (at-if1 .if1 .left)) in
     let d = at-clear-words .clear-words in
     let n = at-place-count .place-count .ensures in
-    (places-starting n f (d .ensures) (d .kept .0), n .fits, omega (arith, f .few-labels), at-if2 .if2 .taken, at-fitting .before .before .before .before .before .before .pre)
+    let p = at-fitting .before .before .before .before .before .before .before .pre in
+    (places-starting n f (d .ensures) (d .kept .0), n .fits, omega (arith, f .few-labels), at-if2 .if2 .taken, p .0, p .1)
 
 slice-aggregate-search-many : tie.Need-slice-aggregate-search-many
 slice-aggregate-search-many c = search needs
@@ -64,7 +65,8 @@ search-many-requires c κs =
     let f = at-fitting .fitting .ensures .0 (not-false _ (at-if1 .if1 .left)) in
     let d = at-clear-words .clear-words in
     let n = at-place-count .place-count .ensures in
-    (places-starting n f (d .ensures) (d .kept .0), n .fits, omega (arith, f .few-labels), at-fitting .before .before .before .before .before .before .pre)
+    let p = at-fitting .before .before .before .before .before .before .before .pre in
+    (places-starting n f (d .ensures) (d .kept .0), n .fits, omega (arith, f .few-labels), p .0, p .1)
 
 same-length-2 : tie.Need-same-length-2
 same-length-2 c = search needs
@@ -82,7 +84,7 @@ returns-2 c =
     let r = at-search-few .search-few in
     let e = at-load-enter .load-enter in
     places-searched (e .last .1 .1 .0) (at-place-count .place-count .ensures) f (e .ensures) (d .ensures)
-    (r .kept .1 .1 .1 .1 .0 ∙ d .kept .0) (r .ensures)
+    (r .kept .1 .1 .1 .1 .1 .0 ∙ d .kept .0) (r .ensures)
 
 same-length-3 : tie.Need-same-length-3
 same-length-3 c = search needs
@@ -100,7 +102,7 @@ returns-3 c =
     let r = at-search-many .search-many in
     let e = at-load-enter .load-enter in
     places-searched (e .last .1 .1 .0) (at-place-count .place-count .ensures) f (e .ensures) (d .ensures)
-    (r .kept .1 .1 .1 .1 .0 ∙ d .kept .0) (r .ensures)
+    (r .kept .1 .1 .1 .1 .1 .0 ∙ d .kept .0) (r .ensures)
 
 pub search-places-spec : {M : Type 1} → statement M
 search-places-spec =

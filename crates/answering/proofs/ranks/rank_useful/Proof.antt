@@ -26,7 +26,7 @@ add-useful-requires c κs =
     let at-start = c .before .before .before .before .before .before .before in
     let p = at-start .pre in
     let e = at-add-flagged .add-flagged .kept .1 .0 in
-    record { few-lists = p .2; rows = p .3; bytes = omega (arith, p .0 .few) }
+    (record { few-lists = p .2; rows = p .3; bytes = omega (arith, p .0 .few) }, p .0 .few)
 
 slice-aggregate-rank-states : tie.Need-slice-aggregate-rank-states
 slice-aggregate-rank-states c = search needs

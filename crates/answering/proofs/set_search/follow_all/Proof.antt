@@ -115,25 +115,29 @@ zero-from-requires c κs =
     let at-index = c .before .before .before .before .before .before in
     row at-index
 
-mul-first : tie.Need-mul-first Inv-loop μ-loop
-mul-first c =
+mul-index-2 : tie.Need-mul-index-2 Inv-loop μ-loop
+mul-index-2 c =
     let at-index = c .before .before .before .before .before .before .before .before .before in
     let earlier = at-index .before .before .before .before .before .before .before .before .before .before in
     let before-that = earlier .before .before .before .before .before .before .before .before .before .before in
     let at-start = before-that .before .before .before .before .before .before in
     let l = below at-index in omega (arith, at-start .pre .0 .ready .few)
 
-shared-slice-read-first : tie.Need-shared-slice-read-first Inv-loop μ-loop
-shared-slice-read-first c =
+shared-slice-read-index : tie.Need-shared-slice-read-index Inv-loop μ-loop
+shared-slice-read-index c =
     let at-index = c .before .before .before .before .before .before .before .before .before .before in
     let earlier = at-index .before .before .before .before .before .before .before .before .before .before in
     let before-that = earlier .before .before .before .before .before .before .before .before .before .before in
     let at-start = before-that .before .before .before .before .before .before in
     let l = below at-index in omega (arith, at-start .pre .3 .fits)
 
+index-requires-2 : tie.Need-index-requires-2 Inv-loop μ-loop
+index-requires-2 c κs = search needs
+
 follow-links-requires : tie.Need-follow-links-requires Inv-loop μ-loop
 follow-links-requires c κs =
-    let at-zero-from = c .before .before .before .before .before .before .before in
+    let at-first = c .before .before .before .before in
+    let at-zero-from = c .before .before .before .before .before .before .before .before in
     let at-spread = at-zero-from .before .before .before .before in
     let at-index = at-spread .before .before .before in
     let at-loop-test = at-index .before .before in
@@ -149,20 +153,20 @@ follow-links-requires c κs =
       ready-pop (v .4 .ready) (at-loop-test .loop-test .taken) (at-index .index .ensures) (at-zero-from .zero-from .kept .0)
           (at-zero-from .zero-from .ensures),
       omega (arith, few-rows (p .starting .fits), at-start .pre .2 .rows),
-      at-start .pre .3 .first (at-index .index .result) (below at-index),
+      rw (at-first .index2 .ensures) (at-start .pre .3 .first (at-index .index .result) (below at-index)),
     )
 
 loop-less : tie.Need-loop-less Inv-loop μ-loop
 loop-less c =
     let at-follow-links = c .before .before .before .before .before .before in
     let earlier = at-follow-links .before .before .before .before .before .before .before .before .before .before in
-    let at-loop-test = earlier .before .before .before .before .before .before .before in
+    let at-loop-test = earlier .before .before .before .before .before .before .before .before in
     omega (arith, at-follow-links .follow-links .ensures .grown .less, at-loop-test .loop-test .taken)
 
 loop-again : tie.Need-loop-again Inv-loop μ-loop
 loop-again c =
     let at-follow-links = c .before .before .before .before .before .before in
-    let at-zero-from = at-follow-links .before .before .before .before .before .before .before .before in
+    let at-zero-from = at-follow-links .before .before .before .before .before .before .before .before .before in
     let at-spread = at-zero-from .before .before .before .before in
     let at-index = at-spread .before .before .before in
     let at-loop = at-index .before .before .before in
@@ -218,8 +222,9 @@ follow-all-spec =
     spread-requires
     mul-zero-from
     zero-from-requires
-    mul-first
-    shared-slice-read-first
+    mul-index-2
+    shared-slice-read-index
+    index-requires-2
     follow-links-requires
     loop-less
     loop-again

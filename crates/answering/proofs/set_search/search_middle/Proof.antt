@@ -1,21 +1,11 @@
 -- `search_middle` meets its contract: the local words are zero, and there are enough for so many recordings.
 use Prim.Native.Nat.{ℕ}
 use lib.ListN.{length-replicate}
-use Rattle.answering.specs.LinkBegins.{unlisted-zeros}
 use Rattle.answering.specs.SetSearchRun.{recordings-below, set-beginning, images-blank}
 use native.Mathlib.Omega.{arith}
 use borrow.Author.Needs.{needs}
 use Rattle.answering.proofs.set_search.search_middle.Statement.{statement}
 use Rattle.answering.proofs.set_search.search_middle.Tie as tie
-
-slice-aggregate-link-begins : tie.Need-slice-aggregate-link-begins
-slice-aggregate-link-begins c = search needs
-
-link-begins-requires : tie.Need-link-begins-requires
-link-begins-requires c κs =
-    let at-start = c .before .before .before .before in
-    let p = at-start .pre in
-    unlisted-zeros _ 4096 (recordings-below (p .0 .fits) 4096 (p .2))
 
 slice-aggregate-search-from : tie.Need-slice-aggregate-search-from
 slice-aggregate-search-from c = search needs
@@ -26,42 +16,26 @@ slice-aggregate-search-from-2 c = search needs
 slice-aggregate-search-from-3 : tie.Need-slice-aggregate-search-from-3
 slice-aggregate-search-from-3 c = search needs
 
-slice-aggregate-search-from-4 : tie.Need-slice-aggregate-search-from-4
-slice-aggregate-search-from-4 c = search needs
-
 search-from-requires : tie.Need-search-from-requires
 search-from-requires c κs =
-    let at-link-begins = c .before .before .before .before .before .before in
-    let at-start = at-link-begins .before .before .before .before .before in
-    let p = at-start .pre in
+    let p = c .before .before .before .before .before .before .before .before .pre in
     let l = recordings-below (p .0 .fits) 4096 (p .2) in
-    let long = length-replicate {A = ℕ} 8193 0 in (
-      set-beginning 4096 8193 (p .0) (p .2) (omega arith),
-      p .1,
-      images-blank _,
-      at-link-begins .link-begins .ensures,
-      omega (arith, long),
-      p .3,
-    )
+    let long = length-replicate {A = ℕ} 8193 0 in
+    (set-beginning 4096 8193 (p .0) (p .2) (omega arith), p .1, images-blank _, p .4, omega (arith, long), p .3)
 
 same-length : tie.Need-same-length
 same-length c = search needs
 
 returns : tie.Need-returns
-returns c =
-    let at-search-from = c .before .before .before .before .before in
-    at-search-from .search-from .ensures
+returns c = c .before .before .before .before .before .search-from .ensures
 
 pub search-middle-spec : {M : Type 1} → statement M
 search-middle-spec =
     tie.close
     (tie.spec
-    slice-aggregate-link-begins
-    link-begins-requires
     slice-aggregate-search-from
     slice-aggregate-search-from-2
     slice-aggregate-search-from-3
-    slice-aggregate-search-from-4
     search-from-requires
     same-length
     returns)

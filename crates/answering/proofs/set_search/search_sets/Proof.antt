@@ -33,7 +33,8 @@ search-few-requires c κs =
     let at-fitting = at-if1 .before in
     let f = at-fitting .fitting .ensures .fits (not-false _ (at-if1 .if1 .left)) in
     let d = at-clear-words .clear-words in
-    (set-starting (sizes-of f) (d .ensures) (d .kept .0), f .rows, at-if2 .if2 .taken, at-fitting .before .before .before .before .before .pre)
+    let p = at-fitting .before .before .before .before .before .before .pre in
+    (set-starting (sizes-of f) (d .ensures) (d .kept .0), f .rows, at-if2 .if2 .taken, p .0, p .1)
 
 search-middle-requires : tie.Need-search-middle-requires
 search-middle-requires c κs =
@@ -43,7 +44,8 @@ search-middle-requires c κs =
     let at-fitting = at-if1 .before in
     let f = at-fitting .fitting .ensures .fits (not-false _ (at-if1 .if1 .left)) in
     let d = at-clear-words .clear-words in
-    (set-starting (sizes-of f) (d .ensures) (d .kept .0), f .rows, at-if3 .if3 .taken, at-fitting .before .before .before .before .before .pre)
+    let p = at-fitting .before .before .before .before .before .before .pre in
+    (set-starting (sizes-of f) (d .ensures) (d .kept .0), f .rows, at-if3 .if3 .taken, p .0, p .1)
 
 search-many-requires : tie.Need-search-many-requires
 search-many-requires c κs =
@@ -52,7 +54,8 @@ search-many-requires c κs =
     let at-fitting = at-if1 .before in
     let f = at-fitting .fitting .ensures .fits (not-false _ (at-if1 .if1 .left)) in
     let d = at-clear-words .clear-words in
-    (set-starting (sizes-of f) (d .ensures) (d .kept .0), f .rows, at-fitting .before .before .before .before .before .pre)
+    let p = at-fitting .before .before .before .before .before .before .pre in
+    (set-starting (sizes-of f) (d .ensures) (d .kept .0), f .rows, p .0, p .1)
 
 same-length-2 : tie.Need-same-length-2
 same-length-2 c = search needs
@@ -66,7 +69,7 @@ returns-2 c =
     let f = at-fitting .fitting .ensures .fits (not-false _ (at-if1 .if1 .left)) in
     let d = at-clear-words .clear-words in
     let r = at-search-few .search-few in
-    set-searched f (cleared-beyond (d .ensures) (f .room)) (r .kept .1 .1 .1 .1 .0 ∙ d .kept .0) (r .ensures)
+    set-searched f (cleared-beyond (d .ensures) (f .room)) (r .kept .1 .1 .1 .1 .1 .0 ∙ d .kept .0) (r .ensures)
 
 same-length-3 : tie.Need-same-length-3
 same-length-3 c = search needs
@@ -80,7 +83,7 @@ returns-3 c =
     let f = at-fitting .fitting .ensures .fits (not-false _ (at-if1 .if1 .left)) in
     let d = at-clear-words .clear-words in
     let r = at-search-middle .search-middle in
-    set-searched f (cleared-beyond (d .ensures) (f .room)) (r .kept .1 .1 .1 .1 .0 ∙ d .kept .0) (r .ensures)
+    set-searched f (cleared-beyond (d .ensures) (f .room)) (r .kept .1 .1 .1 .1 .1 .0 ∙ d .kept .0) (r .ensures)
 
 same-length-4 : tie.Need-same-length-4
 same-length-4 c = search needs
@@ -94,7 +97,7 @@ returns-4 c =
     let f = at-fitting .fitting .ensures .fits (not-false _ (at-if1 .if1 .left)) in
     let d = at-clear-words .clear-words in
     let r = at-search-many .search-many in
-    set-searched f (cleared-beyond (d .ensures) (f .room)) (r .kept .1 .1 .1 .1 .0 ∙ d .kept .0) (r .ensures)
+    set-searched f (cleared-beyond (d .ensures) (f .room)) (r .kept .1 .1 .1 .1 .1 .0 ∙ d .kept .0) (r .ensures)
 
 pub search-sets-spec : {M : Type 1} → statement M
 search-sets-spec =

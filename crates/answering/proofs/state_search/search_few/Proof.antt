@@ -9,10 +9,10 @@ slice-aggregate-search-lent c = search needs
 
 search-lent-requires : tie.Need-search-lent-requires
 search-lent-requires c κs =
-    let at-start = c .before .before .before .before .before .before .before in
+    let at-start = c .before .before .before .before .before .before .before .before in
     let a = at-start .args in
     let p = at-start .pre in
-    (p .0, p .1, filled-none (a .lists) (a .words) _ 256, p .2)
+    (p .0, p .1, filled-none (a .lists) (a .words) _ 256, p .2, p .3)
 
 same-length : tie.Need-same-length
 same-length c = search needs

@@ -5,7 +5,7 @@ use Rattle.answering.proofs.state_search.search_lent.Tie as tie
 
 put-rows-requires : tie.Need-put-rows-requires
 put-rows-requires c κs =
-    let at-start = c .before .before .before .before .before .before .before in
+    let at-start = c .before .before .before .before .before .before .before .before in
     let p = at-start .pre in (p .0, p .1, p .2)
 
 search-sets-requires : tie.Need-search-sets-requires

@@ -9,10 +9,10 @@ slice-aggregate-search-lent c = search needs
 
 search-lent-requires : tie.Need-search-lent-requires
 search-lent-requires c κs =
-    let at-start = c .before .before .before .before .before .before .before in
+    let at-start = c .before .before .before .before .before .before .before .before in
     let a = at-start .args in
     let p = at-start .pre in
-    (p .0, lent-most (p .0) .1, filled-none (a .lists) (a .words) _ 16384, p .1)
+    (p .0, lent-most (p .0) .1, filled-none (a .lists) (a .words) _ 16384, p .1, p .2)
 
 same-length : tie.Need-same-length
 same-length c = search needs

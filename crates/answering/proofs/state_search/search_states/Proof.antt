@@ -7,18 +7,18 @@ use Rattle.answering.proofs.state_search.search_states.Tie as tie
 
 mul-if1 : tie.Need-mul-if1
 mul-if1 c =
-    let (m, n) = lent-most (c .before .before .before .before .before .pre .0) in omega arith
+    let (m, n) = lent-most (c .before .before .before .before .before .before .pre .0) in omega arith
 
 mul-if1-2 : tie.Need-mul-if1-2
 mul-if1-2 c =
-    let (m, n) = lent-most (c .before .before .before .before .before .pre .0) in omega arith
+    let (m, n) = lent-most (c .before .before .before .before .before .before .pre .0) in omega arith
 
 search-few-requires : tie.Need-search-few-requires
 search-few-requires c κs =
-    let p = c .before .before .before .before .before .before .before .pre in (p .0, c .before .if1 .taken, p .1)
+    let p = c .before .before .before .before .before .before .before .before .pre in (p .0, c .before .if1 .taken, p .1, p .2)
 
 search-many-requires : tie.Need-search-many-requires
-search-many-requires c κs = c .before .before .before .before .before .before .before .pre
+search-many-requires c κs = c .before .before .before .before .before .before .before .before .pre
 
 same-length : tie.Need-same-length
 same-length c = search needs

@@ -148,32 +148,35 @@ slice-write-pending c =
     let at-index = c .before .before .before .before .before in
     let e = one-mul (at-index .index .result) in omega (arith, row at-index)
 
-mul-first : tie.Need-mul-first Inv-loop μ-loop
-mul-first c =
+mul-index-2 : tie.Need-mul-index-2 Inv-loop μ-loop
+mul-index-2 c =
     let at-index = c .before .before .before .before .before in
     let earlier = at-index .before .before .before .before .before .before .before .before .before .before in
     let before-that = earlier .before .before .before .before .before .before .before .before .before .before in
     let at-start = before-that .before .before in
     let l = below at-index in omega (arith, at-start .pre .0 .ready .few)
 
-shared-slice-read-first : tie.Need-shared-slice-read-first Inv-loop μ-loop
-shared-slice-read-first c =
+shared-slice-read-index : tie.Need-shared-slice-read-index Inv-loop μ-loop
+shared-slice-read-index c =
     let at-index = c .before .before .before .before .before .before in
     let earlier = at-index .before .before .before .before .before .before .before .before .before .before in
     let before-that = earlier .before .before .before .before .before .before .before .before .before .before in
     let at-start = before-that .before .before in
     let l = below at-index in omega (arith, at-start .pre .3 .fits)
 
+index-requires-2 : tie.Need-index-requires-2 Inv-loop μ-loop
+index-requires-2 c κs = search needs
+
 mul-follow-word-links : tie.Need-mul-follow-word-links Inv-loop μ-loop
 mul-follow-word-links c =
     let earlier = c .before .before .before .before .before .before .before .before .before .before in
-    let at-loop = earlier .before .before in
+    let at-loop = earlier .before .before .before in
     let v = at-loop .loop .inv in omega (arith, v .6, v .5 .ready .few)
 
 sub-follow-word-links : tie.Need-sub-follow-word-links Inv-loop μ-loop
 sub-follow-word-links c =
     let earlier = c .before .before .before .before .before .before .before .before .before .before in
-    let at-loop = earlier .before .before in
+    let at-loop = earlier .before .before .before in
     let l = at-loop .loop in omega (arith, front-inside (l .head) (l .stack) (l .inv .5 .ready))
 
 part-follow-word-links-start : tie.Need-part-follow-word-links-start Inv-loop μ-loop
@@ -184,7 +187,8 @@ part-follow-word-links-end c = search needs
 
 follow-word-links-requires : tie.Need-follow-word-links-requires Inv-loop μ-loop
 follow-word-links-requires c κs =
-    let at-next-images = c .before .before .before .before .before .before .before in
+    let at-first = c .before .before .before .before in
+    let at-next-images = c .before .before .before .before .before .before .before .before in
     let at-index = at-next-images .before .before .before in
     let at-loop-test = at-index .before .before in
     let at-loop = at-loop-test .before in
@@ -196,7 +200,7 @@ follow-word-links-requires c κs =
       ready-front (l .head) (l .stack) (v .5 .ready) (at-loop-test .loop-test .taken) (omega (arith, long at-index, v .6))
           (at-index .index .ensures) (length-set (l .pending) x 0) (zeroed-one x (l .pending)),
       omega (arith, at-next-images .next-images .kept .1 .1 .1 .1 .0, v .1, at-start .pre .2),
-      at-start .pre .3 .first x (below at-index),
+      rw (at-first .index2 .ensures) (at-start .pre .3 .first x (below at-index)),
       at-start .pre .5,
     )
 
@@ -204,7 +208,7 @@ move-front-requires : tie.Need-move-front-requires Inv-loop μ-loop
 move-front-requires c κs =
     let at-follow = c .before .before .before .before .before .before .before .before .before in
     let earlier = at-follow .before .before .before .before .before .before .before .before .before .before in
-    let at-index = earlier .before in
+    let at-index = earlier .before .before in
     let at-loop = at-index .before .before .before in
     let f = at-follow .follow-word-links in
     let l = at-loop .loop in
@@ -218,14 +222,14 @@ loop-less c =
     let earlier = c .before .before .before .before .before .before .before .before .before .before in
     let at-follow = earlier .before .before in
     let before-that = at-follow .before .before .before .before .before .before .before .before .before .before in
-    let at-loop-test = before-that .before .before .before in
+    let at-loop-test = before-that .before .before .before .before in
     omega (arith, at-follow .follow-word-links .ensures .grown .less, at-loop-test .loop-test .taken)
 
 loop-again : tie.Need-loop-again Inv-loop μ-loop
 loop-again c =
     let at-move = c .before .before in
     let at-follow = at-move .before .before .before .before .before .before .before .before .before .before in
-    let at-next-images = at-follow .before .before .before .before .before .before .before .before in
+    let at-next-images = at-follow .before .before .before .before .before .before .before .before .before in
     let at-index = at-next-images .before .before .before in
     let at-loop = at-index .before .before .before in
     let earlier = at-loop .before .before .before .before .before .before .before .before .before .before in
@@ -259,13 +263,13 @@ loop-less-2 : tie.Need-loop-less-2 Inv-loop μ-loop
 loop-less-2 c =
     let at-follow = c .before .before .before .before .before .before .before .before in
     let earlier = at-follow .before .before .before .before .before .before .before .before .before .before in
-    let at-loop-test = earlier .before .before .before in
+    let at-loop-test = earlier .before .before .before .before in
     omega (arith, at-follow .follow-word-links .ensures .grown .less, at-loop-test .loop-test .taken)
 
 loop-again-2 : tie.Need-loop-again-2 Inv-loop μ-loop
 loop-again-2 c =
     let at-follow = c .before .before .before .before .before .before .before .before in
-    let at-next-images = at-follow .before .before .before .before .before .before .before .before in
+    let at-next-images = at-follow .before .before .before .before .before .before .before .before .before in
     let at-index = at-next-images .before .before .before in
     let at-loop = at-index .before .before .before in
     let earlier = at-loop .before .before .before .before .before .before .before .before .before .before in
@@ -335,8 +339,9 @@ follow-all-words-spec =
     next-images-requires
     mul-pending
     slice-write-pending
-    mul-first
-    shared-slice-read-first
+    mul-index-2
+    shared-slice-read-index
+    index-requires-2
     mul-follow-word-links
     sub-follow-word-links
     part-follow-word-links-start

@@ -1,4 +1,4 @@
--- The buffers are measured first; then Find runs in tables of nine rows or of 17.
+-- The buffers are measured first; then Find runs in tables of four rows, of six or of 17.
 use native.Mathlib.Omega.{arith}
 use Rattle.reading.specs.RowRoom.{enough-rows, all-rows}
 use Rattle.finding.specs.Operation.{short-table, short-flags}
@@ -22,8 +22,8 @@ returns-2 c =
     let a = c .before .before .before .before .before .before .args in
     short-flags (a .text .now) (a .table .now) (a .marks .now) (c .refused2 .result) (c .before .if2 .taken) (c .refused2 .ensures)
 
-few-lines-requires : tie.Need-few-lines-requires
-few-lines-requires c κs = search needs
+lists-at-most-requires : tie.Need-lists-at-most-requires
+lists-at-most-requires c κs = search needs
 
 slice-aggregate-find-in : tie.Need-slice-aggregate-find-in
 slice-aggregate-find-in c = search needs
@@ -33,10 +33,11 @@ slice-aggregate-find-in-2 c = search needs
 
 find-in-requires : tie.Need-find-in-requires
 find-in-requires c κs =
-    let few = c .before .before .before .before .before .few-lines .ensures (c .before .before .before .before .if3 .taken) in (
-      enough-rows 9 _ (omega (arith, few)) (omega arith) (omega arith),
-      omega (arith, c .before .before .before .before .before .before .before .if1 .left),
-      omega (arith, c .before .before .before .before .before .before .if2 .left),
+    let at-count = c .before .before .before .before .before in
+    let a = at-count .before .before .before .before .before .before .args in (
+      enough-rows 4 (at-count .lists-at-most .result) (a .text .now) (at-count .lists-at-most .ensures) (omega arith) (omega arith) (omega arith),
+      omega (arith, at-count .before .before .if1 .left),
+      omega (arith, at-count .before .if2 .left),
     )
 
 same-length : tie.Need-same-length
@@ -55,11 +56,13 @@ slice-aggregate-find-in-4 : tie.Need-slice-aggregate-find-in-4
 slice-aggregate-find-in-4 c = search needs
 
 find-in-requires-2 : tie.Need-find-in-requires-2
-find-in-requires-2 c κs = (
-  all-rows _ (omega arith) (omega arith),
-  omega (arith, c .before .before .before .before .before .before .before .if1 .left),
-  omega (arith, c .before .before .before .before .before .before .if2 .left),
-)
+find-in-requires-2 c κs =
+    let at-count = c .before .before .before .before .before .before in
+    let a = at-count .before .before .before .before .before .before .args in (
+      enough-rows 6 (at-count .lists-at-most .result) (a .text .now) (at-count .lists-at-most .ensures) (omega arith) (omega arith) (omega arith),
+      omega (arith, at-count .before .before .if1 .left),
+      omega (arith, at-count .before .if2 .left),
+    )
 
 same-length-3 : tie.Need-same-length-3
 same-length-3 c = search needs
@@ -70,6 +73,29 @@ same-length-4 c = search needs
 returns-4 : tie.Need-returns-4
 returns-4 c = c .before .before .before .before .before .before .find-in2 .ensures
 
+slice-aggregate-find-in-5 : tie.Need-slice-aggregate-find-in-5
+slice-aggregate-find-in-5 c = search needs
+
+slice-aggregate-find-in-6 : tie.Need-slice-aggregate-find-in-6
+slice-aggregate-find-in-6 c = search needs
+
+find-in-requires-3 : tie.Need-find-in-requires-3
+find-in-requires-3 c κs =
+    let at-count = c .before .before .before .before .before .before in (
+      all-rows _ (omega arith) (omega arith),
+      omega (arith, at-count .before .before .if1 .left),
+      omega (arith, at-count .before .if2 .left),
+    )
+
+same-length-5 : tie.Need-same-length-5
+same-length-5 c = search needs
+
+same-length-6 : tie.Need-same-length-6
+same-length-6 c = search needs
+
+returns-5 : tie.Need-returns-5
+returns-5 c = c .before .before .before .before .before .before .find-in3 .ensures
+
 pub find-spec : {M : Type 1} → statement M
 find-spec =
     tie.close
@@ -78,7 +104,7 @@ find-spec =
     returns
     refused-requires-2
     returns-2
-    few-lines-requires
+    lists-at-most-requires
     slice-aggregate-find-in
     slice-aggregate-find-in-2
     find-in-requires
@@ -90,4 +116,10 @@ find-spec =
     find-in-requires-2
     same-length-3
     same-length-4
-    returns-4)
+    returns-4
+    slice-aggregate-find-in-5
+    slice-aggregate-find-in-6
+    find-in-requires-3
+    same-length-5
+    same-length-6
+    returns-5)

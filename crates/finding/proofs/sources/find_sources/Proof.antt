@@ -14,12 +14,12 @@ use Rattle.finding.proofs.sources.find_sources.Statement.{statement}
 use Rattle.finding.proofs.sources.find_sources.Tie as tie
 
 abbrev Inv-loop : tie.InvT-loop
-Inv-loop moves count labels follow enter from₀ pending₀ waiting₀ from pending waiting =
+Inv-loop moves count labels follow enter from₀ pending₀ moved₀ waiting₀ from pending moved waiting =
     (waiting < 2 ^ 64) × (length pending ≡ 64) × (length from ≡ length from₀)
     × Searching (tables moves count labels follow enter) (length follow) (sources from pending waiting)
 
 abbrev μ-loop : tie.MeasureT-loop
-μ-loop moves count labels follow enter from₀ pending₀ waiting₀ from pending waiting = left from waiting
+μ-loop moves count labels follow enter from₀ pending₀ moved₀ waiting₀ from pending moved waiting = left from waiting
 
 begin-requires : tie.Need-begin-requires Inv-loop μ-loop
 begin-requires c κs = search needs
@@ -59,38 +59,38 @@ sub-follow-labels c = search needs
 
 follow-labels-requires : tie.Need-follow-labels-requires Inv-loop μ-loop
 follow-labels-requires c κs =
-    let start = c .before .before .before .before .before .before .before .before .before .before .before in
-    let l = c .before .before .before .loop in
+    let start = c .before .before .before .before .before .before .before .before .before .before .before .before in
+    let l = c .before .before .before .before .loop in
     let x = start .args in
     let D = tables (x .moves .now) (x .count) (x .labels) (x .follow .now) (x .enter .now) in
     let X = sources (l .from) (l .pending) (l .waiting) in (
       start .pre .0,
-      taken-below D (length (x .follow .now)) X (c .before .before .loop-test .taken) (l .inv .0) (l .inv .3),
+      taken-below D (length (x .follow .now)) X (c .before .before .before .loop-test .taken) (l .inv .0) (l .inv .3),
       taken-standings D (length (x .follow .now)) X (l .inv .3) (trailingZeros 64 (l .waiting)),
-      omega (arith, l .inv .2, c .before .before .before .before .before .before .begin .kept .1 .1 .0, start .pre .2),
+      omega (arith, l .inv .2, c .before .before .before .before .before .before .before .begin .kept .1 .1 .0, start .pre .2),
     )
 
 loop-less : tie.Need-loop-less Inv-loop μ-loop
 loop-less c =
-    let l = c .before .before .before .before .before .before .loop in
-    let x = c .before .before .before .before .before .before .before .before .before .before .before .before .before .before .args in
+    let l = c .before .before .before .before .before .before .before .loop in
+    let x = c .before .before .before .before .before .before .before .before .before .before .before .before .before .before .before .args in
     let D = tables (x .moves .now) (x .count) (x .labels) (x .follow .now) (x .enter .now) in
-    let d = c .before .before .before .before .before .loop-test .taken in
+    let d = c .before .before .before .before .before .before .loop-test .taken in
     let h = least-small (l .waiting) d (l .inv .0) in
     searching-less D (length (x .follow .now)) (sources (l .from) (l .pending) (l .waiting)) _ d (l .inv .0) (omega (arith, h, l .inv .1))
     (l .inv .3) (c .before .before .follow-labels .ensures)
 
 loop-again : tie.Need-loop-again Inv-loop μ-loop
 loop-again c =
-    let l = c .before .before .before .before .before .before .loop in
-    let x = c .before .before .before .before .before .before .before .before .before .before .before .before .before .before .args in
+    let l = c .before .before .before .before .before .before .before .loop in
+    let x = c .before .before .before .before .before .before .before .before .before .before .before .before .before .before .before .args in
     let D = tables (x .moves .now) (x .count) (x .labels) (x .follow .now) (x .enter .now) in
-    let d = c .before .before .before .before .before .loop-test .taken in
+    let d = c .before .before .before .before .before .before .loop-test .taken in
     let h = least-small (l .waiting) d (l .inv .0) in
     let f = c .before .before .follow-labels in (
       omega (arith, f .ok),
-      f .ensures .slots ∙ length-set (l .pending) (trailingZeros 64 (l .waiting)) 0 ∙ l .inv .1,
-      f .ensures .words ∙ l .inv .2,
+      f .ensures .grown .slots ∙ length-set (l .pending) (trailingZeros 64 (l .waiting)) 0 ∙ l .inv .1,
+      f .ensures .grown .words ∙ l .inv .2,
       searching-turn D (length (x .follow .now)) (sources (l .from) (l .pending) (l .waiting)) _ d (l .inv .0) (omega (arith, h, l .inv .1))
           (l .inv .3) (f .ensures),
     )

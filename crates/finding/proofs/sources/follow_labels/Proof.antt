@@ -11,13 +11,13 @@ use Rattle.finding.proofs.sources.follow_labels.Statement.{statement}
 use Rattle.finding.proofs.sources.follow_labels.Tie as tie
 
 abbrev Inv-loop : tie.InvT-loop
-Inv-loop moves count labels follow enter p taken from₀ pending₀ waiting all₀ a₀ from pending all a =
+Inv-loop moves count labels follow enter p taken from₀ pending₀ moved₀ waiting all₀ a₀ from pending moved all a =
     (a ≤ labels)
     × Followed count (Labelled moves count follow enter (length follow) p (λ s. Member s taken) a) (sources from₀ pending₀ waiting)
     (sources from pending all)
 
 abbrev μ-loop : tie.MeasureT-loop
-μ-loop moves count labels follow enter p taken from₀ pending₀ waiting all₀ a₀ from pending all a = labels - a
+μ-loop moves count labels follow enter p taken from₀ pending₀ moved₀ waiting all₀ a₀ from pending moved all a = labels - a
 
 loop-holds : tie.Need-loop-holds Inv-loop μ-loop
 loop-holds c =
@@ -49,8 +49,8 @@ loop-less c = search needs
 
 loop-again : tie.Need-loop-again Inv-loop μ-loop
 loop-again c =
-    let l = c .before .before .before .before .before .before .before .before .loop in
-    let x = c .before .before .before .before .before .before .before .before .before .before .before .before .args in (
+    let l = c .before .before .before .before .before .before .before .before .before .loop in
+    let x = c .before .before .before .before .before .before .before .before .before .before .before .before .before .args in (
       omega arith,
       followed-then (l .inv .1) (c .before .before .follow-places .ensures)
           (label-next (x .moves .now) (x .count) (x .follow .now) (x .enter .now) (length (x .follow .now)) (x .p)

@@ -10,7 +10,7 @@ use Rattle.theory.specs.Places.{Member, union}
 use Rattle.places.specs.NextPlace.{trailing-here}
 use Rattle.places.specs.Followed.{Passed, passed-none, passed-all, rest-within, least-small}
 use Rattle.finding.specs.Sources.{sources, gainOf, gathered, Followed, Moved}
-use Rattle.finding.specs.SourcesLaws.{followed-none, followed-same, followed-then, followed-as, standing-in, standing-out}
+use Rattle.finding.specs.SourcesLaws.{followed-none, followed-same, followed-then, sources-as, standing-in, standing-out}
 use Rattle.finding.specs.SourcesGathered.{gain-up, gathered-none, gathered-as}
 use native.Mathlib.Omega.{arith}
 use borrow.Author.Needs.{needs}
@@ -86,11 +86,11 @@ loop-again c =
       rest-within (x .taken) (l .rest) (l .inv .1) d (l .inv .0),
       ⊎-elim (λ w. omega (arith, ap length (w .5), w .3 .given, l .inv .2)) (λ w. ap length (w .1) ∙ l .inv .2) (c .if1 .came),
       λ slots. ⊎-elim
-          (λ w. gathered-as (x .pending .now) (x .waiting) (x .next) (w .5) (w .6)
+          (λ w. gathered-as (Followed _ _ _) (x .pending .now) (x .waiting) (x .next) (w .5) (w .6)
           (followed-then (l .inv .3 slots) (w .2 .ensures (x .pending .now) (x .waiting) slots (start .fits .waiting .fits))
           (standing-in (x .moves .now) (x .count) (x .a) (x .p) (x .next) (x .taken) (l .rest) (l .inv .1) d (l .inv .0) (to .result)
           (to .ensures .0) (w .0 .taken))))
-          (λ w. gathered-as (x .pending .now) (x .waiting) (x .next) (w .1) (w .2)
+          (λ w. gathered-as (Followed _ _ _) (x .pending .now) (x .waiting) (x .next) (w .1) (w .2)
           (followed-same (l .inv .3 slots)
           (standing-out (x .moves .now) (x .count) (x .a) (x .p) (x .next) (x .taken) (l .rest) (l .inv .1) d (l .inv .0)
           (omega (arith, w .0 .left, to .ensures .0)))))
@@ -124,7 +124,7 @@ returns c =
     let x = c .before .before .before .before .before .before .before .args in
     let e : c .gain .result * 2 ^ x .next % 2 ^ 64 ≡ gainOf 0 (l .added) * 2 ^ x .next =
     ap (λ g. g * 2 ^ x .next % 2 ^ 64) (c .gain .ensures) ∙ gain-up 0 (l .added) (x .next) (omega arith) in
-    followed-as refl refl (ap (union (x .waiting)) e)
+    sources-as (Followed _ _ _) refl refl (ap (union (x .waiting)) e)
     (followed-same (l .inv .3 (omega (arith, c .before .before .held2 .given))) (λ u v. (
       λ (e, t, n, m, b). (e, passed-all (x .taken) (l .rest) (c .before .before .before .before .loop-test .left) (u .0) .1 t, n, m, b),
       λ (e, t, n, m, b). (e, passed-all (x .taken) (l .rest) (c .before .before .before .before .loop-test .left) (u .0) .0 t, n, m, b),

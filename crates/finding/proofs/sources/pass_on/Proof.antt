@@ -4,6 +4,7 @@ use mathlib.Core.Path.{_≡_, sym, ap, _∙_, subst}
 use lib.ListN.{getD, set}
 use Rattle.theory.specs.Places.{union}
 use Rattle.finding.specs.Sources.{gainOf, gathered, Followed, Only}
+use Rattle.finding.specs.SourcesLaws.{followed-only}
 use Rattle.finding.specs.SourcesGathered.{gain-up, gathered-more}
 use native.Mathlib.Omega.{arith}
 use borrow.Author.Needs.{needs}
@@ -69,8 +70,9 @@ returns c pending waiting slots few =
     (λ z. Followed (x .count) (Only (x .p) (x .s) (x .next) (x .to)) (gathered (x .from .now) pending waiting (x .next) (x .added))
     (gathered (set (x .from .now) k all) pending waiting (x .next) (union (x .added) z)))
     (sym e)
-    (gathered-more (x .count) (x .p) (x .s) (x .next) (x .to) (x .from .now) pending waiting (x .added) (p .2) (p .3)
-    (omega (arith, c .before .before .slice-known2 .given k)) (omega (arith, p .3, p .5)) (omega (arith, p .1, slots)) (p .1) few)
+    (followed-only (p .2)
+    (gathered-more (x .count) (x .next) (x .to) (getD (x .from .now) (x .count * x .p + x .s) 0) (x .from .now) pending waiting (x .added) (p .3)
+    (omega (arith, c .before .before .slice-known2 .given k)) (omega (arith, p .3, p .5)) (omega (arith, p .1, slots)) (p .1) few))
 
 pub pass-on-spec : {M : Type 1} → statement M
 pass-on-spec =

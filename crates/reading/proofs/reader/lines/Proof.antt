@@ -72,8 +72,7 @@ line-requires c κs =
       omega (arith, labels-held (l .inv .2 .held), l .inv .2 .held .few-labels),
       omega (arith, l .inv .0, closed .if1 .left),
       fewer-rows
-          (list-within (start .args .text .now) (l .at) (l .n) (l .p) _ (l .inv .2) (test .loop-test .taken) _ (told (closed .before))
-          (closed .if1 .left))
+          (list-within (start .args .text .now) (l .at) (l .n) (l .p) _ (l .inv .2))
           (l .inv .3) (l .inv .4) (start .pre .1),
     )
 

@@ -5,8 +5,8 @@ use borrow.Author.Needs.{needs}
 use Rattle.verdict.proofs.operation.find_verdict.Statement.{statement}
 use Rattle.verdict.proofs.operation.find_verdict.Tie as tie
 
-find-core-requires : tie.Need-find-core-requires
-find-core-requires c κs = search needs
+find-rows-requires : tie.Need-find-rows-requires
+find-rows-requires c κs = c .before .before .before .before .before .before .before .before .pre .1
 
 enum-known-finding : tie.Need-enum-known-finding
 enum-known-finding c = search needs
@@ -14,10 +14,11 @@ enum-known-finding c = search needs
 found-verdict-requires : tie.Need-found-verdict-requires
 found-verdict-requires c κs =
     let matched = c .before .before .before .before .before in
-    let at-find-core = matched .before .before .before .before .before .before in
-    let start = at-find-core .before .before .before .before .before .before .before in
-    let z = start .pre .1 in (
-      few-states z (at-find-core .find-core .ensures) (start .pre .0) (matched .finding .given .1),
+    let at-find-rows = matched .before .before .before .before .before .before in
+    let start = at-find-rows .before .before .before .before .before .before .before .before .before in
+    let z = start .pre .2 in (
+      few-states z (at-find-rows .find-rows .ensures) (start .pre .0) (matched .finding .given .1),
+      start .pre .1,
       record { few = z .few; table-room = omega arith; flags-room = omega arith; path-room = z .path-room; room = z .room },
     )
 
@@ -40,9 +41,9 @@ returns : tie.Need-returns
 returns c =
     let at-found-verdict = c .before .before .before .before in
     let matched = at-found-verdict .before .before .before .before .before .before in
-    let at-find-core = matched .before .before .before .before .before .before in
-    let start = at-find-core .before .before .before .before .before .before .before in
-    found-judged (start .pre .1) (at-find-core .find-core .ensures) (matched .finding .given .1) (at-found-verdict .found-verdict .ensures)
+    let at-find-rows = matched .before .before .before .before .before .before in
+    let start = at-find-rows .before .before .before .before .before .before .before .before .before in
+    found-judged (start .pre .2) (at-find-rows .find-rows .ensures) (matched .finding .given .1) (at-found-verdict .found-verdict .ensures)
 
 same-length-5 : tie.Need-same-length-5
 same-length-5 c = search needs
@@ -53,15 +54,15 @@ same-length-6 c = search needs
 returns-2 : tie.Need-returns-2
 returns-2 c =
     let matched = c .before in
-    let at-find-core = matched .before .before .before .before .before .before in
-    let start = at-find-core .before .before .before .before .before .before .before in
-    found-refused (start .pre .1) (at-find-core .find-core .ensures) (matched .finding2 .given .1)
+    let at-find-rows = matched .before .before .before .before .before .before in
+    let start = at-find-rows .before .before .before .before .before .before .before .before .before in
+    found-refused (start .pre .2) (at-find-rows .find-rows .ensures) (matched .finding2 .given .1)
 
 pub find-verdict-spec : {M : Type 1} → statement M
 find-verdict-spec =
     tie.close
     (tie.spec
-    find-core-requires
+    find-rows-requires
     enum-known-finding
     found-verdict-requires
     enum-known-finding-2

@@ -12,11 +12,11 @@ mul-end c = search needs
 
 slice-aggregate-verdict : tie.Need-slice-aggregate-verdict
 slice-aggregate-verdict c =
-    sym (length-take-le _ (c .before .before .before .before .before .args .table .now) (omega arith))
+    sym (length-take-le _ (c .before .before .before .before .before .before .before .args .table .now) (omega arith))
 
 slice-aggregate-verdict-2 : tie.Need-slice-aggregate-verdict-2
 slice-aggregate-verdict-2 c =
-    sym (length-take-le _ (c .before .before .before .before .before .before .args .flags .now) (omega arith))
+    sym (length-take-le _ (c .before .before .before .before .before .before .before .before .args .flags .now) (omega arith))
 
 verdict-requires : tie.Need-verdict-requires
 verdict-requires c κs = search needs
@@ -31,8 +31,7 @@ returns : tie.Need-returns
 returns c =
     let at-verdict = c .before .before .before .before in
     let start = at-verdict .before .before .before .before .before .before .before .before .before .before .before .before .before in
-    found-told (omega (arith, start .good)) (omega (arith, start .good)) (omega (arith, start .good)) (omega (arith, start .good))
-    (start .pre .1) (at-verdict .verdict .ensures)
+    found-told (start .pre .1) (omega (arith, start .good)) (omega (arith, start .good)) (start .pre .2) (at-verdict .verdict .ensures)
 
 pub found-verdict-spec : {M : Type 1} → statement M
 found-verdict-spec =

@@ -10,9 +10,10 @@ clear-bytes-requires c κs = search needs
 
 find-verdict-requires : tie.Need-find-verdict-requires
 find-verdict-requires c κs =
-    let start = c .before .before .before .before .before .before .before .before .before .before .before .before in
-    let z = start .pre .1 in (
+    let start = c .before .before .before .before .before .before .before .before .before .before .before .before .before .before in
+    let z = start .pre .2 in (
       start .pre .0,
+      start .pre .1,
       record { few = z .few; table-room = z .table-room; flags-room = z .flags-room; path-room = omega arith; room = z .room },
     )
 
@@ -43,8 +44,8 @@ returns c =
     let at-clear-words = at-answer .before .before .before .before .before in
     let at-find-verdict = at-clear-words .before .before .before .before .before .before .before .before .before .before in
     let at-clear-bytes = at-find-verdict .before .before .before .before .before .before .before in
-    let start = at-clear-bytes .before .before .before .before .before .before in
-    let z = start .pre .1 in
+    let start = at-clear-bytes .before .before .before .before .before .before .before .before in
+    let z = start .pre .2 in
     let k = at-find-verdict .find-verdict .kept in
     λ J g.
     job-left g z (at-clear-bytes .clear-bytes .ensures .enough (z .path-room)) (at-find-verdict .find-verdict .ensures)

@@ -1,30 +1,27 @@
--- `read_verdict` meets its contract: the text is refused, or the tables hold its job.
-use Rattle.verdict.specs.VerdictOperationLaws.{some-job, read-judged, read-refused}
+-- `read_verdict` meets its contract: the text is read into tables of six rows or of 17.
+use Rattle.reading.specs.RowRoom.{enough-rows, all-rows}
+use native.Mathlib.Omega.{arith}
 use borrow.Author.Needs.{needs}
 use Rattle.verdict.proofs.operation.read_verdict.Statement.{statement}
 use Rattle.verdict.proofs.operation.read_verdict.Tie as tie
 
-load-requires : tie.Need-load-requires
-load-requires c κs = search needs
+lists-at-most-requires : tie.Need-lists-at-most-requires
+lists-at-most-requires c κs = search needs
 
-enum-known-told : tie.Need-enum-known-told
-enum-known-told c = search needs
+slice-aggregate-verdict-in : tie.Need-slice-aggregate-verdict-in
+slice-aggregate-verdict-in c = search needs
 
-enum-known-told-2 : tie.Need-enum-known-told-2
-enum-known-told-2 c = search needs
+slice-aggregate-verdict-in-2 : tie.Need-slice-aggregate-verdict-in-2
+slice-aggregate-verdict-in-2 c = search needs
 
-job-verdict-requires : tie.Need-job-verdict-requires
-job-verdict-requires c κs =
-    let matched = c .before .before .before .before .before .before .before .before .before in
-    let at-load = matched .before .before in
-    let start = at-load .before .before .before .before .before .before .before .before .before .before .before in
-    (some-job (start .args .text .now) (at-load .load .ensures) (start .pre) (matched .told2 .given .1), start .pre)
-
-returns : tie.Need-returns
-returns c =
-    let at-load = c .before .before .before in
-    let start = at-load .before .before .before .before .before .before .before .before .before .before .before in
-    read-refused (start .args .text .now) (at-load .load .ensures) (start .pre) (c .before .told .given .1)
+verdict-in-requires : tie.Need-verdict-in-requires
+verdict-in-requires c κs =
+    let at-count = c .before .before .before .before .before .before .before in
+    let start = at-count .before .before .before .before .before .before in (
+      enough-rows 6 (at-count .lists-at-most .result) (start .args .text .now) (at-count .lists-at-most .ensures) (omega arith) (omega arith)
+          (omega arith),
+      start .pre,
+    )
 
 same-length : tie.Need-same-length
 same-length c = search needs
@@ -38,26 +35,53 @@ same-length-3 c = search needs
 same-length-4 : tie.Need-same-length-4
 same-length-4 c = search needs
 
+returns : tie.Need-returns
+returns c = c .before .before .before .before .before .before .before .before .before .before .verdict-in .ensures
+
+slice-aggregate-verdict-in-3 : tie.Need-slice-aggregate-verdict-in-3
+slice-aggregate-verdict-in-3 c = search needs
+
+slice-aggregate-verdict-in-4 : tie.Need-slice-aggregate-verdict-in-4
+slice-aggregate-verdict-in-4 c = search needs
+
+verdict-in-requires-2 : tie.Need-verdict-in-requires-2
+verdict-in-requires-2 c κs =
+    let at-count = c .before .before .before .before .before .before .before in
+    (all-rows _ (omega arith) (omega arith), at-count .before .before .before .before .before .before .pre)
+
+same-length-5 : tie.Need-same-length-5
+same-length-5 c = search needs
+
+same-length-6 : tie.Need-same-length-6
+same-length-6 c = search needs
+
+same-length-7 : tie.Need-same-length-7
+same-length-7 c = search needs
+
+same-length-8 : tie.Need-same-length-8
+same-length-8 c = search needs
+
 returns-2 : tie.Need-returns-2
-returns-2 c =
-    let at-job-verdict = c .before .before .before .before .before .before .before .before in
-    let matched = at-job-verdict .before .before .before .before .before .before .before .before .before .before in
-    let at-load = matched .before .before in
-    let start = at-load .before .before .before .before .before .before .before .before .before .before .before in
-    read-judged (start .args .text .now) (at-load .load .ensures) (start .pre) (matched .told2 .given .1)
-    (at-job-verdict .job-verdict .ensures)
+returns-2 c = c .before .before .before .before .before .before .before .before .before .before .verdict-in2 .ensures
 
 pub read-verdict-spec : {M : Type 1} → statement M
 read-verdict-spec =
     tie.close
     (tie.spec
-    load-requires
-    enum-known-told
-    enum-known-told-2
-    job-verdict-requires
-    returns
+    lists-at-most-requires
+    slice-aggregate-verdict-in
+    slice-aggregate-verdict-in-2
+    verdict-in-requires
     same-length
     same-length-2
     same-length-3
     same-length-4
+    returns
+    slice-aggregate-verdict-in-3
+    slice-aggregate-verdict-in-4
+    verdict-in-requires-2
+    same-length-5
+    same-length-6
+    same-length-7
+    same-length-8
     returns-2)
