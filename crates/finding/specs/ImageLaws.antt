@@ -21,11 +21,9 @@ use Rattle.theory.specs.StandsAt as S
 use Rattle.theory.specs.GlushkovRelations.{path-exactly}
 use Rattle.theory.specs.Closure.{Reaches, here, onward, closure}
 use Rattle.theory.specs.ClosureLaws.{closure-exactly}
-use Rattle.theory.specs.Exploration.{Entry, all}
-use Rattle.finding.specs.Standings.{standings, values, move}
+use Rattle.finding.specs.Standings.{move}
 use Rattle.finding.specs.ListImage.{width, nextNodes, reachedNodes, placesAt, image}
-use Rattle.finding.specs.Numbers.{length-values}
-use Rattle.finding.specs.Numbering.{Numbering, standings-numbering}
+use Rattle.finding.specs.Numbering.{Numbering}
 use Rattle.finding.specs.Nodes.{node, node-below, node-unique, width-glushkov, member-next, entered-within, next-below}
 
 -- The places reached together with the standing j.
@@ -142,11 +140,3 @@ module _ {A : Automaton} {k : ℕ} {found : List ℕ} (N : Numbering A k found) 
   image-exactly labels i j h b =
       let c = member-collect (λ n. accepts B (placesAt B (reachedNodes A found k B i) n)) (length found) j in
       (λ m. accepts-path i j h b (c .0 m .1), λ (p, o, q). c .1 (b, path-accepts labels i j h b p o q))
-
--- The same, where an exploration has found all standings of a query.
-pub standings-image : (q : Expression) (k limit : ℕ) (l : List (Entry ℕ)) (e : Expression) → standings (glushkov q) k limit ≡ all l
-    → LabelsBelow k e → (i j : ℕ) → i < length l → j < length l
-    → Member j (image (glushkov q) (values l) k (glushkov e) i)
-    ↔ ((p : Path) × IsPath e p × (standingFrom (glushkov q) (getD (values l) i 0) p ≡ getD (values l) j 0))
-standings-image q k limit l e found labels i j h b =
-    image-exactly (standings-numbering (glushkov q) k limit l found) e labels i j (rw (length-values l) h) (rw (length-values l) b)

@@ -1,5 +1,5 @@
 -- What the code for the images of a list promises, and that the sources found by the search give it.
-use Prim.Native.Nat.{ℕ, _^_, _≤_, _<_}
+use Prim.Native.Nat.{ℕ, _≤_, _<_}
 use mathlib.Core.List.{List}
 use mathlib.Core.Path.{_≡_}
 use native.Mathlib.Omega.{arith}
@@ -8,14 +8,9 @@ use Rattle.theory.specs.Places.{Member}
 use Rattle.theory.specs.Automaton.{Automaton}
 use Rattle.theory.specs.Closure.{Reaches}
 use Rattle.theory.specs.ClosureLaws.{closed-under}
-use Rattle.theory.specs.Exploration.{Entry, all}
-use Rattle.finding.specs.declared.standings.Explored.{Explored}
-use Rattle.finding.specs.Standings.{standings, values}
-use Rattle.finding.specs.Numbers.{length-values}
-use Rattle.finding.specs.StandingsTold.{StandingsTold}
 use Rattle.finding.specs.ListImage.{imagesFrom}
 use Rattle.finding.specs.Plain.{plain}
-use Rattle.finding.specs.ImageSearch.{Tables, tables, Fitting, Onward}
+use Rattle.finding.specs.ImageSearch.{Tables, Fitting, Onward}
 use Rattle.finding.specs.ImageNodes.{Holds, images-found, entered-below}
 use Rattle.finding.specs.Sources.{Searched}
 use Rattle.finding.specs.SourcesLaws.{reaches-map}
@@ -58,17 +53,3 @@ module _ (D : Tables) (accepting : ℕ) (from out : List ℕ) where
         where
           below : (u v : ℕ × ℕ) → Onward D u v → v .1 < length (D .follow)
           below u v o = entered-below A found D h accepting (o .label) (v .1) (getD (D .follow) (u .1) 0) (o .below) (o .enters)
-
--- The moves that the exploration of the standings promises (StandingsTold) are such tables.
-pub standings-hold : (queryFollow queryEnter : List ℕ) (labels limit : ℕ) (r : Explored) (found moves : List ℕ) (l : List (Entry ℕ))
-    → StandingsTold queryFollow queryEnter labels limit r found moves → standings (plain queryFollow queryEnter 0) labels limit ≡ all l
-    → (follow enter : List ℕ) → 0 < length follow → ((a : ℕ) → a < labels → getD enter a 0 < 2 ^ length follow)
-    → Holds (plain queryFollow queryEnter 0) (values l) (tables moves (length l) labels follow enter)
-standings-hold queryFollow queryEnter labels limit r found moves l t e follow enter some within =
-    record {
-      size = length-values l;
-      moved = t .moved l e;
-      inside = t .inside l e;
-      start = some;
-      within = within;
-    }

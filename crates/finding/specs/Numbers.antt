@@ -9,7 +9,7 @@ use borrow.Author.Tests.{eqb-true, eqb-false}
 use lib.Dec.{eqb}
 use lib.ListN.{length, getD}
 use Rattle.theory.specs.Exploration.{System, Entry}
-use Rattle.theory.specs.Explored.{Reached, valueAt, Explored}
+use Rattle.theory.specs.Explored.{valueAt, Explored}
 use Rattle.theory.specs.ExploredLaws.{explored-start, found-step}
 use Rattle.finding.specs.Standings.{values, placeFrom, placeOf}
 
@@ -82,10 +82,6 @@ module _ {S : System ℕ} {l : List (Entry ℕ)} (x : Explored S l) where
   found-place v i h e =
       let k : i < length (values l) = omega (arith, length-values l) in
       placeOf-finds v (values l) i k (value-at i k ∙ e)
-
-  pub reached-place : (v : ℕ) (w : List ℕ) → Reached S v w
-      → (placeOf v (values l) < length (values l)) × (getD (values l) (placeOf v (values l)) 0 ≡ v)
-  reached-place v w r = let (i, h, e) = x .reached v w r in found-place v i h e
 
   pub step-place : (i a v : ℕ) → i < length (values l) → a < S .symbols → S .step (getD (values l) i 0) a ≡ some v
       → (placeOf v (values l) < length (values l)) × (getD (values l) (placeOf v (values l)) 0 ≡ v)

@@ -2,7 +2,7 @@
 use Prim.Native.Nat.{ℕ, zero, suc, _+_, _*_, _/_, _<_, _≤_}
 use mathlib.Core.Bool.{Bool, true, false, _&&_, not}
 use mathlib.Core.List.{List, [], _∷_, _++_, append-assoc}
-use mathlib.Core.Path.{_≡_, refl, sym, ap, ap₂, _∙_}
+use mathlib.Core.Path.{_≡_, refl, sym, ap, _∙_}
 use native.Mathlib.Decide.{decLe}
 use native.Mathlib.Nat.{add-assoc}
 use native.Mathlib.Numerals.{add-one}
@@ -35,9 +35,6 @@ names-append text (suc k) (a ∷ (b ∷ l)) start size h = ap (λ t. take b (dro
 -- The table l with a pair stored behind its first k pairs.
 abbrev pub stored : List ℕ → ℕ → ℕ → ℕ → List ℕ
 stored l k start size = set (set l k start) (k + 1) size
-
-length-stored : (l : List ℕ) (k start size : ℕ) → length (stored l k start size) ≡ length l
-length-stored l k start size = simp length-set
 
 -- The pair behind the first k entries.
 take-stored : (l : List ℕ) (k start size : ℕ) → k + 1 < length l

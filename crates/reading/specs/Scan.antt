@@ -65,9 +65,6 @@ cut-before b s = cuts b s .0
 pub uncut-before : (b : ℕ) (s : Bytes) → length s ≤ before b s → cutAt b s ≡ uncut
 uncut-before b s = cuts b s .1
 
-pub before-within : (b : ℕ) (s : Bytes) → before b s ≤ length s
-before-within b s = cuts b s .2
-
 -- Whether a text begins with a word.
 abbrev pub begins : Bytes → Bytes → Bool
 begins w s = isSome (after w s)

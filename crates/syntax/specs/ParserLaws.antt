@@ -60,9 +60,6 @@ enough-calls factors (suc k) (suc m) s h g =
     factor-same (Parser.alternatives k) (Parser.alternatives m) s
     (λ v e. enough-calls alternatives k m v (omega (arith, ap length e)) (omega (arith, ap length e)))
 
-pub alternatives-calls : (s : Bytes) (k : ℕ) → 3 * length s + 3 < k → Parser.alternatives k s ≡ Parser.alternatives (calls (length s)) s
-alternatives-calls s k h = enough-calls alternatives k (calls (length s)) s h (omega arith)
-
 -- A text has a tree where the reader reads all of it.
 whole : (p : Parsed) (t : Tree)
     → (elim p as (λ z. Option Tree) [ failed ↦ none | parsed u r ↦ elim r [ [] ↦ some u | b ∷ v ↦ none ] ]) ≡ some t → p ≡ parsed t []

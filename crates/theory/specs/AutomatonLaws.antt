@@ -226,12 +226,6 @@ member-follows k (optional e) i y h = member-follows k e i y h
 pub first-below : (k : ℕ) (e : Expression) → first k e < 2 ^ (k + size e)
 first-below k e = members-below (k + size e) (first k e) (λ x m. first-within k e x (member-first k e x .0 m) .1)
 
-pub last-below : (k : ℕ) (e : Expression) → last k e < 2 ^ (k + size e)
-last-below k e = members-below (k + size e) (last k e) (λ x m. last-within k e x (member-last k e x .0 m) .1)
-
-pub labelled-below : (k : ℕ) (e : Expression) (a : Label) → labelled k e a < 2 ^ (k + size e)
-labelled-below k e a = members-below (k + size e) (labelled k e a) (λ x m. labelled-within k e x a (member-labelled k e a x .0 m) .1)
-
 -- A table's entry that has a member is in the table.
 pub entry-within : (t : List ℕ) (x y : ℕ) → Member y (getD t x 0) → x < length t
 entry-within [] x y m = absurd (member-none y m)

@@ -3,10 +3,9 @@
 use Prim.Native.Nat.{ℕ, zero, suc, _≤_, _<_}
 use mathlib.Core.Bool.{true, false}
 use mathlib.Core.List.{List, [], _∷_, _++_}
-use mathlib.Core.Option.{some, none}
+use mathlib.Core.Option.{some}
 use mathlib.Core.Path.{_≡_, refl}
-use lib.ListN.{length, getD}
-use lib.Dec.{ltb}
+use lib.ListN.{length}
 use borrow.Author.Tests.{lt-ltb, le-ltb}
 use Rattle.theory.specs.Exploration.{System, Entry, Exploration, all, over, known, grow, extend, row, sweep, explore}
 use Rattle.theory.specs.Explored.{entryAt}
@@ -24,10 +23,6 @@ module _ {A : Type 0} (S : System A) (limit : ℕ) where
   pub grow-over : (e : Entry A) (found : List (Entry A)) → known S (e .value) found ≡ false → limit ≤ length found → grow S limit e found ≡ over
   unfolding grow
   grow-over e found h l = rw (h, grow, le-ltb (length found) limit l)
-
-  pub extend-none : (e : Entry A) (a : ℕ) (found : List (Entry A)) → S .step (e .value) a ≡ none → extend S limit e a found ≡ all found
-  unfolding extend
-  extend-none e a found h = rw (h, extend)
 
   pub extend-some : (e : Entry A) (a : ℕ) (found : List (Entry A)) (v : A) → S .step (e .value) a ≡ some v
       → extend S limit e a found ≡ grow S limit (record { value = v; trail = a ∷ e .trail }) found

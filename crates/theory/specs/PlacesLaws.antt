@@ -9,7 +9,7 @@ use native.Mathlib.Nat.{zero-div, div-one, div-eq-of-lt, le-trans, le-refl, pow-
 use native.Mathlib.Numerals.{one-add}
 use native.Mathlib.Omega.{arith}
 use lib.Arith.{bin-ind}
-use lib.Bits.{bitAnd, bitOr, and-shr, and-step, and-lt, or-shr, or-step, or-lt}
+use lib.Bits.{bitAnd, bitOr, and-shr, and-step, or-shr, or-step, or-lt}
 use lib.Pow.{pow-pos, pow-mono, pow-lt, shr-shr}
 use borrow.Author.Tests.{eqb-true, eq-eqb}
 use Rattle.theory.specs.Places.{Member, member, none, one, union, intersection, when, collect, unionOver}
@@ -117,9 +117,6 @@ one-below w i h = pow-lt h
 
 pub union-below : (w s t : ℕ) → s < 2 ^ w → t < 2 ^ w → union s t < 2 ^ w
 union-below w s t h l = or-lt w s t h l
-
-pub intersection-below : (w s t : ℕ) → s < 2 ^ w → t < 2 ^ w → intersection s t < 2 ^ w
-intersection-below w s t h l = and-lt w s t h l
 
 pub when-below : (w : ℕ) (b : Bool) (s : ℕ) → s < 2 ^ w → when b s < 2 ^ w
 when-below w true s h = h

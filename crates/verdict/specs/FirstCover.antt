@@ -99,14 +99,16 @@ module _ (states n : ℕ) (follow enter sizes accepting table flags : List ℕ) 
           (start-exactly (w * (states * o + q)) .1
           (table-reached-back states n follow enter sizes accepting table flags counted room 0 (states * o + q) r))
 
+-- r is the set of the states reached, at least where these are below the number of places: of proper tables they are.
 pub first-stands : {states n : ℕ} {follow enter sizes accepting table : List ℕ} {w : ℕ} → Ready states n follow enter sizes accepting table w
-    → (first r : List ℕ) → FirstReached n accepting table first → numberOf r ≡ numberOf first
+    → (first r : List ℕ) → FirstReached n accepting table first → (numberOf first < 2 ^ (states * w) → numberOf r ≡ numberOf first)
     → StartStands w states n follow enter sizes accepting table r
 first-stands {states} {n} {follow} {enter} {sizes} {accepting} {table} {w} ready first r f same =
     subst (λ z. StartStands z states n follow enter sizes accepting table r) (sym (ready .wide))
     (record {
       told = λ proper flags.
+          let turned = turned-start states n follow enter sizes accepting table flags proper first f in
           turned-stands (suc (occupied sizes 0 n)) states _ (numberOf r) (omega arith)
-          (subst (Turned (suc (occupied sizes 0 n)) states _) (sym same)
-          (turned-start states n follow enter sizes accepting table flags proper first f));
+          (subst (Turned (suc (occupied sizes 0 n)) states _)
+          (sym (same (subst (λ z. numberOf first < 2 ^ (states * z)) (sym (ready .wide)) (turned .turned-below)))) turned);
     })

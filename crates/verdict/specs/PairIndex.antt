@@ -1,12 +1,12 @@
 -- An index of the pairs in a workspace (PairTable), by which a pair is found again (finding: Buckets): 4,093 buckets.
-use Prim.Native.Nat.{ℕ, _+_, _*_, _%_, _^_, _≤_}
+use Prim.Native.Nat.{ℕ, _+_, _*_, _%_, _^_, _≤_, _<_}
 use mathlib.Core.List.{List}
 use mathlib.Core.Path.{_≡_}
 use lib.ListN.{drop}
 use Rattle.places.specs.Words.{numberOf}
 use Rattle.finding.specs.Buckets.{Chained}
 use Rattle.verdict.specs.Pairs.{Pair}
-use Rattle.verdict.specs.PairTable.{pairAt}
+use Rattle.verdict.specs.PairTable.{wordsAt, pairAt}
 use Rattle.verdict.specs.declared.pairs.Explored.{Explored}
 use Rattle.verdict.specs.declared.pairs.Explored.the-variants.{All}
 
@@ -35,3 +35,11 @@ pub record Indexed (space : List ℕ) (n : ℕ) (heads nexts : List ℕ) : Type 
 -- As many pairs as are told are indexed.
 abbrev pub IndexedAll : (space heads nexts : List ℕ) → Explored → Type 0
 IndexedAll space heads nexts r = (m : ℕ) → r ≡ All m → Indexed space m heads nexts
+
+-- The cover sets of the first n pairs stand in their first `used` words.
+pub record Short (used : ℕ) (space : List ℕ) (n : ℕ) : Type 0 where
+  pub below : (i : ℕ) → i < n → numberOf (wordsAt space (18 * i + 1) 16) < 2 ^ (64 * used)
+
+-- Those of as many pairs as are told do.
+abbrev pub ShortAll : (used : ℕ) (space : List ℕ) → Explored → Type 0
+ShortAll used space r = (m : ℕ) → r ≡ All m → Short used space m

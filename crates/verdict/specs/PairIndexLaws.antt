@@ -9,6 +9,7 @@ use native.Mathlib.Numerals.{add-one}
 use native.Mathlib.Omega.{arith}
 use lib.ListN.{length, getD, drop, replicate}
 use lib.Pow.{pow-add}
+use borrow.Author.Count.{below-none, below-more}
 use Rattle.places.specs.Words.{numberOf}
 use Rattle.finding.specs.Buckets.{Noted, Walk}
 use Rattle.finding.specs.BucketsLaws.{chained-none, chained-more}
@@ -17,7 +18,7 @@ use Rattle.verdict.specs.PairTable.{pairAt, Stored, Seen}
 use Rattle.verdict.specs.PairTableLaws.{stored-pair, other-pair}
 use Rattle.verdict.specs.Workspace.{pair}
 use Rattle.verdict.specs.WordBits.{number-past}
-use Rattle.verdict.specs.PairIndex.{bucketOf, lowWeight, highWeight, Summed, Indexed, IndexedAll}
+use Rattle.verdict.specs.PairIndex.{bucketOf, lowWeight, highWeight, Summed, Indexed, IndexedAll, Short, ShortAll}
 use Rattle.verdict.specs.declared.pairs.Explored.the-variants.{All, Over}
 
 pub bucket-below : (x : Pair) → bucketOf x < 4093
@@ -138,6 +139,29 @@ indexed-all {space} {heads} {nexts} {n} old m e = let z : n ≡ m = cc in subst 
 
 pub indexed-over : {space heads nexts : List ℕ} → IndexedAll space heads nexts Over
 indexed-over m e = let z : _≡_ {A = ℕ} 0 1 = cc in absurd (omega arith)
+
+-- No pair is in the workspace.
+pub short-none : (used : ℕ) (space : List ℕ) → Short used space 0
+short-none used space = record { below = below-none (λ i. pairAt space i .cover < 2 ^ (64 * used)) }
+
+-- The pair number m is stored.
+pub short-more : {space : List ℕ} {m standing : ℕ} {cover : List ℕ} {link : ℕ} {space′ : List ℕ} → Stored space m standing cover link space′
+    → length cover ≡ 16 → {used : ℕ} → numberOf cover < 2 ^ (64 * used) → Short used space m → Short used space′ (m + 1)
+short-more {space} {m} {cover} {space′} s sized {used} h old =
+    record {
+      below = below-more (λ i. pairAt space′ i .cover < 2 ^ (64 * used)) m
+          (λ i k. subst (λ x. x .cover < 2 ^ (64 * used)) (sym (other-pair s i k)) (old .below i k))
+          (subst (λ x. x .cover < 2 ^ (64 * used)) (sym (stored-pair s sized)) h);
+    }
+
+pub short-same : {used : ℕ} {space space′ : List ℕ} {n n′ : ℕ} → space′ ≡ space → n′ ≡ n → Short used space n → Short used space′ n′
+short-same {used} e z old = subst₂ (Short used) (sym e) (sym z) old
+
+pub short-all : {used : ℕ} {space : List ℕ} {n : ℕ} → Short used space n → ShortAll used space (All n)
+short-all {used} {space} {n} old m e = let z : n ≡ m = cc in subst (Short used space) z old
+
+pub short-over : {used : ℕ} {space : List ℕ} → ShortAll used space Over
+short-over m e = let z : _≡_ {A = ℕ} 0 1 = cc in absurd (omega arith)
 
 -- What the walk along the chain of x's bucket ends with.
 module _ (space : List ℕ) (n : ℕ) (x : Pair) (c : ℕ) (walk : Walk bucketOf (pairAt space) n x c) where

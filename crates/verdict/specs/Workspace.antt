@@ -13,6 +13,7 @@ use Rattle.verdict.specs.Pairs.{Pair}
 use Rattle.verdict.specs.PairTable.{wordsAt, pairAt, Stored}
 use Rattle.verdict.specs.CodedLaws.{pair-path}
 use Rattle.verdict.specs.PairTableLaws.{length-words, word-at, words-below, words-known}
+use Rattle.verdict.specs.WordBits.{number-short}
 
 -- The pair of a standing and a cover set as words.
 abbrev pub pair : ℕ → List ℕ → Pair
@@ -83,10 +84,13 @@ pub words-same : (space : List ℕ) (x n : ℕ) (words : List ℕ) → getD spac
 words-same space x n words e s =
     record { size = s .size; same = below-more (λ j. getD words j 0 ≡ getD space (x + j) 0) n (s .same) (sym e) }
 
-pub pair-same : (space : List ℕ) (i standing n : ℕ) (cover : List ℕ) → 16 ≤ n → Words space (18 * i + 1) n cover
-    → getD space (18 * i) 0 ≡ standing → pairAt space i ≡ pair standing cover
-pair-same space i standing n cover h s e =
-    pair-path e (ap numberOf (sym (words-end space (18 * i + 1) n cover h s)))
+-- Sets that stand in their first n words are compared in these alone.
+pub pair-same : (space : List ℕ) (i standing n : ℕ) (cover : List ℕ) → n ≤ 16 → numberOf (wordsAt space (18 * i + 1) 16) < 2 ^ (64 * n)
+    → numberOf cover < 2 ^ (64 * n) → Words space (18 * i + 1) n cover → getD space (18 * i) 0 ≡ standing → pairAt space i ≡ pair standing cover
+pair-same space i standing n cover h a b s e =
+    pair-path e
+    (number-short n (wordsAt space (18 * i + 1) 16) cover a b
+    (λ j k. word-at space (18 * i + 1) 16 j (omega arith) ∙ sym (s .same j k)))
 
 pub standing-differs : (space : List ℕ) (i standing : ℕ) (cover : List ℕ) → getD space (18 * i) 0 ≢ standing → pairAt space i ≡ pair standing cover → ⊥
 standing-differs space i standing cover d e = d (ap (λ x. x .standing) e)

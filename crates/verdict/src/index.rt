@@ -4,9 +4,9 @@ ghost use mathlib.Core.Path.{_≡_};
 ghost use lib.ListN.{length};
 ghost use Rattle.places.specs.Words.{numberOf};
 ghost use Rattle.finding.specs.Buckets.{Noted};
-ghost use Rattle.verdict.specs.PairTable.{Compared, Seen};
+ghost use Rattle.verdict.specs.PairTable.{wordsAt, Compared, Seen};
 ghost use Rattle.verdict.specs.Workspace.{pair};
-ghost use Rattle.verdict.specs.PairIndex.{bucketOf, Indexed};
+ghost use Rattle.verdict.specs.PairIndex.{bucketOf, Indexed, Short};
 
 // The remainders by 4,093 of 2 ^ (64 × (j + 1)), with which the lower half of the word j counts, and of 2 ^ (64 × (j + 1) + 32), with which
 // its upper half does.
@@ -91,9 +91,11 @@ pub fn note(heads: &mut [u16; 4093], nexts: &mut [u16; 4096], at: usize, m: usiz
     heads[at] = (m + 1) as u16;
 }
 
-// Whether the pair number i is the given one: compared where it stands, the standing first, up to the first word that differs.
-fn is_pair(workspace: &[u64], i: usize, standing: u64, cover: &[u64; 16]) -> bool
-    requires { ⌜ 18 * i + 18 ≤ length (now workspace) ⌝ }
+// Whether the pair number i is the given one: compared where it stands, the standing first, up to the first word that differs. Both cover
+// sets stand in their first `used` words.
+fn is_pair(workspace: &[u64], i: usize, standing: u64, cover: &[u64; 16], used: usize) -> bool
+    requires { ⌜ (18 * i + 18 ≤ length (now workspace)) × (used ≤ 16) × (numberOf (now cover) < 2 ^ (64 * used))
+        × (numberOf (wordsAt (now workspace) (18 * i + 1) 16) < 2 ^ (64 * used)) ⌝ }
     ensures { λ r. ⌜ Compared (now (workspace .entry)) i (pair standing (now (cover .entry))) r ⌝ }
 {
     if workspace[18 * i] != standing {
@@ -102,7 +104,7 @@ fn is_pair(workspace: &[u64], i: usize, standing: u64, cover: &[u64; 16]) -> boo
     let words: &[u64] = cover;
     let from = 18 * i + 1;
     let mut j = 0;
-    while j < 16 {
+    while j < used {
         if workspace[from + j] != words[j] {
             return false;
         }
@@ -111,7 +113,8 @@ fn is_pair(workspace: &[u64], i: usize, standing: u64, cover: &[u64; 16]) -> boo
     true
 }
 
-// Whether the pair, of the bucket `at`, is among the first n: it is looked for along its chain.
+// Whether the pair, of the bucket `at`, is among the first n: it is looked for along its chain. All cover sets stand in their first `used`
+// words.
 pub fn seen(
     workspace: &[u64],
     heads: &[u16; 4093],
@@ -120,15 +123,17 @@ pub fn seen(
     n: usize,
     standing: u64,
     cover: &[u64; 16],
+    used: usize,
 ) -> bool
     requires { ⌜ (18 * n ≤ length (now workspace)) × (n ≤ 4096) × (at ≡ bucketOf (pair standing (now cover)))
-        × Indexed (now workspace) n (now heads) (now nexts) ⌝ }
+        × Indexed (now workspace) n (now heads) (now nexts) × (used ≤ 16) × (numberOf (now cover) < 2 ^ (64 * used))
+        × Short used (now workspace) n ⌝ }
     ensures { λ r. ⌜ Seen n (now (workspace .entry)) (pair standing (now (cover .entry))) r ⌝ }
 {
     let mut next = heads[at] as usize;
     while 0 < next {
         let i = next - 1;
-        if is_pair(workspace, i, standing, cover) {
+        if is_pair(workspace, i, standing, cover, used) {
             return true;
         }
         next = nexts[i] as usize;

@@ -1,5 +1,5 @@
 // Cover sets as they stand in the workspace, turned where a width is given: the first one, and the step over a label.
-ghost use Prim.Native.Nat.{suc, _+_, _*_, _^_, _≤_, _<_};
+ghost use Prim.Native.Nat.{ℕ, suc, _+_, _*_, _^_, _≤_, _<_};
 ghost use mathlib.Core.Path.{_≡_};
 ghost use lib.ListN.{length};
 ghost use Rattle.places.specs.Words.{numberOf};
@@ -36,7 +36,26 @@ fn copy(set: Wide, words: &mut [u64])
     }
 }
 
-// The cover set of the empty path. Where it stands turned, it has states alone: those that are reached from the first.
+// The states that are reached from the first, as far as they stand in the first `used` words.
+fn reached_words(first: &[u64; 4], used: usize) -> Wide
+    ensures { λ r. ⌜ (numberOf (r .words) < 2 ^ (64 * used))
+        × (numberOf (now (first .entry)) < 2 ^ (64 * used) → numberOf (r .words) ≡ numberOf (now (first .entry))) ⌝ }
+{
+    let reached: &[u64] = first;
+    let mut words = [0; 16];
+    let mut j = 0;
+    while j < 4 {
+        if used <= j {
+            return Wide { words };
+        }
+        words[j] = reached[j];
+        j += 1;
+    }
+    Wide { words }
+}
+
+// The cover set of the empty path. Where it stands turned, it has states alone: those that are reached from the first, in the words that have
+// all places of a set.
 pub fn first_cover(
     states: u64,
     table: &[u16],
@@ -47,22 +66,17 @@ pub fn first_cover(
     lists: usize,
     w: u64,
     first: &[u64; 4],
+    used: usize,
 ) -> Wide
     requires { ⌜ (0 < w → Ready states lists (now follow) (now enter) (now sizes) (now accepting) (now table) w
-        × FirstReached lists (now accepting) (now table) (now first)) ⌝ }
+        × FirstReached lists (now accepting) (now table) (now first)) × Used states w used ⌝ }
     ensures { λ r. ⌜ StartStands w states lists (now (follow .entry)) (now (enter .entry)) (now (sizes .entry)) (now (accepting .entry)) (now (table .entry))
-        (r .words) ⌝ }
+        (r .words) × (numberOf (r .words) < 2 ^ (64 * used)) ⌝ }
 {
     if w == 0 {
         return cover_start(states, table, follow, enter, sizes, accepting, lists);
     }
-    let reached: &[u64] = first;
-    let mut words = [0; 16];
-    words[0] = reached[0];
-    words[1] = reached[1];
-    words[2] = reached[2];
-    words[3] = reached[3];
-    Wide { words }
+    reached_words(first, used)
 }
 
 // How many words have all places of a set as it stands: where it is turned, as many as its places need.
@@ -107,7 +121,7 @@ pub fn lay(
     }
 }
 
-// The step by columns, into words of which the first `used` hold a set of before.
+// The step by columns, into words that hold a set of before. All sixteen are cleared: their number is known when the code is compiled.
 fn step_turned(
     enter: &[u64],
     sizes: &[u64],
@@ -119,19 +133,18 @@ fn step_turned(
     ended: &[u64],
     laid: &[u64],
     states: u64,
-    used: usize,
     cover: &mut [u64; 16],
 )
     requires { ⌜ Counted lists (now sizes) × (a < 32) × (32 * lists + 32 ≤ length (now enter)) × (lists < length (now accepting))
         × (w ≡ suc (occupied (now sizes) 0 lists)) × PlacesWithin lists (now sizes) (now before) × (0 < states) × (states ≤ 64)
-        × (states * w ≤ 1024) × StatesWithin w states (now laid) × EndedWithin states lists (now ended) × (used ≤ 16)
-        × (numberOf (now cover) < 2 ^ (64 * used)) × (w ≤ length (now laid)) × (64 * lists ≤ length (now before))
+        × (states * w ≤ 1024) × StatesWithin w states (now laid) × EndedWithin states lists (now ended)
+        × (w ≤ length (now laid)) × (64 * lists ≤ length (now before))
         × (64 * lists ≤ length (now ended)) ⌝ }
     ensures { λ _. ⌜ Stepped lists a (now (enter .entry)) (now (sizes .entry)) (now (accepting .entry)) (now (before .entry))
         (now (ended .entry)) (now (laid .entry)) (columnIn states (now (cover .exit))) × (numberOf (now (cover .exit)) < 2 ^ (states * w))
         × (length (now (cover .exit)) ≡ 16) ⌝ }
 {
-    clear_words(cover, used);
+    clear_words(cover, 16);
     step_columns(
         enter,
         sizes,
@@ -148,7 +161,7 @@ fn step_turned(
 }
 
 // The step of the cover set of the pair number i over the label a, as sets stand. `laid` has the columns of the set, or the rows that can
-// come next; `cover` has a set of before, in its first `used` words.
+// come next; `cover` has a set of before.
 pub fn next_cover(
     states: u64,
     table: &[u16],
@@ -165,15 +178,13 @@ pub fn next_cover(
     before: &[u64],
     ended: &[u64],
     laid: &[u64],
-    used: usize,
     cover: &mut [u64; 16],
 )
     requires { ⌜ Laid states lists (now follow) (now enter) (now sizes) (now accepting) (now table) w rows (now before) (now ended)
-        (wordsAt (now workspace) (18 * i + 1) 16) (now laid) × (a < 32) × (18 * i + 18 ≤ length (now workspace)) × Used states w used
-        × (numberOf (now cover) < 2 ^ (64 * used)) ⌝ }
+        (wordsAt (now workspace) (18 * i + 1) 16) (now laid) × (a < 32) × (18 * i + 18 ≤ length (now workspace)) ⌝ }
     ensures { λ _. ⌜ StepStands w states lists (now (follow .entry)) (now (enter .entry)) (now (sizes .entry)) (now (accepting .entry)) (now (table .entry)) a
-        (wordsAt (now (workspace .entry)) (18 * i + 1) 16) (now (cover .exit)) × (numberOf (now (cover .exit)) < 2 ^ (64 * used))
-        × (length (now (cover .exit)) ≡ 16) ⌝ }
+        (wordsAt (now (workspace .entry)) (18 * i + 1) 16) (now (cover .exit))
+        × ((used : ℕ) → Used states w used → numberOf (now (cover .exit)) < 2 ^ (64 * used)) × (length (now (cover .exit)) ≡ 16) ⌝ }
 {
     if 0 < rows {
         clear_words(cover, 16);
@@ -198,7 +209,7 @@ pub fn next_cover(
     if 64 < states {
         let from = 18 * i + 1;
         let to = from + 16;
-        clear_words(cover, used);
+        clear_words(cover, 16);
         step_ranges(
             enter,
             sizes,
@@ -225,7 +236,6 @@ pub fn next_cover(
         ended,
         laid,
         states,
-        used,
         cover,
     );
 }

@@ -5,7 +5,8 @@ ghost use mathlib.Core.Path.{_≡_};
 ghost use lib.ListN.{length};
 ghost use Rattle.verdict.specs.PairTable.{Stored};
 ghost use Rattle.verdict.specs.Workspace.{Put, pair};
-ghost use Rattle.verdict.specs.PairIndex.{bucketOf, Indexed, IndexedAll};
+ghost use Rattle.verdict.specs.PairIndex.{bucketOf, Indexed, IndexedAll, Short, ShortAll};
+ghost use Rattle.verdict.specs.NextCover.{Used};
 ghost use Rattle.verdict.specs.PairsTold.{lent, QueryFollows, QueryStep, RowTold, PairsTold};
 ghost use Rattle.verdict.specs.Prepared.{FirstReached, Prepared, RowsReady};
 use crate::index::bucket;
@@ -118,22 +119,23 @@ fn row(
     before: &[u64],
     ended: &[u64],
     laid: &mut [u64],
+    used: usize,
     workspace: &mut [u64],
     heads: &mut [u16; 4093],
     nexts: &mut [u16; 4096],
 ) -> Explored
     requires { ⌜ (i < n) × (n ≤ limit) × (limit ≤ 4096) × (labels ≤ 32) × (18 * limit ≤ length (now workspace))
-        × Indexed (now workspace) n (now heads) (now nexts)
+        × Indexed (now workspace) n (now heads) (now nexts) × Used states w used × Short used (now workspace) n
         × (0 < w → Prepared states lists (now follow) (now enter) (now sizes) (now accepting) (now table) w (now before) (now ended))
         × (w ≤ length (now laid))
         × (0 < rows → RowsReady states lists (now follow) (now enter) (now sizes) (now accepting) (now table) w rows (now before) (now ended) (now laid)) ⌝ }
     ensures { λ r. ⌜ RowTold (lent states labels lists (now (follow .entry)) (now (enter .entry)) (now (sizes .entry)) (now (accepting .entry)) (now (table .entry)))
         w limit i n (now (workspace .entry)) r (now (workspace .exit)) ⌝ }
-    ensures indexed { λ r. ⌜ IndexedAll (now (workspace .exit)) (now (heads .exit)) (now (nexts .exit)) r ⌝ }
+    ensures indexed { λ r. ⌜ IndexedAll (now (workspace .exit)) (now (heads .exit)) (now (nexts .exit)) r
+        × ShortAll used (now (workspace .exit)) r ⌝ }
 {
     let from = workspace[18 * i];
     lay(states, w, rows, before, workspace, i, laid);
-    let used = used_words(states, w);
     let mut cover: [u64; 16] = [0; 16];
     let after = query_follows(follow, sizes, from);
     let mut m = n;
@@ -156,11 +158,10 @@ fn row(
             before,
             ended,
             laid,
-            used,
             &mut cover,
         );
         let at = bucket(standing, &cover, used);
-        if !seen(workspace, heads, nexts, at, m, standing, &cover) {
+        if !seen(workspace, heads, nexts, at, m, standing, &cover, used) {
             if m == limit {
                 return Explored::Over;
             }
@@ -202,6 +203,7 @@ fn sweep(
 {
     let mut heads: [u16; 4093] = [0; 4093];
     let mut nexts: [u16; 4096] = [0; 4096];
+    let used = used_words(states, w);
     let start = first_cover(
         states,
         table,
@@ -212,9 +214,10 @@ fn sweep(
         lists,
         w,
         first,
+        used,
     );
     let cover = start.words;
-    let at = bucket(1, &cover, 16);
+    let at = bucket(1, &cover, used);
     add(workspace, &mut heads, &mut nexts, at, 0, 1, &cover, 0);
     let mut n: usize = 1;
     let mut i = 0;
@@ -236,6 +239,7 @@ fn sweep(
             before,
             ended,
             laid,
+            used,
             workspace,
             &mut heads,
             &mut nexts,

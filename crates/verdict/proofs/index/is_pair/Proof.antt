@@ -1,7 +1,7 @@
--- The loop's invariant: the standings and the first j words of the cover sets are equal.
+-- The loop's invariant: the standings and the first j words of the cover sets are equal. The words from `used` on are zero.
 use Prim.Native.Nat.{_+_, _*_, _-_, _≤_}
 use mathlib.Core.Bool.{true≢false, false≢true}
-use mathlib.Core.Path.{_≡_, refl, sym, ap, _∙_}
+use mathlib.Core.Path.{_≡_, refl, sym, ap, _∙_, subst}
 use lib.ListN.{getD}
 use Rattle.verdict.specs.Workspace.{Words, words-start, words-same, pair-same, standing-differs, word-differs}
 use native.Mathlib.Omega.{arith}
@@ -10,10 +10,10 @@ use Rattle.verdict.proofs.index.is_pair.Statement.{statement}
 use Rattle.verdict.proofs.index.is_pair.Tie as tie
 
 abbrev Inv-loop : tie.InvT-loop
-Inv-loop workspace i standing cover words from j₀ j = (from ≡ 18 * i + 1) × (j ≤ 16) × Words workspace (18 * i + 1) j words
+Inv-loop workspace i standing cover used words from j₀ j = (from ≡ 18 * i + 1) × (j ≤ used) × Words workspace (18 * i + 1) j words
 
 abbrev μ-loop : tie.MeasureT-loop
-μ-loop workspace i standing cover words from j₀ j = 16 - j
+μ-loop workspace i standing cover used words from j₀ j = used - j
 
 mul-if1 : tie.Need-mul-if1 Inv-loop μ-loop
 mul-if1 c = search needs
@@ -66,7 +66,7 @@ returns-2 c =
       same = λ q. absurd (false≢true q);
       differs = λ q. word-differs (s .args .workspace .now) (s .args .i) (s .args .standing) (l .j) (s .args .cover .now)
           (λ k. omega (arith, c .before .before .before .before .before .before .before .shared-slice-known .given k))
-          (λ k. omega (arith, c .before .shared-slice-known3 .given k)) (l .inv .2 .size) (c .before .before .before .loop-test .taken)
+          (λ k. omega (arith, c .before .shared-slice-known3 .given k)) (l .inv .2 .size) (omega (arith, c .before .before .before .loop-test .taken, s .pre .1))
           (λ e. c .if2 .taken (ap (λ x. getD (s .args .workspace .now) (x + l .j) 0) (l .inv .0) ∙ e));
     }
 
@@ -90,9 +90,10 @@ returns-3 : tie.Need-returns-3 Inv-loop μ-loop
 returns-3 c =
     let l = c .before .loop in
     let s = c .before .before .before .before .before in
+    let e : l .j ≡ s .args .used = omega (arith, l .inv .1, c .loop-test .left) in
     record {
-      same = λ q. pair-same (s .args .workspace .now) (s .args .i) (s .args .standing) (l .j) (s .args .cover .now)
-          (c .loop-test .left) (l .inv .2) (c .before .before .before .if1 .left);
+      same = λ q. pair-same (s .args .workspace .now) (s .args .i) (s .args .standing) (s .args .used) (s .args .cover .now) (s .pre .1) (s .pre .3) (s .pre .2)
+          (subst (λ k. Words (s .args .workspace .now) (18 * s .args .i + 1) k (s .args .cover .now)) e (l .inv .2)) (c .before .before .before .if1 .left);
       differs = λ q. absurd (true≢false q);
     }
 

@@ -12,10 +12,10 @@ use Rattle.verdict.proofs.index.seen.Statement.{statement}
 use Rattle.verdict.proofs.index.seen.Tie as tie
 
 abbrev Inv-loop : tie.InvT-loop
-Inv-loop workspace heads nexts at n standing cover next₀ next = Walk bucketOf (pairAt workspace) n (pair standing cover) next
+Inv-loop workspace heads nexts at n standing cover used next₀ next = Walk bucketOf (pairAt workspace) n (pair standing cover) next
 
 abbrev μ-loop : tie.MeasureT-loop
-μ-loop workspace heads nexts at n standing cover next₀ next = next
+μ-loop workspace heads nexts at n standing cover used next₀ next = next
 
 mul-next : tie.Need-mul-next Inv-loop μ-loop
 mul-next c = omega (arith, bucket-below (pair (c .before .args .standing) (c .before .args .cover .now)), c .before .pre .2)
@@ -40,7 +40,11 @@ sub-i : tie.Need-sub-i Inv-loop μ-loop
 sub-i c = search needs
 
 is-pair-requires : tie.Need-is-pair-requires Inv-loop μ-loop
-is-pair-requires c κs = omega (arith, c .before .loop .inv .within, c .loop-test .taken, c .before .before .before .before .pre .0)
+is-pair-requires c κs =
+    let s = c .before .before .before .before in
+    let l = c .before .loop in
+    let some = c .loop-test .taken in
+    (omega (arith, l .inv .within, some, s .pre .0), s .pre .4, s .pre .5, s .pre .6 .below (l .next - 1) (omega (arith, l .inv .within, some)))
 
 returns : tie.Need-returns Inv-loop μ-loop
 returns c =

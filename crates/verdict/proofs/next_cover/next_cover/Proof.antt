@@ -39,8 +39,7 @@ step-rows-requires c κs =
       rows-within p (wordsAt (s .args .workspace .now) (18 * s .args .i + 1) 16) (s .pre .0 .rows-laid h),
       c .step-rows-arg .given .0 .1,
       ap numberOf (c .before .clear-words .ensures .enough (omega (arith, words)))
-          ∙ number-cleared 16 (s .args .cover .now)
-          (subst (λ k. numberOf (s .args .cover .now) < 2 ^ (64 * k)) (s .pre .3 .plain (p .plain)) (s .pre .4)),
+          ∙ number-cleared 16 (s .args .cover .now) (omega (arith, words)),
     )
 
 returns : tie.Need-returns
@@ -52,7 +51,7 @@ returns c =
     let laid = s .pre .0 .rows-laid h in
     let r = c .step-rows .last .1 .1 .1 .1 .1 .1 .1 .0 in (
       rows-stand p set laid r (c .step-rows .ensures .0),
-      subst (λ k. numberOf r < 2 ^ (64 * k)) (sym (s .pre .3 .plain (p .plain))) (wider (s .args .states * s .args .rows) (64 * 16) (numberOf r) (p .ready .few-places) (c .step-rows .ensures .1)),
+      λ used u. subst (λ k. numberOf r < 2 ^ (64 * k)) (sym (u .plain (p .plain))) (wider (s .args .states * s .args .rows) (64 * 16) (numberOf r) (p .ready .few-places) (c .step-rows .ensures .1)),
       c .step-rows .kept .1 .1 .1 .1 .1 .1 .1 .0 ∙ c .before .step-rows-arg .given .0 .1,
     )
 
@@ -74,7 +73,7 @@ returns-2 c =
     let below = number-below (made .result .words) (array-words 16 (made .result .words) _ (made .ok .1 .1 .0)) in
     rw (c .copy .ensures) (
       rw (← c .before .before .before .load .ensures (s .pre .2)) (step-plain _ (made .result .words) plain (made .ensures)),
-      subst (λ k. numberOf (made .result .words) < 2 ^ (64 * k)) (size ∙ sym (s .pre .3 .plain plain)) below,
+      λ used u. subst (λ k. numberOf (made .result .words) < 2 ^ (64 * k)) (size ∙ sym (u .plain plain)) below,
       size,
     )
 
@@ -110,8 +109,8 @@ step-ranges-requires c κs =
       s .pre .1,
       simp (length-take, length-drop) (omega (arith, s .pre .2)),
       c .step-ranges-arg2 .given .0 .1,
-      ap numberOf (c .before .before .clear-words2 .ensures .enough (omega (arith, words, s .pre .3 .within)))
-          ∙ number-cleared (s .args .used) (s .args .cover .now) (s .pre .4),
+      ap numberOf (c .before .before .clear-words2 .ensures .enough (omega (arith, words)))
+          ∙ number-cleared 16 (s .args .cover .now) (omega (arith, words)),
     )
 
 returns-3 : tie.Need-returns-3
@@ -125,7 +124,7 @@ returns-3 c =
           (subst (λ l. RangesStepped (s .args .states) (s .args .lists) (s .args .a) (s .args .enter .now) (s .args .sizes .now) (s .args .accepting .now)
           (s .args .before .now) (s .args .ended .now) (s .args .table .now) (numberOf l) (numberOf r))
           (set-part (s .args .workspace .now) (s .args .i) (s .pre .2)) (c .step-ranges .ensures)),
-      omega (arith, ranges-within p many (c .step-ranges .ensures), pow-mono (s .pre .3 .turned w)),
+      λ used u. omega (arith, ranges-within p many (c .step-ranges .ensures), pow-mono (u .turned w)),
       c .step-ranges .kept .1 .1 .1 .1 .1 .1 .1 .1 .1 .1 .0 ∙ c .before .step-ranges-arg2 .given .0 .1,
     )
 
@@ -148,8 +147,6 @@ step-turned-requires c κs =
       r .few-places,
       stacked .within,
       p .finishing few .within,
-      s .pre .3 .within,
-      s .pre .4,
       s .pre .0 .room,
       p .before-room,
       p .ended-room,
@@ -164,7 +161,7 @@ returns-4 c =
     let told = c .step-turned .ensures in (
       next-stands (s .pre .0 .prepared w) few (wordsAt (s .args .workspace .now) (18 * s .args .i + 1) 16) stacked _ (told .0)
           (told .1),
-      omega (arith, told .1, pow-mono (s .pre .3 .turned w)),
+      λ used u. omega (arith, told .1, pow-mono (u .turned w)),
       told .2,
     )
 

@@ -1,4 +1,4 @@
--- The words in use are cleared, so the set is empty before the columns are put into it.
+-- All words are cleared, so the set is empty before the columns are put into it.
 use mathlib.Core.Path.{ap, _∙_}
 use Rattle.places.specs.Words.{numberOf}
 use Rattle.verdict.specs.WordBits.{number-cleared}
@@ -21,16 +21,16 @@ step-columns-requires c κs =
       s .pre .4,
       s .pre .5,
       c .step-columns-arg .given .0 .1,
-      ap numberOf (c .before .clear-words .ensures .enough (omega (arith, words, s .pre .11)))
-          ∙ number-cleared (s .args .used) (s .args .cover .now) (s .pre .12),
+      ap numberOf (c .before .clear-words .ensures .enough (omega (arith, words)))
+          ∙ number-cleared 16 (s .args .cover .now) (omega (arith, words)),
       s .pre .6,
       s .pre .7,
       s .pre .8,
       s .pre .9,
       s .pre .10,
+      s .pre .11,
+      s .pre .12,
       s .pre .13,
-      s .pre .14,
-      s .pre .15,
     )
 
 returns : tie.Need-returns
