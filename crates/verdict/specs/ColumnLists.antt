@@ -12,7 +12,7 @@ use lib.ListN.{getD}
 use borrow.Author.Tests.{ne-eqb}
 use Rattle.theory.specs.Places.{Member, member, union, when, unionOver}
 use Rattle.theory.specs.PlacesLaws.{member-none, member-zero, member-suc, member-test, member-union, member-when, member-unionOver}
-use Rattle.theory.specs.PlacesLaws.{members-below}
+use Rattle.theory.specs.PlacesLaws.{member-below, members-below}
 use Rattle.theory.specs.PlacesShift.{member-cut}
 use Rattle.places.specs.NextPlace.{trailing-here}
 use Rattle.places.specs.Followed.{FollowedLeft, followed-start, followed-turn, followed-end, least-left}
@@ -213,3 +213,15 @@ column-within n v size base before columns few places within i y h e =
         → q < n
     side q (inl (m, k)) = within q 0 (omega arith) k
     side q (inr (o, m, k)) = within q (base + suc o) (omega (arith, inside (suc o) m)) k
+
+-- The states where a path of the list may end are below n, too.
+pub ends-within : (n v size base entered accepting : ℕ) (before columns : List ℕ) → size < 64 → PlacesOf v size before
+    → StatesWithin (base + size + 1) n columns → (r : ℕ) → r ≡ unionOver (endingOf accepting before columns base v) 64 (innerOf entered size)
+    → r < 2 ^ n
+ends-within n v size base entered accepting before columns few places within r e =
+    members-below n r λ q m.
+    let (i, l, j, k) = member-unionOver (endingOf accepting before columns base v) 64 (innerOf entered size) q .0 (subst (Member q) e m) in
+    let column = columnOf before columns base v (1 + i) in
+    member-below n column q
+    (column-within n v size base before columns few places within i column (member-cut size i (entered / 2) .0 j .0) refl)
+    (member-when (member (1 + i) accepting) q column .0 k .1)

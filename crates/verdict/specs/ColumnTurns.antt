@@ -15,7 +15,7 @@ use Rattle.verdict.specs.Tables.{occupied, Counted}
 use Rattle.verdict.specs.TablesLaws.{occupied-more, occupied-grows}
 use Rattle.verdict.specs.Columns.{offsetIn, StatesWithin, PlacesWithin, EndedWithin, Stepped}
 use Rattle.verdict.specs.ColumnOffsets.{occupied-room, offset-below}
-use Rattle.verdict.specs.ColumnLists.{innerOf, columnOf, endingOf, ListColumns, when-has, when-lacks, member-joined}
+use Rattle.verdict.specs.ColumnLists.{innerOf, columnOf, endingOf, ListColumns, when-has, when-lacks, member-joined, ends-within}
 use Rattle.verdict.specs.TurnedColumns.{Puts}
 
 -- The occurrences in a set of places, from 1 on.
@@ -218,6 +218,16 @@ module _ (n a : ℕ) (enter sizes accepting before ended columns : List ℕ) whe
       let (o, leads, had) = column-from counted within u p q i c .0 z in
       let few : o ≤ getD sizes (u + 1) 0 = within u o p i (omega (arith, counted .small u i)) leads in
       reached q u t (below q (offsetIn sizes u o) (omega (arith, wide, offset-below sizes u o n i few)) had) i k
+
+  -- So are the states at whose occurrences a path of the list v may end.
+  pub ends-below : (w states : ℕ) (next next′ : ℕ → ℕ) (base alone v ends : ℕ) → v < n → ListsLeft next base alone v → Counted n sizes
+      → w ≡ suc (occupied sizes 0 n) → PlacesWithin n sizes before → StatesWithin w states columns
+      → ListColumns v (getD sizes (v + 1) 0) base (getD enter (32 * (v + 1) + a) 0) (getD accepting (v + 1) 0) before columns next next′ ends
+      → ends < 2 ^ states
+  ends-below w states next next′ base alone v ends h s counted wide within below t =
+      ends-within states v (getD sizes (v + 1) 0) base (getD enter (32 * (v + 1) + a) 0) (getD accepting (v + 1) 0) before columns
+      (omega (arith, counted .small v h)) (λ o p k m. within v o p h k m)
+      (λ q o k m. below q o (omega (arith, wide, lists-room next base alone v h s)) m) ends (t .ends)
 
   -- The columns after the last list's are empty.
   pub lists-empty : (w : ℕ) (next next′ : ℕ → ℕ) (base alone v : ℕ) → ListsLeft next base alone v → w ≡ suc (occupied sizes 0 n)

@@ -49,6 +49,8 @@ pub mod RangesTurns
 pub mod RangesLists
 pub mod RangesLaws
 pub mod RangesStep
+pub mod Sums
+pub mod SumsLaws
 pub mod Prepared
 pub mod NextCover
 pub mod FirstCover

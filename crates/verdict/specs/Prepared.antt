@@ -13,6 +13,7 @@ use Rattle.theory.specs.Closure.{Reaches}
 use Rattle.places.specs.Words.{numberOf}
 use Rattle.verdict.specs.Tables.{Ready}
 use Rattle.verdict.specs.Columns.{Leading, Passes, NextBelow, LeadsIn, Passing, Finishing}
+use Rattle.verdict.specs.Sums.{Sums}
 use Rattle.verdict.specs.WideRows.{RowsPrepared}
 
 pub record Prepared (states n : ℕ) (follow enter sizes accepting table : List ℕ) (w : ℕ) (before ended : List ℕ) : Type 0 where
@@ -23,6 +24,7 @@ pub record Prepared (states n : ℕ) (follow enter sizes accepting table : List 
   pub before-room : 64 * n ≤ length before
   pub ended-room : 64 * n ≤ length ended
   pub finishing : states ≤ 64 → Finishing states n accepting table ended
+  pub sums : states ≤ 64 → Sums n states ended
   pub passing : 64 < states → Passing 4 states n accepting table ended
   pub reached-room : 64 < states → 4 * states ≤ length ended
 

@@ -11,8 +11,7 @@ use Rattle.theory.specs.Places.{Member}
 use Rattle.places.specs.Words.{numberOf}
 use Rattle.theory.specs.PlacesLaws.{member-none}
 use Rattle.verdict.specs.Tables.{occupied}
-use Rattle.verdict.specs.TablesLaws.{occupied-few}
-use Rattle.verdict.specs.TablesLaws.{occupied-more}
+use Rattle.verdict.specs.TablesLaws.{occupied-few, occupied-more}
 use Rattle.verdict.specs.ColumnOffsets.{occupied-room}
 use Rattle.verdict.specs.RowsLaws.{member-row}
 use Rattle.verdict.specs.CoverPlaces.{split-unique}

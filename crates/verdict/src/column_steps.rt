@@ -1,13 +1,14 @@
 // The step of a cover set by columns, where there are at most 64 states: an occurrence is reached by the states of the places that lead to
 // it, and a state alone from the states at whose occurrences a path of a list may end.
-ghost use Prim.Native.Nat.{suc, _+_, _*_, _^_, _≤_, _<_};
+ghost use Prim.Native.Nat.{ℕ, suc, _+_, _*_, _/_, _^_, _≤_, _<_};
 ghost use mathlib.Core.Path.{_≡_};
 ghost use lib.ListN.{length, getD};
-ghost use Rattle.theory.specs.Places.{member, when, unionOver};
+ghost use Rattle.theory.specs.Places.{Member, member, when, unionOver};
 ghost use Rattle.places.specs.Words.{numberOf};
 ghost use Rattle.verdict.specs.Tables.{Counted, occupied};
 ghost use Rattle.verdict.specs.Columns.{StatesWithin, PlacesWithin, EndedWithin, Stepped};
 ghost use Rattle.verdict.specs.ColumnLists.{Below, PlacesOf, innerOf, joinedOf, ListColumns};
+ghost use Rattle.verdict.specs.Sums.{quarters, Sums};
 ghost use Rattle.verdict.specs.TurnedColumns.{columnIn};
 use crate::columns::put_at;
 
@@ -89,16 +90,20 @@ fn list_columns(
     ends
 }
 
-// The states that are reached from the states of a set where a path of the list v ends.
-fn ended_from(ended: &[u64], v: usize, ends: u64) -> u64
-    requires { ⌜ 64 * v + 64 ≤ length (now ended) ⌝ }
-    ensures { λ r. ⌜ r ≡ unionOver (λ q. getD (now (ended .entry)) (64 * v + q) 0) 64 ends ⌝ }
+// The states that are reached from the states of a set where a path of a list ends: four states at a time, by the list's sums, which stand
+// from `sums` on.
+fn ended_from(ended: &[u64], sums: usize, ends: u64) -> u64
+    requires { ⌜ ((q : ℕ) → Member q ends → sums + 16 * (q / 4) + 16 ≤ length (now ended)) ⌝ }
+    ensures { λ r. ⌜ ((lists n v : ℕ) → Sums lists n (now (ended .entry)) → v < lists → n ≤ 64 → ends < 2 ^ n
+        → sums ≡ 64 * lists + 16 * quarters n * v → r ≡ unionOver (λ q. getD (now (ended .entry)) (64 * v + q) 0) 64 ends) ⌝ }
 {
     let mut all: u64 = 0;
     let mut rest = ends;
+    let mut at = sums;
     while rest != 0 {
-        all = all | ended[64 * v + (u64::trailing_zeros(rest) as usize)];
-        rest = rest & (rest - 1);
+        all = all | ended[at + ((rest % 16) as usize)];
+        rest = rest / 16;
+        at += 16;
     }
     all
 }
@@ -121,10 +126,12 @@ pub fn step_columns(
         × (w ≡ suc (occupied (now sizes) 0 lists)) × PlacesWithin lists (now sizes) (now before) × (length (now words) ≡ 16)
         × (numberOf (now words) ≡ 0) × (0 < n) × (n ≤ 64) × (n * w ≤ 1024) × StatesWithin w n (now columns)
         × EndedWithin n lists (now ended) × (w ≤ length (now columns)) × (64 * lists ≤ length (now before))
-        × (64 * lists ≤ length (now ended)) ⌝ }
+        × Sums lists n (now ended) ⌝ }
     ensures { λ _. ⌜ Stepped lists a (now (enter .entry)) (now (sizes .entry)) (now (accepting .entry)) (now (before .entry))
         (now (ended .entry)) (now (columns .entry)) (columnIn n (now (words .exit))) × (numberOf (now (words .exit)) < 2 ^ (n * w)) ⌝ }
 {
+    let each = 16 * ((n as usize + 3) / 4);
+    let mut sums = 64 * lists;
     let mut base: usize = 0;
     let mut alone: u64 = 0;
     let mut v = 0;
@@ -142,7 +149,8 @@ pub fn step_columns(
             n,
             words,
         );
-        alone = alone | ended_from(ended, v, ends);
+        alone = alone | ended_from(ended, sums, ends);
+        sums += each;
         base += size as usize;
         v += 1;
     }

@@ -12,6 +12,7 @@ pub mod path;
 mod prepared;
 mod ranges;
 mod rows;
+mod sums;
 pub mod verdict;
 mod wide_rows;
 pub mod workspace;

@@ -8,6 +8,7 @@ ghost use Rattle.verdict.specs.CoverTold.{StartStands, StepStands};
 ghost use Rattle.verdict.specs.NextCover.{Laid, Used};
 ghost use Rattle.verdict.specs.PairTable.{wordsAt};
 ghost use Rattle.verdict.specs.Prepared.{FirstReached};
+ghost use Rattle.verdict.specs.Sums.{Sums};
 ghost use Rattle.verdict.specs.Tables.{Counted, Ready, occupied};
 ghost use Rattle.verdict.specs.Turned.{Stacked};
 ghost use Rattle.verdict.specs.TurnedColumns.{columnIn};
@@ -139,7 +140,7 @@ fn step_turned(
         × (w ≡ suc (occupied (now sizes) 0 lists)) × PlacesWithin lists (now sizes) (now before) × (0 < states) × (states ≤ 64)
         × (states * w ≤ 1024) × StatesWithin w states (now laid) × EndedWithin states lists (now ended)
         × (w ≤ length (now laid)) × (64 * lists ≤ length (now before))
-        × (64 * lists ≤ length (now ended)) ⌝ }
+        × Sums lists states (now ended) ⌝ }
     ensures { λ _. ⌜ Stepped lists a (now (enter .entry)) (now (sizes .entry)) (now (accepting .entry)) (now (before .entry))
         (now (ended .entry)) (now (laid .entry)) (columnIn states (now (cover .exit))) × (numberOf (now (cover .exit)) < 2 ^ (states * w))
         × (length (now (cover .exit)) ≡ 16) ⌝ }

@@ -5,14 +5,16 @@ ghost use mathlib.Core.Bool.{true};
 ghost use mathlib.Core.Path.{_≡_};
 ghost use Rattle.verdict.specs.Columns.{NextBelow, Finishing, Passing};
 ghost use Rattle.verdict.specs.Prepared.{FirstReached, Prepared};
+ghost use Rattle.verdict.specs.Sums.{SumsRoom, Sums};
 use crate::cover::ready;
 use crate::leading::leading;
 use crate::passing::finishing;
 use crate::passing::first_of;
 use crate::passing::passing;
+use crate::sums::sum_lists;
 
-// For at most 64 states: the states that are reached where a path of a list ends, and those that are reached from the first. Whether the
-// tables are in order.
+// For at most 64 states: the states that are reached where a path of a list ends, with their sums, and those that are reached from the first.
+// Whether the tables are in order.
 fn prepare_columns(
     table: &[u16],
     accepting: &[u64],
@@ -22,16 +24,21 @@ fn prepare_columns(
     first: &mut [u64; 4],
 ) -> bool
     requires { ⌜ (0 < states) × (states ≤ 64) × (lists ≤ 16) × (lists < length (now accepting)) × (16 * states ≤ length (now table))
-        × (64 * lists ≤ length (now ended)) ⌝ }
+        × SumsRoom lists states (now ended) ⌝ }
     ensures { λ r. ⌜ (r ≡ true → Finishing states lists (now (accepting .entry)) (now (table .entry)) (now (ended .exit))
-        × FirstReached lists (now (accepting .entry)) (now (table .entry)) (now (first .exit)) × NextBelow states lists (now (table .entry))) ⌝ }
+        × Sums lists states (now (ended .exit)) × FirstReached lists (now (accepting .entry)) (now (table .entry)) (now (first .exit))
+        × NextBelow states lists (now (table .entry))) ⌝ }
 {
     let mut passes = [0; 64];
     if !passing(accepting, table, states, lists, 1, &mut passes) {
         return false;
     }
     first_of(&passes, 1, first);
-    finishing(&passes, table, states, lists, ended)
+    if !finishing(&passes, table, states, lists, ended) {
+        return false;
+    }
+    sum_lists(ended, lists, states);
+    true
 }
 
 // For more states: those that are reached from each state, as four words, and from the first. Whether the tables are in order and have room.
@@ -74,7 +81,8 @@ pub fn prepared(
     ended: &mut [u64],
     first: &mut [u64; 4],
 ) -> u64
-    requires { ⌜ (64 * lists ≤ length (now before)) × (64 * lists ≤ length (now ended)) ⌝ }
+    requires { ⌜ (64 * lists ≤ length (now before)) × (64 * lists ≤ length (now ended))
+        × (states ≤ 64 → SumsRoom lists states (now ended)) ⌝ }
     ensures { λ r. ⌜ (0 < r → Prepared states lists (now (follow .entry)) (now (enter .entry)) (now (sizes .entry)) (now (accepting .entry))
         (now (table .entry)) r (now (before .exit)) (now (ended .exit))
         × FirstReached lists (now (accepting .entry)) (now (table .entry)) (now (first .exit))) ⌝ }

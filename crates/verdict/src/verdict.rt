@@ -6,6 +6,7 @@ ghost use Rattle.places.specs.Words.{numberOf};
 ghost use Rattle.verdict.specs.PairTable.{pairAt};
 ghost use Rattle.verdict.specs.PairsTold.{lent, PairsTold};
 ghost use Rattle.verdict.specs.Prepared.{WayChosen};
+ghost use Rattle.verdict.specs.Sums.{SumsRoom};
 ghost use Rattle.verdict.specs.Tables.{Counted, occupied};
 ghost use Rattle.verdict.specs.Missing.{gap, Yields, missesWith, FirstTold};
 ghost use Rattle.verdict.specs.VerdictTold.{Placed, Judged, VerdictTold};
@@ -196,7 +197,7 @@ fn explore_in(
     workspace: &mut [u64],
 ) -> Search
     requires { ⌜ (64 * lists ≤ length (now before)) × (64 * lists ≤ length (now ended)) × (occupied (now sizes) 0 lists < length (now laid))
-        × (352 ≤ length (now before)) × (256 ≤ length (now laid)) ⌝ }
+        × (352 ≤ length (now before)) × (256 ≤ length (now laid)) × (states ≤ 64 → SumsRoom lists states (now ended)) ⌝ }
     ensures { λ r. ⌜ (0 < r .turned → r .turned ≡ suc (occupied (now (sizes .entry)) 0 lists))
         × PairsTold (lent states labels lists (now (follow .entry)) (now (enter .entry)) (now (sizes .entry)) (now (accepting .entry)) (now (table .entry)))
         (r .turned) allowance (now (workspace .entry)) (r .found) (now (workspace .exit)) ⌝ }
@@ -237,10 +238,67 @@ fn explore_in(
     Search { turned, found }
 }
 
-// Explores the pairs. A list needs 64 words of each prepared table and at most 63 columns, and of more than 64 states each needs four words:
-// so where there are at most four lists and 64 states, 256 words of each suffice, and 352 where rows may be prepared. To clear 1,024 takes
-// longer than the verdict of a small job.
-fn explore(
+// Explores the pairs, of at most four lists and 64 states: their sums take 64 words a list for 16 states, 256 for 64.
+fn explore_few(
+    states: u64,
+    table: &[u16],
+    follow: &[u64],
+    enter: &[u64],
+    sizes: &[u64],
+    accepting: &[u64],
+    lists: usize,
+    labels: usize,
+    allowance: u64,
+    workspace: &mut [u64],
+) -> Search
+    requires { ⌜ Counted lists (now sizes) × (lists ≤ 4) × (states ≤ 64) ⌝ }
+    ensures { λ r. ⌜ (0 < r .turned → r .turned ≡ suc (occupied (now (sizes .entry)) 0 lists))
+        × PairsTold (lent states labels lists (now (follow .entry)) (now (enter .entry)) (now (sizes .entry)) (now (accepting .entry)) (now (table .entry)))
+        (r .turned) allowance (now (workspace .entry)) (r .found) (now (workspace .exit)) ⌝ }
+{
+    if states <= 16 {
+        let mut before = [0; 352];
+        let mut ended = [0; 512];
+        let mut laid = [0; 256];
+        explore_in(
+            states,
+            table,
+            follow,
+            enter,
+            sizes,
+            accepting,
+            lists,
+            labels,
+            allowance,
+            &mut before,
+            &mut ended,
+            &mut laid,
+            workspace,
+        )
+    } else {
+        let mut before = [0; 352];
+        let mut ended = [0; 1280];
+        let mut laid = [0; 256];
+        explore_in(
+            states,
+            table,
+            follow,
+            enter,
+            sizes,
+            accepting,
+            lists,
+            labels,
+            allowance,
+            &mut before,
+            &mut ended,
+            &mut laid,
+            workspace,
+        )
+    }
+}
+
+// Explores the pairs of any lists. There are no sums where there are more than 64 states.
+fn explore_many(
     states: u64,
     table: &[u16],
     follow: &[u64],
@@ -257,10 +315,10 @@ fn explore(
         × PairsTold (lent states labels lists (now (follow .entry)) (now (enter .entry)) (now (sizes .entry)) (now (accepting .entry)) (now (table .entry)))
         (r .turned) allowance (now (workspace .entry)) (r .found) (now (workspace .exit)) ⌝ }
 {
-    if lists <= 4 && states <= 64 {
-        let mut before = [0; 352];
-        let mut ended = [0; 256];
-        let mut laid = [0; 256];
+    if states <= 64 {
+        let mut before = [0; 1024];
+        let mut ended = [0; 5120];
+        let mut laid = [0; 1024];
         explore_in(
             states,
             table,
@@ -293,6 +351,55 @@ fn explore(
             &mut before,
             &mut ended,
             &mut laid,
+            workspace,
+        )
+    }
+}
+
+// Explores the pairs. A list needs 64 words of each prepared table and at most 63 columns, and of more than 64 states each needs four words:
+// so where there are at most four lists and 64 states, 256 words of each suffice, 352 where rows may be prepared, and the sums behind. To
+// clear 1,024 takes longer than the verdict of a small job.
+fn explore(
+    states: u64,
+    table: &[u16],
+    follow: &[u64],
+    enter: &[u64],
+    sizes: &[u64],
+    accepting: &[u64],
+    lists: usize,
+    labels: usize,
+    allowance: u64,
+    workspace: &mut [u64],
+) -> Search
+    requires { ⌜ Counted lists (now sizes) ⌝ }
+    ensures { λ r. ⌜ (0 < r .turned → r .turned ≡ suc (occupied (now (sizes .entry)) 0 lists))
+        × PairsTold (lent states labels lists (now (follow .entry)) (now (enter .entry)) (now (sizes .entry)) (now (accepting .entry)) (now (table .entry)))
+        (r .turned) allowance (now (workspace .entry)) (r .found) (now (workspace .exit)) ⌝ }
+{
+    if lists <= 4 && states <= 64 {
+        explore_few(
+            states,
+            table,
+            follow,
+            enter,
+            sizes,
+            accepting,
+            lists,
+            labels,
+            allowance,
+            workspace,
+        )
+    } else {
+        explore_many(
+            states,
+            table,
+            follow,
+            enter,
+            sizes,
+            accepting,
+            lists,
+            labels,
+            allowance,
             workspace,
         )
     }

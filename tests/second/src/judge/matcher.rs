@@ -1,7 +1,7 @@
 //! The matcher: paths of expressions by backtracking, and all short sequences.
 
 use super::Path;
-use crate::read::Expr;
+use crate::read::{Expr, Job};
 use std::collections::BTreeSet;
 
 /// Whether some path of the expression begins `path` such that the rest of it
@@ -38,6 +38,12 @@ pub fn occurrences(expr: &Expr) -> usize {
         Expr::Alt(parts) | Expr::Seq(parts) => parts.iter().map(occurrences).sum(),
         Expr::Star(inner) | Expr::Opt(inner) => occurrences(inner),
     }
+}
+
+/// How many places a state has in the cover: itself, and one for each occurrence
+/// of the lists.
+pub fn offsets(job: &Job) -> usize {
+    1 + job.lists.iter().map(|list| occurrences(&list.expr)).sum::<usize>()
 }
 
 /// The occurrences that can be the last one read when `path`, not empty,

@@ -5,7 +5,7 @@ use super::parts::{expression, labels, pieces, row, Parts};
 use crate::cover::MOST_PLACES;
 use crate::find::{find, Found};
 use crate::generate::Random;
-use crate::judge::occurrences;
+use crate::judge::{occurrences, offsets};
 use crate::read::{read, Job, MOST_OCCURRENCES};
 use crate::verdict::verdict;
 
@@ -70,8 +70,7 @@ pub fn many_states(random: &mut Random) -> Vec<u8> {
         }
         let text = Parts { labels, query, lists }.text();
         let job = read(&text).expect("short rows");
-        let offsets = 1 + job.lists.iter().map(|list| occurrences(&list.expr)).sum::<usize>();
-        if states(&job).is_some_and(|states| states > 64 && states * offsets <= MOST_PLACES) {
+        if states(&job).is_some_and(|states| states > 64 && states * offsets(&job) <= MOST_PLACES) {
             return text;
         }
     }

@@ -1,9 +1,14 @@
--- The loop's invariant: the occurrences of the lists before v have their columns (ListsLeft). The measure is the number of lists left.
-use Prim.Native.Nat.{_+_, _-_, _≤_}
+-- The loop's invariant: the occurrences of the lists before v have their columns (ListsLeft), and the sums of the list v stand
+-- from `sums` on. The measure is the number of lists left.
+use Prim.Native.Nat.{_+_, _*_, _-_, _^_, _≤_, _<_}
 use mathlib.Core.Path.{_≡_, sym, _∙_}
-use native.Mathlib.Nat.{mul-le-mul-left}
+use native.Mathlib.Nat.{mul-add, mul-le-mul-left}
 use lib.ListN.{length, getD}
-use Rattle.verdict.specs.ColumnTurns.{ListsLeft, lists-start, lists-room, lists-turn, alone-within, lists-empty, lists-end}
+use Rattle.theory.specs.PlacesLaws.{member-below}
+use Rattle.verdict.specs.ColumnTurns.{ListsLeft, lists-start, lists-room, lists-turn, alone-within, ends-below}
+use Rattle.verdict.specs.ColumnTurns.{lists-empty, lists-end}
+use Rattle.verdict.specs.Sums.{quarters}
+use Rattle.verdict.specs.SumsLaws.{next-list}
 use Rattle.verdict.specs.CoverBounds.{few-columns}
 use Rattle.verdict.specs.TurnedColumns.{columnIn, no-columns, Puts, put-column, columns-below}
 use native.Mathlib.Omega.{arith}
@@ -11,16 +16,26 @@ use Rattle.verdict.proofs.column_steps.step_columns.Statement.{statemen
 use Rattle.verdict.proofs.column_steps.step_columns.Tie as tie
 
 abbrev Inv-loop : tie.InvT-loop
-Inv-loop enter sizes accepting before ended lists a w columns n words₀ base₀ alone₀ v₀ words base alone v =
+Inv-loop enter sizes accepting before ended lists a w columns n words₀ each sums₀ base₀ alone₀ v₀ words sums base alone v =
     (length words ≡ 16) × ListsLeft lists a enter sizes accepting before ended columns (columnIn n words) base alone v
+    × (sums ≡ 64 * lists + 16 * quarters n * v)
 
 abbrev μ-loop : tie.MeasureT-loop
-μ-loop enter sizes accepting before ended lists a w columns n words₀ base₀ alone₀ v₀ words base alone v = lists - v
+μ-loop enter sizes accepting before ended lists a w columns n words₀ each sums₀ base₀ alone₀ v₀ words sums base alone v = lists - v
 
 loop-holds : tie.Need-loop-holds Inv-loop μ-loop
 loop-holds c =
     let s = c .before .before .before .before .before .before .before in
-    (s .pre .6, lists-start _ _ _ _ _ _ _ _ _ (no-columns (s .args .n) (s .args .words .now) (s .pre .7)))
+    (s .pre .6, lists-start _ _ _ _ _ _ _ _ _ (no-columns (s .args .n) (s .args .words .now) (s .pre .7)), omega arith)
+
+add-each : tie.Need-add-each Inv-loop μ-loop
+add-each c = omega (arith, c .before .before .before .before .before .before .before .pre .9)
+
+mul-each : tie.Need-mul-each Inv-loop μ-loop
+mul-each c = omega (arith, c .before .before .before .before .before .before .before .pre .9)
+
+mul-sums : tie.Need-mul-sums Inv-loop μ-loop
+mul-sums c = omega (arith, c .before .before .before .before .before .before .before .pre .0 .few)
 
 add-x : tie.Need-add-x Inv-loop μ-loop
 add-x c = omega (arith, c .loop-test .taken, c .before .before .before .before .before .before .before .before .before .pre .0 .few)
@@ -84,7 +99,29 @@ list-columns-requires c κs =
     )
 
 ended-from-requires : tie.Need-ended-from-requires Inv-loop μ-loop
-ended-from-requires c κs = omega (arith, c .before .before .before .before .before .before .before .loop-test .taken, c .before .before .before .before .before .before .before .before .before .before .before .before .before .before .before .before .pre .15)
+ended-from-requires c κs =
+    let s = c .before .before .before .before .before .before .before .before .before .before .before .before .before .before .before .before in
+    let l = c .before .before .before .before .before .before .before .before .loop in
+    let h = c .before .before .before .before .before .before .before .loop-test .taken in
+    let list = c .before .before .list-columns in
+    let below : list .result < 2 ^ s .args .n =
+    ends-below _ _ _ _ _ _ _ _ (s .args .w) (s .args .n) _ _ (l .base) (l .alone) (l .v) (list .result) h (l .inv .1) (s .pre .0) (s .pre .4)
+    (s .pre .5) (s .pre .11) (list .ensures) in
+    λ q m.
+    omega (
+      arith,
+      l .inv .2,
+      member-below (s .args .n) (list .result) q below m,
+      next-list (16 * quarters (s .args .n)) (l .v) (s .args .lists) h,
+      s .pre .15 .room,
+    )
+
+add-sums : tie.Need-add-sums Inv-loop μ-loop
+add-sums c =
+    let s = c .before .before .before .before .before .before .before .before .before .before .before .before .before .before .before .before .before in
+    let l = c .before .before .before .before .before .before .before .before .before .loop in
+    let few : l .v ≤ 16 = omega (arith, s .pre .0 .few, c .before .before .before .before .before .before .before .before .loop-test .taken) in
+    omega (arith, l .inv .2, s .pre .0 .few, s .pre .9, mul-le-mul-left (16 * quarters (s .args .n)) few)
 
 add-base : tie.Need-add-base Inv-loop μ-loop
 add-base c =
@@ -103,11 +140,16 @@ loop-again c =
     let s = c .before .before .before .before .before .before .before .before .before .before .before .before .before .before .before .before .before in
     let l = c .before .before .before .before .before .before .before .before .before .loop in
     let h = c .before .before .before .before .before .before .before .before .loop-test .taken in
-    let list = c .before .before .before .list-columns in (
+    let list = c .before .before .before .list-columns in
+    let below : list .result < 2 ^ s .args .n =
+    ends-below _ _ _ _ _ _ _ _ (s .args .w) (s .args .n) _ _ (l .base) (l .alone) (l .v) (list .result) h (l .inv .1) (s .pre .0) (s .pre .4)
+    (s .pre .5) (s .pre .11) (list .ensures) in (
       list .kept .1 .1 .1 .1 .1 .1 .1 .1 .0 ∙ l .inv .0,
       lists-turn (s .args .lists) (s .args .a) (s .args .enter .now) (s .args .sizes .now) (s .args .accepting .now) (s .args .before .now)
           (s .args .ended .now) (s .args .columns .now) (columnIn (s .args .n) (l .words)) _ (l .base) (l .alone) (l .v) (list .result) h
-          (l .inv .1) (omega (arith, list .ok)) (list .ensures) (s .pre .0 .small (l .v) h) (c .ended-from .result) (c .ended-from .ensures),
+          (l .inv .1) (omega (arith, list .ok)) (list .ensures) (s .pre .0 .small (l .v) h) (c .ended-from .result)
+          (c .ended-from .ensures (s .args .lists) (s .args .n) (l .v) (s .pre .15) h (s .pre .9) below (l .inv .2)),
+      omega (arith, l .inv .2, mul-add (16 * quarters (s .args .n)) (l .v) 1),
     )
 
 put-at-requires : tie.Need-put-at-requires Inv-loop μ-loop
@@ -146,6 +188,9 @@ step-columns-spec =
     (tie.spec
     Inv-loop
     μ-loop
+    add-each
+    mul-each
+    mul-sums
     loop-holds
     add-x
     mul-size
@@ -158,6 +203,7 @@ step-columns-spec =
     shared-slice-read-list-columns-2
     list-columns-requires
     ended-from-requires
+    add-sums
     add-base
     add-v
     loop-less

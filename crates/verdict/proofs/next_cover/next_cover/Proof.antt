@@ -149,7 +149,7 @@ step-turned-requires c κs =
       p .finishing few .within,
       s .pre .0 .room,
       p .before-room,
-      p .ended-room,
+      p .sums few,
     )
 
 returns-4 : tie.Need-returns-4

@@ -29,7 +29,7 @@ returns-3 c = λ h. absurd (omega arith)
 prepare-columns-requires : tie.Need-prepare-columns-requires
 prepare-columns-requires c κs =
     let r = c .before .before .before .before .before .before .before .before .before .ready .ensures .ready (omega (arith, c .before .before .before .before .before .before .before .before .if2 .left)) in
-    (omega (arith, c .before .before .before .before .before .before .before .before .before .before .if1 .left), c .before .before .if4 .taken, r .counted .few, r .accepting-room, r .table-room, c .before .before .before .before .before .before .before .before .before .before .before .before .before .before .before .before .before .before .pre .1)
+    (omega (arith, c .before .before .before .before .before .before .before .before .before .before .if1 .left), c .before .before .if4 .taken, r .counted .few, r .accepting-room, r .table-room, c .before .before .before .before .before .before .before .before .before .before .before .before .before .before .before .before .before .before .pre .2 (c .before .before .if4 .taken))
 
 same-length-2 : tie.Need-same-length-2
 same-length-2 c = c .before .before .before .before .before .before .before .before .before .before .leading .kept .1 .1 .1 .0
@@ -48,7 +48,7 @@ same-length-5 c = c .before .before .before .prepare-columns .kept .1 .1 .1 .1 .
 
 returns-5 : tie.Need-returns-5
 returns-5 c = λ h.
-    let (finishing, first, next) = c .before .before .before .prepare-columns .ensures (not-false _ (c .if5 .left)) in
+    let (finishing, sums, first, next) = c .before .before .before .prepare-columns .ensures (not-false _ (c .if5 .left)) in
     let s = c .before .before .before .before .before .before .before .before .before .before .before .before .before .before .before .before .before .before .before .before .before .before in (
       record {
         ready = c .before .before .before .before .before .before .before .before .before .before .before .before .before .ready .ensures .ready h;
@@ -58,6 +58,7 @@ returns-5 c = λ h.
         before-room = omega (arith, c .before .before .before .before .before .before .before .before .before .before .leading .kept .1 .1 .1 .0, s .pre .0);
         ended-room = omega (arith, c .before .before .before .prepare-columns .kept .1 .1 .1 .1 .0, s .pre .1);
         finishing = λ few. finishing;
+        sums = λ few. sums;
         passing = λ many. absurd (omega (arith, c .before .before .before .before .before .before .if4 .taken));
         reached-room = λ many. absurd (omega (arith, c .before .before .before .before .before .before .if4 .taken));
       },
@@ -101,6 +102,7 @@ returns-7 c = λ h.
         before-room = omega (arith, c .before .before .before .before .before .before .before .before .before .before .leading .kept .1 .1 .1 .0, s .pre .0);
         ended-room = omega (arith, c .before .before .before .prepare-ranges .kept .1 .1 .1 .1 .0, s .pre .1);
         finishing = λ few. absurd (omega (arith, c .before .before .before .before .before .before .if4 .left));
+        sums = λ few. absurd (omega (arith, c .before .before .before .before .before .before .if4 .left));
         passing = λ many. passing;
         reached-room = λ many. room;
       },

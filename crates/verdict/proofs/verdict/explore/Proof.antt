@@ -1,64 +1,32 @@
--- There is room for what is prepared and for the columns: of at most four lists and 64 states, or of sixteen lists.
-use native.Mathlib.Omega.{arith}
-use borrow.Author.Needs.{needs}
-use Rattle.verdict.specs.TablesLaws.{occupied-few}
+-- Of at most four lists and 64 states, or of any.
+use borrow.Author.Tests.{leb-true}
 use Rattle.verdict.proofs.verdict.explore.Statement.{statement}
 use Rattle.verdict.proofs.verdict.explore.Tie as tie
 
-slice-aggregate-explore-in : tie.Need-slice-aggregate-explore-in
-slice-aggregate-explore-in c = search needs
+explore-few-requires : tie.Need-explore-few-requires
+explore-few-requires c κs = (c .before .before .before .before .before .before .before .before .before .pre, c .before .before .if1 .taken, leb-true _ _ (c .before .if2 .taken))
 
-slice-aggregate-explore-in-2 : tie.Need-slice-aggregate-explore-in-2
-slice-aggregate-explore-in-2 c = search needs
-
-slice-aggregate-explore-in-3 : tie.Need-slice-aggregate-explore-in-3
-slice-aggregate-explore-in-3 c = search needs
-
-explore-in-requires : tie.Need-explore-in-requires
-explore-in-requires c κs =
-    let s = c .before .before .before .before .before .before .before .before .before .before .before .before in
-    let few = occupied-few (s .args .sizes .now) (s .args .lists) 0 (s .args .lists) (omega arith) (s .pre) in
-    (omega arith, omega arith, omega (arith, few), omega arith, omega arith)
-
-slice-aggregate-explore-in-4 : tie.Need-slice-aggregate-explore-in-4
-slice-aggregate-explore-in-4 c = search needs
-
-slice-aggregate-explore-in-5 : tie.Need-slice-aggregate-explore-in-5
-slice-aggregate-explore-in-5 c = search needs
-
-slice-aggregate-explore-in-6 : tie.Need-slice-aggregate-explore-in-6
-slice-aggregate-explore-in-6 c = search needs
-
-explore-in-requires-2 : tie.Need-explore-in-requires-2
-explore-in-requires-2 c κs =
-    let s = c .before .before .before .before .before .before .before .before .before .before .before in
-    let few = occupied-few (s .args .sizes .now) (s .args .lists) 0 (s .args .lists) (omega arith) (s .pre) in
-    (omega (arith, s .pre .few), omega (arith, s .pre .few), omega (arith, few, s .pre .few), omega arith, omega arith)
+explore-many-requires : tie.Need-explore-many-requires
+explore-many-requires c κs = c .before .before .before .before .before .before .before .before .pre
 
 same-length : tie.Need-same-length
-same-length c = c .before .before .before .before .before .explore-in .kept .1 .1 .1 .1 .1 .1 .1 .1 .1 .1 .1 .1 .0
+same-length c = c .before .before .explore-few .kept .1 .1 .1 .1 .1 .1 .1 .1 .1 .0
 
 returns : tie.Need-returns
-returns c = c .before .before .before .before .before .explore-in .ensures
+returns c = c .before .before .explore-few .ensures
 
 same-length-2 : tie.Need-same-length-2
-same-length-2 c = c .before .before .before .before .before .explore-in2 .kept .1 .1 .1 .1 .1 .1 .1 .1 .1 .1 .1 .1 .0
+same-length-2 c = c .before .before .explore-many .kept .1 .1 .1 .1 .1 .1 .1 .1 .1 .0
 
 returns-2 : tie.Need-returns-2
-returns-2 c = c .before .before .before .before .before .explore-in2 .ensures
+returns-2 c = c .before .before .explore-many .ensures
 
 pub explore-spec : {M : Type 1} → statement M
 explore-spec =
     tie.close
     (tie.spec
-    slice-aggregate-explore-in
-    slice-aggregate-explore-in-2
-    slice-aggregate-explore-in-3
-    explore-in-requires
-    slice-aggregate-explore-in-4
-    slice-aggregate-explore-in-5
-    slice-aggregate-explore-in-6
-    explore-in-requires-2
+    explore-few-requires
+    explore-many-requires
     same-length
     returns
     same-length-2

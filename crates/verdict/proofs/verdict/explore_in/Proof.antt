@@ -11,7 +11,9 @@ turned-fits zero occurrences room wide fits = omega arith
 turned-fits (suc turned) occurrences room wide fits = omega (arith, wide (omega arith))
 
 prepared-requires : tie.Need-prepared-requires
-prepared-requires c κs = (c .before .before .before .before .before .before .before .before .before .before .before .before .pre .0, c .before .before .before .before .before .before .before .before .before .before .before .before .pre .1)
+prepared-requires c κs =
+    let s = c .before .before .before .before .before .before .before .before .before .before .before .before in
+    (s .pre .0, s .pre .1, s .pre .5)
 
 chosen-way-requires : tie.Need-chosen-way-requires
 chosen-way-requires c κs =

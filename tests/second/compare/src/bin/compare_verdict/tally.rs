@@ -1,7 +1,7 @@
 //! Counts of what a run met, and the least that a run must meet.
 
 use crate::comparison::Told;
-use second::judge::{is_path_of, occurrences};
+use second::judge::{is_path_of, offsets};
 use second::kinds::Kind;
 use second::operations::MOST_ALLOWANCE;
 use second::read::Job;
@@ -30,6 +30,8 @@ pub struct Tally {
     longest_missed: usize,
     empty_path_in_list: usize,
     empty_path_in_query: usize,
+    /// From 17 to 64 states with at most four lists, and with more.
+    some_states: [usize; 2],
     /// Over 64 states, and those of them with the empty path in a list.
     many_states: [usize; 2],
     /// Over 64 offsets with at most four lists, and with more.
@@ -80,12 +82,14 @@ impl Tally {
     }
 
     fn sizes(&mut self, job: &Job, states: usize, in_list: bool) {
+        if (17..=64).contains(&states) {
+            self.some_states[usize::from(job.lists.len() > 4)] += 1;
+        }
         if states > 64 {
             self.many_states[0] += 1;
             self.many_states[1] += usize::from(in_list);
         }
-        let offsets = 1 + job.lists.iter().map(|list| occurrences(&list.expr)).sum::<usize>();
-        if offsets > 64 {
+        if offsets(job) > 64 {
             self.many_offsets[usize::from(job.lists.len() > 4)] += 1;
         }
     }
@@ -111,6 +115,9 @@ impl Tally {
         assert_eq!(self.missed[0], 0, "the empty path is missed");
         kind("empty path in the query", self.empty_path_in_query);
         kind("empty path in a list", self.empty_path_in_list);
+        for count in self.some_states {
+            floor("17 to 64 states, at most four lists or more", count, 20);
+        }
         for count in self.many_states {
             floor("over 64 states, with the empty path in a list or not", count, 200);
         }
@@ -161,6 +168,8 @@ impl Display for Tally {
         line(self.missed[4], &format!("missed, length 4 to {longest}"))?;
         line(self.empty_path_in_list, "with the empty path in a list")?;
         line(self.empty_path_in_query, "with the empty path in the query")?;
+        line(self.some_states[0], "17 to 64 states, at most four lists")?;
+        line(self.some_states[1], "17 to 64 states, more lists")?;
         line(self.many_states[0], "over 64 states")?;
         line(self.many_states[1], "over 64 states, with the empty path in a list")?;
         line(self.many_offsets[0], "over 64 offsets, at most four lists")?;

@@ -1,0 +1,33 @@
+-- Sums of what is reached where a path of a list ends (Columns, Finishing): one word for each set of four neighbouring states. The words of
+-- the lists stand first, 64 for each; behind them stand the sums, sixteen for each four states of a list.
+use Prim.Native.Nat.{ℕ, _+_, _*_, _/_, _≤_, _<_}
+use mathlib.Core.List.{List}
+use mathlib.Core.Path.{_≡_}
+use lib.ListN.{length, getD}
+use Rattle.theory.specs.Places.{unionOver}
+
+-- How many times four states there are, the last four perhaps not all.
+abbrev pub quarters : ℕ → ℕ
+quarters n = (n + 3) / 4
+
+-- There is room for the sums of the lists, of n states.
+abbrev pub SumsRoom : ℕ → ℕ → List ℕ → Type 0
+SumsRoom lists n ended = 64 * lists + 16 * quarters n * lists ≤ length ended
+
+-- The sums of the four words from `from` on are put down from `at` on; nothing else is changed.
+pub record FourSummed (from at : ℕ) (before after : List ℕ) : Type 0 where
+  pub summed : (m : ℕ) → m < 16 → getD after (at + m) 0 ≡ unionOver (λ i. getD before (from + i) 0) 4 m
+  pub below : (j : ℕ) → j < at → getD after j 0 ≡ getD before j 0
+  pub beyond : (j : ℕ) → at + 16 ≤ j → getD after j 0 ≡ getD before j 0
+
+-- The same of the words of a list, four after four, `count` times.
+pub record ListSummed (from at count : ℕ) (before after : List ℕ) : Type 0 where
+  pub summed : (k m : ℕ) → k < count → m < 16 → getD after (at + 16 * k + m) 0 ≡ unionOver (λ i. getD before (from + 4 * k + i) 0) 4 m
+  pub below : (j : ℕ) → j < at → getD after j 0 ≡ getD before j 0
+  pub beyond : (j : ℕ) → at + 16 * count ≤ j → getD after j 0 ≡ getD before j 0
+
+-- The sums of all lists.
+pub record Sums (lists n : ℕ) (ended : List ℕ) : Type 0 where
+  pub room : SumsRoom lists n ended
+  pub summed : (v k m : ℕ) → v < lists → k < quarters n → m < 16
+      → getD ended (64 * lists + 16 * quarters n * v + 16 * k + m) 0 ≡ unionOver (λ i. getD ended (64 * v + 4 * k + i) 0) 4 m

@@ -1,0 +1,47 @@
+// Sums: the states that are reached where a path of a list ends, from each set of four neighbouring states. They stand behind what is reached
+// from each state alone, sixteen words for four states, so that a step joins one word for four states.
+ghost use Prim.Native.Nat.{ℕ, _+_, _*_, _≤_, _<_};
+ghost use mathlib.Core.Path.{_≡_};
+ghost use lib.ListN.{length, getD};
+ghost use Rattle.verdict.specs.Sums.{quarters, SumsRoom, FourSummed, ListSummed, Sums};
+
+// The sixteen sums of the four words from `from` on are put down from `at` on.
+fn sum_four(ended: &mut [u64], from: usize, at: usize)
+    requires { ⌜ (from + 4 ≤ at) × (at + 16 ≤ length (now ended)) ⌝ }
+    ensures { λ _. ⌜ FourSummed from at (now (ended .entry)) (now (ended .exit)) ⌝ }
+{
+    ended[at] = 0;
+    let mut set: u64 = 1;
+    while set < 16 {
+        let less = (set & (set - 1)) as usize;
+        let state = u64::trailing_zeros(set) as usize;
+        ended[at + (set as usize)] = ended[at + less] | ended[from + state];
+        set += 1;
+    }
+}
+
+// The sums of a list whose words stand from `from` on, four states after the other.
+fn sum_list(ended: &mut [u64], from: usize, at: usize, count: usize)
+    requires { ⌜ (count ≤ 16) × (from + 64 ≤ at) × (at + 16 * count ≤ length (now ended)) ⌝ }
+    ensures { λ _. ⌜ ListSummed from at count (now (ended .entry)) (now (ended .exit)) ⌝ }
+{
+    let mut k = 0;
+    while k < count {
+        sum_four(ended, from + 4 * k, at + 16 * k);
+        k += 1;
+    }
+}
+
+// The sums of all lists, of n states; what is reached from each state alone stays.
+pub fn sum_lists(ended: &mut [u64], lists: usize, n: usize)
+    requires { ⌜ (lists ≤ 16) × (n ≤ 64) × SumsRoom lists n (now ended) ⌝ }
+    ensures { λ _. ⌜ Sums lists n (now (ended .exit))
+        × ((j : ℕ) → j < 64 * lists → getD (now (ended .exit)) j 0 ≡ getD (now (ended .entry)) j 0) ⌝ }
+{
+    let count = (n + 3) / 4;
+    let mut v = 0;
+    while v < lists {
+        sum_list(ended, 64 * v, 64 * lists + 16 * count * v, count);
+        v += 1;
+    }
+}
