@@ -98,22 +98,24 @@ list-columns-requires c κs =
       omega (arith, h, s .pre .14),
     )
 
-ended-from-requires : tie.Need-ended-from-requires Inv-loop μ-loop
-ended-from-requires c κs =
+ended-of-requires : tie.Need-ended-of-requires Inv-loop μ-loop
+ended-of-requires c κs =
     let s = c .before .before .before .before .before .before .before .before .before .before .before .before .before .before .before .before in
     let l = c .before .before .before .before .before .before .before .before .loop in
     let h = c .before .before .before .before .before .before .before .loop-test .taken in
     let list = c .before .before .list-columns in
     let below : list .result < 2 ^ s .args .n =
     ends-below _ _ _ _ _ _ _ _ (s .args .w) (s .args .n) _ _ (l .base) (l .alone) (l .v) (list .result) h (l .inv .1) (s .pre .0) (s .pre .4)
-    (s .pre .5) (s .pre .11) (list .ensures) in
-    λ q m.
-    omega (
-      arith,
-      l .inv .2,
-      member-below (s .args .n) (list .result) q below m,
-      next-list (16 * quarters (s .args .n)) (l .v) (s .args .lists) h,
-      s .pre .15 .room,
+    (s .pre .5) (s .pre .11) (list .ensures) in (
+      omega (arith, h, s .pre .15 .room),
+      λ q m.
+          omega (
+            arith,
+            l .inv .2,
+            member-below (s .args .n) (list .result) q below m,
+            next-list (16 * quarters (s .args .n)) (l .v) (s .args .lists) h,
+            s .pre .15 .room,
+          ),
     )
 
 add-sums : tie.Need-add-sums Inv-loop μ-loop
@@ -147,8 +149,8 @@ loop-again c =
       list .kept .1 .1 .1 .1 .1 .1 .1 .1 .0 ∙ l .inv .0,
       lists-turn (s .args .lists) (s .args .a) (s .args .enter .now) (s .args .sizes .now) (s .args .accepting .now) (s .args .before .now)
           (s .args .ended .now) (s .args .columns .now) (columnIn (s .args .n) (l .words)) _ (l .base) (l .alone) (l .v) (list .result) h
-          (l .inv .1) (omega (arith, list .ok)) (list .ensures) (s .pre .0 .small (l .v) h) (c .ended-from .result)
-          (c .ended-from .ensures (s .args .lists) (s .args .n) (l .v) (s .pre .15) h (s .pre .9) below (l .inv .2)),
+          (l .inv .1) (omega (arith, list .ok)) (list .ensures) (s .pre .0 .small (l .v) h) (c .ended-of .result)
+          (c .ended-of .ensures (s .args .lists) (s .args .n) (s .pre .15) h (s .pre .9) below (l .inv .2)),
       omega (arith, l .inv .2, mul-add (16 * quarters (s .args .n)) (l .v) 1),
     )
 
@@ -202,7 +204,7 @@ step-columns-spec =
     mul-list-columns-3
     shared-slice-read-list-columns-2
     list-columns-requires
-    ended-from-requires
+    ended-of-requires
     add-sums
     add-base
     add-v
