@@ -6,6 +6,7 @@ use super::link_view::leaving_at;
 use super::link_view::next_leaving;
 use super::sizes::Sizes;
 use super::table::index;
+use places::joined::join;
 ghost use mathlib.Core.Path.{_≡_};
 ghost use Prim.Native.Nat.{ℕ, _+_, _-_, _*_, _^_, _≤_, _<_};
 ghost use lib.ListN.{length, getD};
@@ -28,21 +29,6 @@ fn states_below(n: usize) -> u64
     (1 << n) - 1
 }
 
-// The words number a of the states' rows, united.
-fn image(rows: &[u64], symbols: usize, a: usize, states: u64) -> u64
-    requires { ⌜ ((s : ℕ) → Member s states → symbols * s + a < length (now rows)) ⌝ }
-    ensures { λ r. ⌜ r ≡ imageOf (now (rows .entry)) symbols states a ⌝ }
-{
-    let mut all: u64 = 0;
-    let mut rest = states;
-    while rest != 0 {
-        let s = u64::trailing_zeros(rest) as usize;
-        all = all | rows[symbols * s + a];
-        rest = rest & (rest - 1);
-    }
-    all
-}
-
 // The next states of the states over each symbol.
 fn spread_word(rows: &[u64], symbols: usize, states: u64, images: &mut [u64])
     requires { ⌜ ((s a : ℕ) → Member s states → a < symbols → symbols * s + a < length (now rows)) × (symbols ≤ length (now images)) ⌝ }
@@ -50,7 +36,7 @@ fn spread_word(rows: &[u64], symbols: usize, states: u64, images: &mut [u64])
 {
     let mut a = 0;
     while a < symbols {
-        images[a] = image(rows, symbols, a, states);
+        images[a] = join(rows, a, symbols, states);
         a += 1;
     }
 }
@@ -61,7 +47,7 @@ fn next_images(rows: &[u64], cut: bool, symbols: usize, states: u64, images: &mu
     ensures { λ r. ⌜ NextImages cut symbols (now (rows .entry)) states (now (images .entry)) (now (images .exit)) r ⌝ }
 {
     if cut {
-        return image(rows, 1, 0, states);
+        return join(rows, 0, 1, states);
     }
     spread_word(rows, symbols, states, images);
     18446744073709551615

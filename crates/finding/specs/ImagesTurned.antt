@@ -1,6 +1,6 @@
 -- The images of the standings are read off the sources of pairs (Sources): each standing is added to the images of its sources together
 -- with an accepting place.
-use Prim.Native.Nat.{ℕ, _+_, _*_, _-_, _^_, _≤_, _<_}
+use Prim.Native.Nat.{ℕ, _+_, _*_, _-_, _%_, _^_, _≤_, _<_}
 use mathlib.Core.List.{List, _++_}
 use mathlib.Core.Logic.{_↔_, _≢_, _⊎_, inl, inr}
 use mathlib.Core.Path.{_≡_, refl, sym, _∙_, subst}
@@ -11,8 +11,10 @@ use lib.Count.{trailingZeros}
 use lib.ListN.{length, getD, set, drop, replicate, length-set, length-append, length-replicate, length-drop}
 use lib.Seq.{drop-set-lt}
 use Rattle.theory.specs.Places.{Member, one, union}
-use Rattle.theory.specs.PlacesLaws.{member-none, member-one, member-union}
+use Rattle.theory.specs.PlacesLaws.{member-none, member-one, member-union, member-below, member-unionOver}
+use Rattle.theory.specs.PlacesShift.{member-cut}
 use Rattle.places.specs.Followed.{Passed, passed-none, passed-turn, passed-all}
+use Rattle.places.specs.Joined.{joined}
 use Rattle.finding.specs.Padded.{cleared-zero, cleared-behind}
 use Rattle.finding.specs.Sources.{sourcesOf}
 use Rattle.finding.specs.SourcesLaws.{Written, written}
@@ -21,60 +23,23 @@ use Rattle.finding.specs.SourcesLaws.{Written, written}
 pub record Ended (w n : ℕ) (Accepting : ℕ → Type 0) (from : List ℕ) (to r : ℕ) : Type 0 where
   pub exactly : (i : ℕ) → Member i r ↔ ((y : ℕ) × (y < n) × Accepting y × Member i (sourcesOf w from (to, y)))
 
-module _ (w n : ℕ) (from : List ℕ) (to : ℕ) where
-  pub ended-none : (accepting : ℕ) → Ended w n (Passed accepting accepting) from to 0
-  ended-none accepting =
-      record { exactly = λ i. (λ m. absurd (member-none i m), λ (y, h, a, m). absurd (passed-none accepting y a)) }
-
-  pub ended-all : (accepting rest r : ℕ) → rest ≡ 0 → Ended w n (Passed accepting rest) from to r
-      → Ended w n (λ y. Member y accepting) from to r
-  ended-all accepting rest r e s =
-      record {
-        exactly = λ i. (
-          λ m. let (y, h, a, r) = s .exactly i .0 m in (y, h, passed-all accepting rest e y .0 a, r),
-          λ (y, h, a, r). s .exactly i .1 (y, h, passed-all accepting rest e y .1 a, r),
-        );
-      }
-
-  module _ (accepting rest r : ℕ) (within : (i : ℕ) → Member i rest → Member i accepting) (d : rest ≢ 0) (h : rest < 2 ^ 64)
-      (s : Ended w n (Passed accepting rest) from to r) where
-    -- The place is below n: its sources are added.
-    pub ended-in : trailingZeros 64 rest < n
-        → Ended w n (Passed accepting (bitAnd rest (rest - 1))) from to (union r (getD from (w * trailingZeros 64 rest + to) 0))
-    ended-in l =
-        record {
-          exactly = λ i. (
-            λ m. there i (member-union i r (getD from (w * trailingZeros 64 rest + to) 0) .0 m),
-            λ (y, k, a, m). member-union i r (getD from (w * trailingZeros 64 rest + to) 0) .1
-                (back i y k m (passed-turn accepting rest within d h y .0 a)),
-          );
-        }
-      where
-        there : (i : ℕ) → Member i r ⊎ Member i (getD from (w * trailingZeros 64 rest + to) 0)
-            → (y : ℕ) × (y < n) × Passed accepting (bitAnd rest (rest - 1)) y × Member i (sourcesOf w from (to, y))
-        there i (inl m) =
-            let (y, k, a, o) = s .exactly i .0 m in
-            (y, k, passed-turn accepting rest within d h y .1 (inl a), o)
-        there i (inr m) = (trailingZeros 64 rest, l, passed-turn accepting rest within d h (trailingZeros 64 rest) .1 (inr refl), m)
-
-        back : (i y : ℕ) → y < n → Member i (sourcesOf w from (to, y)) → Passed accepting rest y ⊎ (y ≡ trailingZeros 64 rest)
-            → Member i r ⊎ Member i (getD from (w * trailingZeros 64 rest + to) 0)
-        back i y k m (inl a) = inl (s .exactly i .1 (y, k, a, m))
-        back i y k m (inr e) = inr (subst (λ z. Member i (getD from (w * z + to) 0)) e m)
-
-    -- It is not.
-    pub ended-out : n ≤ trailingZeros 64 rest → Ended w n (Passed accepting (bitAnd rest (rest - 1))) from to r
-    ended-out l =
-        record {
-          exactly = λ i. (
-            λ m. let (y, k, a, o) = s .exactly i .0 m in (y, k, passed-turn accepting rest within d h y .1 (inl a), o),
-            λ (y, k, a, m). s .exactly i .1 (y, k, back y k (passed-turn accepting rest within d h y .0 a), m),
-          );
-        }
-      where
-        back : (y : ℕ) → y < n → Passed accepting rest y ⊎ (y ≡ trailingZeros 64 rest) → Passed accepting rest y
-        back y k (inl a) = a
-        back y k (inr e) = absurd (omega arith)
+-- They are joined: a standing has one word for each place, w words apart.
+pub ended-joined : (w n accepting : ℕ) (from : List ℕ) (to r : ℕ) → accepting < 2 ^ 64 → r ≡ joined from to w (accepting % 2 ^ n)
+    → Ended w n (λ y. Member y accepting) from to r
+ended-joined w n accepting from to r small e =
+    record {
+      exactly = λ i. (
+        λ m.
+            let (y, l, a, b) = member-unionOver words 64 (accepting % 2 ^ n) i .0 (subst (Member i) e m) in
+            let (h, k) = member-cut n y accepting .0 a in
+            (y, h, k, b),
+        λ (y, h, k, b). subst (Member i) (sym e)
+            (member-unionOver words 64 (accepting % 2 ^ n) i .1 (y, member-below 64 accepting y small k, member-cut n y accepting .1 (h, k), b)),
+      );
+    }
+  where
+    words : ℕ → ℕ
+    words y = getD from (w * y + to) 0
 
 -- A standing is added to the images of some standings.
 pub record Added (Those : ℕ → Type 0) (to : ℕ) (out out′ : List ℕ) : Type 0 where

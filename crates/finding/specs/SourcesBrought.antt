@@ -1,19 +1,18 @@
 -- The sources that a label brings from a place are the same for all places that it enters: they are gathered once, and given to each of these
 -- (Sources).
 use Prim.Native.Nat.{ℕ, _+_, _-_, _*_, _^_, _≤_, _<_}
-use mathlib.Core.List.{List, _++_}
+use mathlib.Core.List.{List}
 use mathlib.Core.Logic.{_↔_, _≢_, _⊎_, inl, inr, ⊎-elim}
 use mathlib.Core.Path.{_≡_, refl, sym, ap, _∙_, subst}
 use native.Mathlib.Omega.{arith}
 use lib.Bits.{bitAnd}
 use lib.Count.{trailingZeros}
-use lib.ListN.{length, getD, set, drop, replicate}
+use lib.ListN.{length, getD, set}
 use lib.Seq.{getD-set-same}
 use Rattle.theory.specs.Places.{Member, one, union}
 use Rattle.theory.specs.PlacesLaws.{member-none, member-one, member-union}
 use Rattle.places.specs.Followed.{Passed, passed-turn}
 use Rattle.places.specs.NextPlace.{trailing-here}
-use Rattle.finding.specs.Padded.{cleared-zero}
 use Rattle.finding.specs.Sources.{sourcesOf, Sources, Gained, At, Followed, Moved}
 use Rattle.finding.specs.SourcesLaws.{Written, written, gained-same, gained-then, followed-gained}
 
@@ -62,13 +61,13 @@ brought-as {moves} {count} {a} {p} {Taken} {from} e f b =
 -- What is brought from one standing more.
 
 module _ (moves : List ℕ) (count a p : ℕ) (from : List ℕ) where
-  pub brought-none : {Taken : ℕ → Type 0} (moved : List ℕ) → ((s : ℕ) → ¬ Taken s)
-      → Brought moves count a p Taken from (replicate count 0 ++ drop count moved) 0
-  brought-none moved nothing =
+  pub brought-none : {Taken : ℕ → Type 0} (moved : List ℕ) → ((t : ℕ) → t < count → getD moved t 0 ≡ 0) → ((s : ℕ) → ¬ Taken s)
+      → Brought moves count a p Taken from moved 0
+  brought-none moved zeros nothing =
       record {
         small = λ t m. absurd (member-none t m);
         complete = λ s t k e l. absurd (nothing s k);
-        sound = λ t i l m. absurd (member-none i (subst (Member i) (cleared-zero count t moved l) m));
+        sound = λ t i l m. absurd (member-none i (subst (Member i) (zeros t l) m));
       }
 
   -- The same standings are taken, but for some that lead nowhere.

@@ -8,9 +8,9 @@ use native.Mathlib.Omega.{arith}
 use lib.Bits.{bitAnd, and-le-r}
 use lib.Count.{trailingZeros}
 use lib.ListN.{length, getD, set, drop, replicate, length-replicate, getD-replicate, List·getD-eq-default}
-use lib.Seq.{getD-set-same}
+use lib.Seq.{getD-set-same, ext-getD}
 use Rattle.theory.specs.Places.{Member, one, union, intersection}
-use Rattle.theory.specs.PlacesLaws.{member-none, member-one, member-union}
+use Rattle.theory.specs.PlacesLaws.{member-none, member-one, member-union, no-members}
 use Rattle.theory.specs.Closure.{Reaches, here, onward}
 use Rattle.theory.specs.ClosureLaws.{reaches-trans, closed-under}
 use Rattle.places.specs.NextPlace.{trailing-here}
@@ -233,7 +233,14 @@ pub taken-below : (D : Tables) (n : ℕ) (X : Sources) → X .waiting ≢ 0 → 
     → trailingZeros 64 (X .waiting) < n
 taken-below D n X some word s = s .below (trailingZeros 64 (X .waiting)) (trailing-here 64 (X .waiting) some word)
 
--- The end: no place waits.
+-- The end: no place waits, and so nothing is pending.
+
+pub none-pending : (D : Tables) (n slots : ℕ) (X : Sources) → length (X .pending) ≡ slots → X .waiting ≡ 0 → Searching D n X
+    → X .pending ≡ replicate slots 0
+none-pending D n slots X size e s =
+    ext-getD 0 (X .pending) (replicate slots 0) (size ∙ sym (length-replicate {A = ℕ} slots 0))
+    (λ q h. no-members (getD (X .pending) q 0) (λ t m. member-none q (subst (Member q) e (s .waits q t m .0))) ∙ sym (zeros slots q))
+
 pub searched : (D : Tables) (n : ℕ) (X : Sources) → 0 < n → X .waiting ≡ 0 → Searching D n X → Searched D n (X .from)
 searched D n X some e s =
     record {

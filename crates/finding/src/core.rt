@@ -134,6 +134,63 @@ fn states_in(
     }
 }
 
+// The states over at most four lists.
+fn few_states(
+    labels: u64,
+    lists: u64,
+    limit: u64,
+    follow: &[u64],
+    enter: &[u64],
+    sizes: &[u64; 17],
+    accepting: &[u64; 17],
+    count: u64,
+    found: &[u64; 64],
+    moves: &[u8; 2048],
+    table: &mut [u16],
+    marks: &mut [u8],
+) -> FindAnswer
+    requires { ⌜ (lists ≤ 4) × RowsFit lists (now follow) (now enter) ⌝ }
+    ensures { λ r. ⌜ StatesPart (jobTables (now (moves .entry)) count labels (now (follow .entry)) (now (enter .entry)) (now (sizes .entry))
+        (now (accepting .entry))) lists limit (now (found .entry)) (now (table .entry)) (now (marks .entry)) r
+        (now (table .exit)) (now (marks .exit)) ⌝ }
+{
+    if lists <= 2 {
+        let mut images = [0; 128];
+        states_in(
+            labels,
+            lists,
+            limit,
+            follow,
+            enter,
+            sizes,
+            accepting,
+            count,
+            found,
+            moves,
+            &mut images,
+            table,
+            marks,
+        )
+    } else {
+        let mut images = [0; 256];
+        states_in(
+            labels,
+            lists,
+            limit,
+            follow,
+            enter,
+            sizes,
+            accepting,
+            count,
+            found,
+            moves,
+            &mut images,
+            table,
+            marks,
+        )
+    }
+}
+
 // The states over the lists. To zero room for sixteen lists takes longer than to find the states of a small job.
 fn find_states(
     labels: u64,
@@ -155,8 +212,7 @@ fn find_states(
         (now (table .exit)) (now (marks .exit)) ⌝ }
 {
     if lists <= 4 {
-        let mut images = [0; 256];
-        states_in(
+        few_states(
             labels,
             lists,
             limit,
@@ -167,7 +223,6 @@ fn find_states(
             count,
             found,
             moves,
-            &mut images,
             table,
             marks,
         )

@@ -2,7 +2,8 @@
 use crate::image::images;
 use places::Places;
 ghost use Prim.Native.Nat.{ℕ, _+_, _*_, _≤_, _<_};
-ghost use lib.ListN.{length, getD};
+ghost use mathlib.Core.Path.{_≡_};
+ghost use lib.ListN.{length, getD, replicate};
 ghost use Rattle.finding.specs.ImageSearch.{tables, Fitting};
 ghost use Rattle.finding.specs.RowsFit.{RowsFit};
 ghost use Rattle.finding.specs.ListRows.{jobTables, FilledRow, ListTold, Paired, ImagesOf};
@@ -16,13 +17,16 @@ fn fill_row(
     enter: &[u64],
     accepting: u64,
     v: usize,
+    pending: &mut [u64; 64],
+    moved: &mut [u64; 64],
     sources: &mut [u64],
     rows: &mut [u64],
 )
     requires { ⌜ (v < 16) × (64 * v + 64 ≤ length (now rows)) × Fitting (tables (now moves) count labels (now follow) (now enter))
-        × (0 < length (now follow)) × (count * length (now follow) ≤ length (now sources)) ⌝ }
+        × (0 < length (now follow)) × (count * length (now follow) ≤ length (now sources)) × (now pending ≡ replicate 64 0) ⌝ }
     ensures { λ _. ⌜ FilledRow (tables (now (moves .entry)) count labels (now (follow .entry)) (now (enter .entry))) accepting v
         (now (rows .entry)) (now (rows .exit)) ⌝ }
+    ensures cleared { λ _. ⌜ now (pending .exit) ≡ replicate 64 0 ⌝ }
 {
     let start = 64 * v;
     images(
@@ -32,6 +36,8 @@ fn fill_row(
         follow,
         enter,
         Places(accepting),
+        pending,
+        moved,
         sources,
         &mut rows[start..start + 64],
     );
@@ -47,13 +53,17 @@ fn list_row(
     sizes: &[u64; 17],
     accepting: &[u64; 17],
     v: usize,
+    pending: &mut [u64; 64],
+    moved: &mut [u64; 64],
     sources: &mut [u64],
     rows: &mut [u64],
 )
     requires { ⌜ (v < 16) × (count ≤ 64) × (labels ≤ 32) × Paired count (now sizes) v (length (now sources))
-        × (64 * v + 64 ≤ length (now rows)) × (64 * v + 128 ≤ length (now follow)) × (32 * v + 64 ≤ length (now enter)) ⌝ }
+        × (64 * v + 64 ≤ length (now rows)) × (64 * v + 128 ≤ length (now follow)) × (32 * v + 64 ≤ length (now enter))
+        × (now pending ≡ replicate 64 0) ⌝ }
     ensures { λ _. ⌜ ListTold (jobTables (now (moves .entry)) count labels (now (follow .entry)) (now (enter .entry)) (now (sizes .entry))
         (now (accepting .entry))) v (now (rows .entry)) (now (rows .exit)) ⌝ }
+    ensures cleared { λ _. ⌜ now (pending .exit) ≡ replicate 64 0 ⌝ }
 {
     let x = v + 1;
     let size = sizes[x] as usize;
@@ -72,6 +82,8 @@ fn list_row(
         &enter[first..end],
         accepting[x],
         v,
+        pending,
+        moved,
         sources,
         rows,
     );
@@ -94,7 +106,7 @@ fn greatest(sizes: &[u64; 17], lists: usize) -> u64
     most
 }
 
-// The rows of all lists. The words for the sources of pairs are used for one list after the other.
+// The rows of all lists. What the search for sources needs is used for one list after the other.
 fn rows_of(
     moves: &[u8; 2048],
     count: u64,
@@ -113,6 +125,8 @@ fn rows_of(
     ensures { λ _. ⌜ ImagesOf (jobTables (now (moves .entry)) count labels (now (follow .entry)) (now (enter .entry)) (now (sizes .entry))
         (now (accepting .entry))) lists (now (rows .exit)) ⌝ }
 {
+    let mut pending = [0; 64];
+    let mut moved = [0; 64];
     let mut v = 0;
     while v < lists {
         list_row(
@@ -124,6 +138,8 @@ fn rows_of(
             sizes,
             accepting,
             v,
+            &mut pending,
+            &mut moved,
             sources,
             rows,
         );

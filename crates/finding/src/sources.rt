@@ -3,7 +3,7 @@
 ghost use Prim.Native.Nat.{ℕ, _+_, _*_, _^_, _≤_, _<_};
 ghost use mathlib.Core.List.{List};
 ghost use mathlib.Core.Path.{_≡_};
-ghost use lib.ListN.{length};
+ghost use lib.ListN.{length, getD, replicate};
 ghost use Rattle.theory.specs.Places.{Member};
 ghost use Rattle.finding.specs.ImageSearch.{tables, Fitting};
 ghost use Rattle.finding.specs.Sources.{sources, gainOf, gathered, Followed, Only, Moved, Labelled, Begun, Searched};
@@ -75,6 +75,22 @@ fn follow_standings(
     waiting | (gain(0, added) << next)
 }
 
+// The first `count` words become zero. Sixteen are cleared at once where they suffice: to clear as many as there are takes a call.
+fn clear_moved(moved: &mut [u64; 64], count: usize)
+    requires { ⌜ count ≤ 64 ⌝ }
+    ensures { λ _. ⌜ ((t : ℕ) → t < count → getD (now (moved .exit)) t 0 ≡ 0) ⌝ }
+{
+    if 16 < count {
+        clear_words(moved, count);
+        return;
+    }
+    let mut i = 0;
+    while i < 16 {
+        moved[i] = 0;
+        i += 1;
+    }
+}
+
 // What the label a brings from the place p with the standings taken: `moved` has for each standing that it leads to the sources of all pairs
 // that it comes from. The standings that it leads to are returned.
 fn gather(
@@ -89,7 +105,7 @@ fn gather(
     requires { ⌜ (count ≤ 64) × (a < 32) × ((s : ℕ) → Member s taken → s < count) × (count * p + count ≤ length (now from)) ⌝ }
     ensures { λ r. ⌜ Brought (now (moves .entry)) count a p (λ s. Member s taken) (now (from .entry)) (now (moved .exit)) r ⌝ }
 {
-    clear_words(moved, count);
+    clear_moved(moved, count);
     let mut met: u64 = 0;
     let mut rest = taken;
     while rest != 0 {
@@ -274,27 +290,30 @@ fn begin(count: usize, places: usize, from: &mut [u64]) -> u64
     all
 }
 
-// The sources of all pairs: while a place waits, its labels are followed from the standings pending at it.
+// The sources of all pairs: while a place waits, its labels are followed from the standings pending at it. Nothing is pending before, and
+// nothing at the end; what `moved` holds does not matter.
 pub fn find_sources(
     moves: &[u8; 2048],
     count: usize,
     labels: usize,
     follow: &[u64],
     enter: &[u64],
+    pending: &mut [u64; 64],
+    moved: &mut [u64; 64],
     from: &mut [u64],
 )
     requires { ⌜ Fitting (tables (now moves) count labels (now follow) (now enter)) × (0 < length (now follow))
-        × (count * length (now follow) ≤ length (now from)) ⌝ }
+        × (count * length (now follow) ≤ length (now from)) × (now pending ≡ replicate 64 0) ⌝ }
     ensures { λ _. ⌜ Searched (tables (now (moves .entry)) count labels (now (follow .entry)) (now (enter .entry)))
         (length (now (follow .entry))) (now (from .exit)) ⌝ }
+    ensures cleared { λ _. ⌜ now (pending .exit) ≡ replicate 64 0 ⌝ }
 {
-    let mut pending = [0; 64];
-    let mut moved = [0; 64];
     pending[0] = begin(count, follow.len(), from);
     let mut waiting: u64 = 1;
     while waiting != 0 {
         let p = u64::trailing_zeros(waiting) as usize;
-        let taken = pending[p];
+        let held = &pending[..];
+        let taken = held[p];
         pending[p] = 0;
         waiting = follow_labels(
             moves,
@@ -305,8 +324,8 @@ pub fn find_sources(
             p,
             taken,
             from,
-            &mut pending,
-            &mut moved,
+            pending,
+            moved,
             waiting & (waiting - 1),
         );
     }

@@ -4,9 +4,10 @@ ghost use Prim.Native.Nat.{_%_, _^_};
 ghost use Rattle.theory.specs.Places.{intersection};
 ghost use Rattle.theory.specs.Automaton.{nexts};
 use places::Places;
+use places::joined::join;
 
 // The places of a standing below n.
-fn below(standing: u64, n: usize) -> u64
+pub fn below(standing: u64, n: usize) -> u64
     ensures { λ r. ⌜ r ≡ standing % 2 ^ n ⌝ }
 {
     if n >= 64 {
@@ -19,13 +20,7 @@ fn below(standing: u64, n: usize) -> u64
 pub fn follows(follow: &[u64], standing: Places) -> Places
     ensures { λ r. ⌜ r .0 ≡ nexts (standing .0) (now (follow .entry)) ⌝ }
 {
-    let mut next: u64 = 0;
-    let mut rest = below(standing.0, follow.len());
-    while rest != 0 {
-        next = next | follow[u64::trailing_zeros(rest) as usize];
-        rest = rest & (rest - 1);
-    }
-    Places(next)
+    Places(join(follow, 0, 1, below(standing.0, follow.len())))
 }
 
 // The step of a standing over a label.

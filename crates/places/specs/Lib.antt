@@ -5,3 +5,4 @@ pub mod WordsShift
 pub mod NextPlace
 pub mod LeastPlace
 pub mod Followed
+pub mod Joined

@@ -1,5 +1,6 @@
 // Sets of places by value (document 01: "a standing of the query is a set of at most 64 places"). A set is the number that `theory` calls
 // it by: place i is in it where bit i is 1.
+pub mod joined;
 pub mod wide;
 pub mod words;
 

@@ -1,8 +1,7 @@
 -- When a name stands at a place of a text: the length of the run of name bytes there and its first byte decide.
 use Prim.Native.Nat.{ℕ, _+_, _-_, _<_, _≤_}
 use mathlib.Core.Bool.{true, false, _&&_, and-false}
-use mathlib.Core.List.{[], _∷_}
-use mathlib.Core.Path.{_≡_, refl, ap, _∙_}
+use mathlib.Core.Path.{_≡_, ap, _∙_}
 use native.Mathlib.Nat.{add-zero}
 use native.Mathlib.Omega.{arith}
 use lib.Dec.{eqb, leb}
@@ -12,14 +11,10 @@ use borrow.Author.Tests.{le-leb, lt-leb}
 use Rattle.theory.specs.Expression.{label}
 use Rattle.syntax.specs.Byte.{Bytes, kind, letter}
 use Rattle.syntax.specs.Name.{isName}
+use Rattle.syntax.specs.NameLaws.{no-bytes}
 use Rattle.syntax.specs.Parser.{failed, parsed, run, pastRun, named}
 use Rattle.syntax.proofs.Run.{run-lengths}
 use Rattle.syntax.proofs.RunName.{run-name}
-
-no-bytes : (u : Bytes) → length u ≡ 0 → isName u ≡ false
-unfolding isName
-no-bytes [] e = refl
-no-bytes (b ∷ u) e = absurd (omega arith)
 
 -- The run at the place `at` ends at `end`.
 module _ (s : Bytes) (at end : ℕ) (ends : end ≡ length s - length (pastRun (drop at s))) where

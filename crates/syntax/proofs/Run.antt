@@ -1,14 +1,12 @@
 -- The longest run of name bytes at the front of a text: with what comes after it, it is the text.
 use Prim.Native.Nat.{ℕ, _+_, _-_}
-use mathlib.Core.Bool.{Bool, true, false, _&&_}
+use mathlib.Core.Bool.{Bool, true, false}
 use mathlib.Core.List.{[], _∷_, _++_}
 use mathlib.Core.Path.{_≡_, refl, sym, ap, _∙_}
 use native.Mathlib.Omega.{arith}
-use lib.Dec.{eqb, eqb·suc-zero}
 use lib.ListN.{length, take, length-append}
 use lib.Seq.{take-at}
 use Rattle.syntax.specs.Byte.{Bytes, nameByte}
-use Rattle.syntax.specs.Name.{nameBytes}
 use Rattle.syntax.specs.Parser.{run, pastRun}
 
 pub run-on : (b : ℕ) (s : Bytes) → nameByte b ≡ true → pastRun (b ∷ s) ≡ pastRun s
@@ -32,13 +30,3 @@ pub run-part : (s : Bytes) → take (length s - length (pastRun s)) s ≡ run s
 run-part s =
     ap (take (length s - length (pastRun s))) (sym (run-past s))
     ∙ take-at (run s) (pastRun s) (length s - length (pastRun s)) (omega (arith, run-lengths s))
-
--- The run is the whole text where every byte is one of a name.
-pub run-whole : (s : Bytes) → nameBytes s ≡ eqb (length (pastRun s)) 0
-unfolding nameBytes pastRun
-run-whole [] = refl
-run-whole (b ∷ s) = go (nameByte b) refl (run-whole s)
-  where
-    go : (t : Bool) → nameByte b ≡ t → nameBytes s ≡ eqb (length (pastRun s)) 0 → (t && nameBytes s) ≡ eqb (length (pastRun (b ∷ s))) 0
-    go true e h = rw (e, pastRun) h
-    go false e h = rw (e, pastRun) (sym (eqb·suc-zero (length s)))

@@ -1,13 +1,13 @@
 -- Laws of names: the tests on names decide what they are meant to, and what `find` finds in a table.
 use Prim.Native.Nat.{ℕ, zero, suc, _+_, _≤_, _<_}
-use mathlib.Core.Bool.{Bool, true, false, _&&_, and-eq-true-iff, false≢true}
+use mathlib.Core.Bool.{Bool, true, false, _&&_, and-eq-true-iff, and-false, false≢true}
 use mathlib.Core.List.{List, [], _∷_}
 use mathlib.Core.Logic.{_↔_}
 use mathlib.Core.Path.{_≡_, refl, sym, _∙_, ap, ap₂}
 use native.Mathlib.Decide.{decLt}
 use native.Mathlib.Omega.{arith}
 use lib.Dec.{eqb, leb}
-use lib.ListN.{length, getD}
+use lib.ListN.{length, drop, getD}
 use borrow.Author.Tests.{eqb-true, eq-eqb, leb-true, le-leb}
 use Rattle.syntax.specs.Byte.{Bytes, kind, letter, NameByte, nameByte, hyphen}
 use Rattle.syntax.specs.Name.{NameBytes, nothing, next, IsName, SameName, nameBytes, isName, sameName, find}
@@ -58,6 +58,18 @@ is-name-exactly s = (there s, back)
     back : {s : Bytes} → IsName s → isName s ≡ true
     back n = ap isName (n .text) ∙ cons (n .first) (n .others) (n .begins) (n .goes-on) (rw (n .text) at (n .short))
 
+-- A name has a byte.
+pub no-bytes : (s : Bytes) → length s ≡ 0 → isName s ≡ false
+unfolding isName
+no-bytes [] e = refl
+no-bytes (b ∷ s) e = absurd (omega arith)
+
+-- What is asked of a text that has a byte.
+pub name-parts : (s : Bytes) → 0 < length s → isName s ≡ ((eqb (kind (getD s 0 0)) letter && nameBytes (drop 1 s)) && leb (length s) 16)
+unfolding isName
+name-parts [] h = absurd (omega arith)
+name-parts (b ∷ s) h = refl
+
 pub same-name-exactly : (m n : Bytes) → (sameName m n ≡ true) ↔ SameName m n
 unfolding sameName
 same-name-exactly m n = (there m n, λ e. ap (λ z. sameName z n) e ∙ self n)
@@ -73,6 +85,20 @@ same-name-exactly m n = (there m n, λ e. ap (λ z. sameName z n) e ∙ self n)
     self : (n : Bytes) → sameName n n ≡ true
     self [] = refl
     self (a ∷ n) = and-eq-true-iff (eqb a a) (sameName n n) .1 (eq-eqb a a refl, self n)
+
+-- Names of different lengths differ.
+pub lengths-differ : (a b : Bytes) → (length a ≡ length b → ⊥) → false ≡ sameName a b
+unfolding sameName
+lengths-differ [] [] f = absurd (f refl)
+lengths-differ [] (y ∷ b) f = refl
+lengths-differ (x ∷ a) [] f = refl
+lengths-differ (x ∷ a) (y ∷ b) f = rw (← lengths-differ a b (λ e. f (ap suc e))) (sym (and-false (eqb x y)))
+
+-- A text of one byte.
+pub one-byte : (s : Bytes) → length s ≡ 1 → getD s 0 0 ∷ [] ≡ s
+one-byte [] e = absurd (omega arith)
+one-byte (b ∷ []) e = refl
+one-byte (b ∷ (d ∷ s)) e = absurd (omega arith)
 
 -- How `find` goes on from an entry, by the test on that entry.
 pub find-here : (n : Bytes) (i : ℕ) (m : Bytes) (t : List Bytes) → sameName m n ≡ true → find n i (m ∷ t) ≡ i

@@ -1,6 +1,6 @@
 -- The columns of the occurrences of one list after a step (Columns): what the loop over the occurrences that the label enters keeps and
 -- promises. The occurrences of the list come after the offset `base`, and are counted from 0 where a set holds them alone.
-use Prim.Native.Nat.{ℕ, suc, _+_, _*_, _-_, _/_, _%_, _^_, _≤_, _<_}
+use Prim.Native.Nat.{ℕ, zero, suc, _+_, _*_, _-_, _/_, _%_, _^_, _≤_, _<_}
 use mathlib.Core.List.{List}
 use mathlib.Core.Logic.{_↔_, _≢_, _⊎_, inl, inr}
 use mathlib.Core.Path.{_≡_, refl, sym, ap, _∙_, subst}
@@ -12,10 +12,11 @@ use lib.ListN.{getD}
 use borrow.Author.Tests.{ne-eqb}
 use Rattle.theory.specs.Places.{Member, member, union, when, unionOver}
 use Rattle.theory.specs.PlacesLaws.{member-none, member-zero, member-suc, member-test, member-union, member-when, member-unionOver}
-use Rattle.theory.specs.PlacesLaws.{member-below, members-below}
+use Rattle.theory.specs.PlacesLaws.{member-below, members-below, equal-members}
 use Rattle.theory.specs.PlacesShift.{member-cut}
 use Rattle.places.specs.NextPlace.{trailing-here}
 use Rattle.places.specs.Followed.{FollowedLeft, followed-start, followed-turn, followed-end, least-left}
+use Rattle.places.specs.Joined.{joined}
 use Rattle.verdict.specs.Columns.{StatesWithin}
 use Rattle.verdict.specs.WordBits.{one-bit}
 use Rattle.verdict.specs.TurnedColumns.{Puts}
@@ -159,9 +160,47 @@ joined-inner columns base from d =
 pub inner-exactly : (s size : ℕ) → size < 64 → bitAnd (s / 2) ((1 * 2 ^ size) % 2 ^ 64 - 1) ≡ innerOf s size
 inner-exactly s size h = ap (λ z. bitAnd (s / 2) (z - 1)) (one-bit size (omega arith)) ∙ and-mask (s / 2) size
 
--- The occurrences of a set whose offsets are below a bound.
-pub below-after : (base from room : ℕ) → Below base from room → Below (base + 1) (from / 2) room
-below-after base from room h o m = omega (arith, h (suc o) (member-suc o from .1 m))
+-- The places of a set but the start are its occurrences.
+after-start : (from p : ℕ) → Member p (from - bitAnd from 1) → (o : ℕ) × (p ≡ suc o) × Member o (from / 2)
+after-start from zero m = absurd (omega (arith, member-zero (from - bitAnd from 1) .0 m, and-mask from 1))
+after-start from (suc o) m =
+    let e : (from - bitAnd from 1) / 2 ≡ from / 2 = omega (arith, and-mask from 1) in
+    (o, refl, subst (Member o) e (member-suc o (from - bitAnd from 1) .0 m))
+
+pub below-after : (base from room : ℕ) → Below base from room → Below base (from - bitAnd from 1) room
+below-after base from room h p m =
+    let (o, e, k) = after-start from p m in
+    h p (subst (λ z. Member z from) (sym e) (member-suc o from .1 k))
+
+-- Their columns, counted from 0.
+pub joined-after : (columns : List ℕ) (base from : ℕ) → from < 2 ^ 64
+    → joined columns base 1 (from - bitAnd from 1) ≡ unionOver (λ o. getD columns (base + 1 + o) 0) 64 (from / 2)
+joined-after columns base from h = equal-members (unionOver at 64 rest) (unionOver after 64 (from / 2)) λ y. (
+  λ m.
+      let (p, l, a, b) = member-unionOver at 64 rest y .0 m in
+      let (o, e, k) = after-start from p a in
+      let z : 1 * p + base ≡ base + 1 + o = omega arith in
+      member-unionOver after 64 (from / 2) y .1 (o, omega arith, k, subst (λ (i : ℕ). Member y (getD columns i 0)) z b),
+  λ m.
+      let (o, l, a, b) = member-unionOver after 64 (from / 2) y .0 m in
+      let e : from / 2 ≡ rest / 2 = omega (arith, and-mask from 1) in
+      let z : base + 1 + o ≡ 1 * suc o + base = omega arith in
+      member-unionOver at 64 rest y .1 (
+        suc o,
+        member-below 64 from (suc o) h (member-suc o from .1 a),
+        member-suc o rest .1 (subst (Member o) e a),
+        subst (λ (i : ℕ). Member y (getD columns i 0)) z b,
+      ),
+)
+  where
+    rest : ℕ
+    rest = from - bitAnd from 1
+
+    at : ℕ → ℕ
+    at p = getD columns (1 * p + base) 0
+
+    after : ℕ → ℕ
+    after o = getD columns (base + 1 + o) 0
 
 -- Where the start is among the places, there is a column: the first, of the states alone.
 pub start-below : (base from room : ℕ) → Below base from room → bitAnd from 1 ≡ 1 → 0 < room

@@ -17,15 +17,9 @@ use Rattle.theory.specs.PlacesShift.{member-cut, member-down}
 use Rattle.places.specs.UnionLaws.{union-assoc}
 use Rattle.places.specs.NextPlace.{trailing-here}
 use Rattle.places.specs.Followed.{least-first, over-none}
+use Rattle.places.specs.Joined.{over-same}
 use Rattle.verdict.specs.Columns.{Finishing}
 use Rattle.verdict.specs.Sums.{quarters, SumsRoom, FourSummed, ListSummed, Sums}
-
--- The union of the same sets.
-over-same : (f g : ℕ → ℕ) (n s : ℕ) → ((x : ℕ) → x < n → f x ≡ g x) → unionOver f n s ≡ unionOver g n s
-over-same f g n s same = equal-members (unionOver f n s) (unionOver g n s) λ y. (
-  λ m. let (x, l, a, b) = member-unionOver f n s y .0 m in member-unionOver g n s y .1 (x, l, a, subst (Member y) (same x l) b),
-  λ m. let (x, l, a, b) = member-unionOver g n s y .0 m in member-unionOver f n s y .1 (x, l, a, subst (Member y) (sym (same x l)) b),
-)
 
 -- A set of four places has no others.
 over-four : (f : ℕ → ℕ) (s : ℕ) → s < 2 ^ 4 → unionOver f 64 s ≡ unionOver f 4 s

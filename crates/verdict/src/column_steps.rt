@@ -11,28 +11,16 @@ ghost use Rattle.verdict.specs.ColumnLists.{Below, PlacesOf, innerOf, jo
 ghost use Rattle.verdict.specs.Sums.{quarters, Sums};
 ghost use Rattle.verdict.specs.TurnedColumns.{columnIn};
 use crate::columns::put_at;
-
-// The columns after the offset `base` of the places of a set, all in one; place 0 has the first of them.
-fn joined_after(columns: &[u64], base: usize, places: u64) -> u64
-    requires { ⌜ Below (base + 1) places (length (now columns)) ⌝ }
-    ensures { λ r. ⌜ r ≡ unionOver (λ o. getD (now (columns .entry)) (base + 1 + o) 0) 64 places ⌝ }
-{
-    let mut all: u64 = 0;
-    let mut rest = places;
-    while rest != 0 {
-        all = all | columns[base + 1 + (u64::trailing_zeros(rest) as usize)];
-        rest = rest & (rest - 1);
-    }
-    all
-}
+use places::joined::join;
 
 // The columns of the places of a list, all in one: the start's is that of the states alone, the occurrences' come after the offset `base`.
 fn joined(columns: &[u64], base: usize, from: u64) -> u64
     requires { ⌜ Below base from (length (now columns)) ⌝ }
     ensures { λ r. ⌜ r ≡ joinedOf (now (columns .entry)) base from ⌝ }
 {
-    let inner = joined_after(columns, base, from >> 1);
-    if from & 1 == 1 {
+    let start = from & 1;
+    let inner = join(columns, base, 1, from - start);
+    if start == 1 {
         return columns[0] | inner;
     }
     inner
@@ -108,20 +96,6 @@ fn ended_from(ended: &[u64], sums: usize, ends: u64) -> u64
     all
 }
 
-// The same, one state after the other, from the words of the list v.
-fn ended_each(ended: &[u64], v: usize, ends: u64) -> u64
-    requires { ⌜ 64 * v + 64 ≤ length (now ended) ⌝ }
-    ensures { λ r. ⌜ r ≡ unionOver (λ q. getD (now (ended .entry)) (64 * v + q) 0) 64 ends ⌝ }
-{
-    let mut all: u64 = 0;
-    let mut rest = ends;
-    while rest != 0 {
-        all = all | ended[64 * v + (u64::trailing_zeros(rest) as usize)];
-        rest = rest & (rest - 1);
-    }
-    all
-}
-
 // The states of a set but the least.
 fn others(set: u64) -> u64
     ensures { λ r. ⌜ r ≡ intersection set (set - 1) ⌝ }
@@ -139,7 +113,7 @@ fn ended_of(ended: &[u64], v: usize, sums: usize, ends: u64) -> u64
         → sums ≡ 64 * lists + 16 * quarters n * v → r ≡ unionOver (λ q. getD (now (ended .entry)) (64 * v + q) 0) 64 ends) ⌝ }
 {
     if others(ends) == 0 {
-        return ended_each(ended, v, ends);
+        return join(ended, 64 * v, 1, ends);
     }
     ended_from(ended, sums, ends)
 }

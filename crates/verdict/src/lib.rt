@@ -2,6 +2,7 @@
 mod column_steps;
 mod columns;
 pub mod cover;
+mod explore;
 mod index;
 mod leading;
 mod next_cover;

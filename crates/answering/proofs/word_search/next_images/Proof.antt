@@ -9,8 +9,8 @@ use borrow.Author.Needs.{needs}
 use Rattle.answering.proofs.word_search.next_images.Statement.{statement}
 use Rattle.answering.proofs.word_search.next_images.Tie as tie
 
-image-requires : tie.Need-image-requires
-image-requires c κs =
+join-requires : tie.Need-join-requires
+join-requires c κs =
     let at-start = c .before .before .before in
     let a = at-start .args in
     λ s m.
@@ -22,7 +22,7 @@ returns c =
     let at-if1 = c .before in
     let at-start = at-if1 .before .before .before in
     let a = at-start .args in
-    cut-images (a .symbols) (a .rows .now) (a .images .now) (at-if1 .if1 .taken) (omega arith) (c .image .ensures)
+    cut-images (a .symbols) (a .rows .now) (a .images .now) (at-if1 .if1 .taken) (omega arith) (c .join .ensures)
 
 spread-word-requires : tie.Need-spread-word-requires
 spread-word-requires c κs =
@@ -44,4 +44,4 @@ returns-2 c =
     spread-images (at-if1 .if1 .left) (omega arith) (at-spread-word .spread-word .ensures)
 
 pub next-images-spec : {M : Type 1} → statement M
-next-images-spec = tie.close (tie.spec image-requires returns spread-word-requires same-length returns-2)
+next-images-spec = tie.close (tie.spec join-requires returns spread-word-requires same-length returns-2)

@@ -20,8 +20,8 @@ abbrev μ-loop : tie.MeasureT-loop
 loop-holds : tie.Need-loop-holds Inv-loop μ-loop
 loop-holds c = (omega arith, refl, λ b h. absurd (omega arith))
 
-image-requires : tie.Need-image-requires Inv-loop μ-loop
-image-requires c κs =
+join-requires : tie.Need-join-requires Inv-loop μ-loop
+join-requires c κs =
     let at-start = c .before .before .before .before in
     λ s m. at-start .pre .0 s (c .before .loop .a) m (c .loop-test .taken)
 
@@ -46,11 +46,11 @@ loop-again c =
     let at-start = c .before .before .before .before .before in
     let l = at-loop .loop in
     let h : l .a < length (l .images) = omega (arith, l .inv .1, at-start .pre .1) in
-    let v = c .image .result in (
+    let v = c .join .result in (
       omega arith,
       simp length-set (l .inv .1),
       below-more _ _ (λ b k. getD-set-other (l .images) (l .a) b v 0 (λ q. omega arith) ∙ l .inv .2 b k)
-          (getD-set-same (l .images) (l .a) v 0 h ∙ c .image .ensures),
+          (getD-set-same (l .images) (l .a) v 0 h ∙ c .join .ensures),
     )
 
 same-length : tie.Need-same-length Inv-loop μ-loop
@@ -68,7 +68,7 @@ spread-word-spec =
     Inv-loop
     μ-loop
     loop-holds
-    image-requires
+    join-requires
     mul-images
     slice-write-images
     add-a

@@ -30,10 +30,10 @@ part-images-end c = search needs
 
 images-requires : tie.Need-images-requires
 images-requires c κs =
-    let start = c .before .before .before .before .before .before in
+    let start = c .before .before .before .before .before .before .before .before in
     let a = start .args in
     let p = start .pre in
-    (p .2, p .3, p .4, simp (length-take, length-drop) (omega (arith, p .1, p .2 .standings)))
+    (p .2, p .3, p .4, simp (length-take, length-drop) (omega (arith, p .1, p .2 .standings)), p .5)
 
 same-length : tie.Need-same-length
 same-length c = search needs
@@ -43,15 +43,17 @@ same-length-2 c = search needs
 
 returns : tie.Need-returns
 returns c =
-    let start = c .before .before .before .before .before .before .before .before .before .before .before in
+    let start = c .before .before .before .before .before .before .before .before .before .before .before .before .before in
     let a = start .args in
     let room = start .pre .1 in
     let called = c .before .before .before .before .images in
-    let sized : length (called .last .1 .1 .1 .1 .1 .1 .1 .0) ≡ 64 =
-    called .kept .1 .1 .1 .1 .1 .1 .1 .0 ∙ simp (length-take, length-drop) (omega (arith, room)) in
-    row-filled (tables (a .moves .now) (a .count) (a .labels) (a .follow .now) (a .enter .now)) (a .accepting) (a .v) (a .rows .now)
-    (called .last .1 .1 .1 .1 .1 .1 .1 .0) (64 * a .v + 64 - 64 * a .v) (add-sub-cancel-left (64 * a .v) 64) room sized
-    (called .ensures)
+    let sized : length (called .last .1 .1 .1 .1 .1 .1 .1 .1 .1 .0) ≡ 64 =
+    called .kept .1 .1 .1 .1 .1 .1 .1 .1 .1 .0 ∙ simp (length-take, length-drop) (omega (arith, room)) in (
+      row-filled (tables (a .moves .now) (a .count) (a .labels) (a .follow .now) (a .enter .now)) (a .accepting) (a .v) (a .rows .now)
+          (called .last .1 .1 .1 .1 .1 .1 .1 .1 .1 .0) (64 * a .v + 64 - 64 * a .v) (add-sub-cancel-left (64 * a .v) 64) room sized
+          (called .ensures .0),
+      called .ensures .1,
+    )
 
 pub fill-row-spec : {M : Type 1} → statement M
 fill-row-spec =

@@ -20,10 +20,11 @@ element-copy-out-size c = search needs
 
 returns : tie.Need-returns
 returns c =
-    let a = c .before .before .before .before .before .before .args in
+    let start = c .before .before .before .before .before .before in
+    let a = start .args in
     let T =
     jobTables (a .moves .now) (a .count) (a .labels) (a .follow .now) (a .enter .now) (a .sizes .now) (a .accepting .now) in
-    list-refused T (a .v) (a .rows .now) (a .rows .now) (rw (← add-one (a .v)) (c .if1 .taken))
+    (list-refused T (a .v) (a .rows .now) (a .rows .now) (rw (← add-one (a .v)) (c .if1 .taken)), start .pre .7)
 
 mul-from : tie.Need-mul-from
 mul-from c = search needs
@@ -72,11 +73,11 @@ element-copy-out-fill-row c = search needs
 
 fill-row-requires : tie.Need-fill-row-requires
 fill-row-requires c κs =
-    let start = c .before .before .before .before .before .before .before .before .before .before .before in
+    let start = c .before .before .before .before .before .before .before .before .before .before .before .before .before in
     let a = start .args in
     let p = start .pre in
     let size = getD (a .sizes .now) (a .v + 1) 0 in
-    let small = c .before .before .before .before .before .if1 .left in
+    let small = c .before .before .before .before .before .before .before .if1 .left in
     let long = part-length (64 * (a .v + 1)) size (a .follow .now) (omega (arith, p .5, small)) in
     let wide : length (take (32 * (a .v + 1) + 32 - 32 * (a .v + 1)) (drop (32 * (a .v + 1)) (a .enter .now))) ≡ 32 =
     simp (length-take, length-drop) (omega (arith, p .6)) in (
@@ -85,6 +86,7 @@ fill-row-requires c κs =
       record { standings = p .1; row = p .2; enters = omega (arith, wide, p .2); places = omega (arith, long, small) },
       omega (arith, long),
       subst (λ n. a .count * n ≤ length (a .sources .now)) (sym long) (p .3 small),
+      p .7,
     )
 
 same-length : tie.Need-same-length
@@ -95,14 +97,16 @@ same-length-2 c = search needs
 
 returns-2 : tie.Need-returns-2
 returns-2 c =
-    let start = c .before .before .before .before .before .before .before .before .before .before .before .before .before .before .before .before in
+    let start = c .before .before .before .before .before .before .before .before .before .before .before .before .before .before .before .before .before .before in
     let a = start .args in
     let row = c .before .before .before .before .fill-row in
     let T =
-    jobTables (a .moves .now) (a .count) (a .labels) (a .follow .now) (a .enter .now) (a .sizes .now) (a .accepting .now) in
-    list-told T (a .v) (a .rows .now) (row .last .1 .1 .1 .1 .1 .1 .1 .1 .0) (a .v + 1)
-    (64 * (a .v + 1) + getD (a .sizes .now) (a .v + 1) 0 + 1 - 64 * (a .v + 1)) (32 * (a .v + 1) + 32 - 32 * (a .v + 1)) (add-one (a .v))
-    (omega arith) (omega arith) (omega (arith, start .pre .6)) (row .ensures)
+    jobTables (a .moves .now) (a .count) (a .labels) (a .follow .now) (a .enter .now) (a .sizes .now) (a .accepting .now) in (
+      list-told T (a .v) (a .rows .now) (row .last .1 .1 .1 .1 .1 .1 .1 .1 .1 .1 .0) (a .v + 1)
+          (64 * (a .v + 1) + getD (a .sizes .now) (a .v + 1) 0 + 1 - 64 * (a .v + 1)) (32 * (a .v + 1) + 32 - 32 * (a .v + 1)) (add-one (a .v))
+          (omega arith) (omega arith) (omega (arith, start .pre .6)) (row .ensures .0),
+      row .ensures .1,
+    )
 
 pub list-row-spec : {M : Type 1} → statement M
 list-row-spec =

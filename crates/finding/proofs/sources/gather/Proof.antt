@@ -1,11 +1,11 @@
--- The loop's invariant: `moved` and `met` have what the label brings from the standings passed. The measure is the standings left.
+-- The loop's invariant: `moved` and `met` have what the label brings from the standings passed. The measure is the standings left. That
+-- `moved` has 64 words is known where it is lent whole.
 use Prim.Native.Nat.{ℕ, _-_, _*_, _%_, _^_, _<_}
 use mathlib.Core.Logic.{⊎-elim}
-use mathlib.Core.Path.{_≡_, sym, ap, _∙_, subst}
+use mathlib.Core.Path.{_≡_, ap, _∙_}
 use lib.Bits.{and-le-r}
 use lib.Count.{trailingZeros, trailing-le}
 use lib.Dec.{lit<}
-use lib.ListN.{length, length-set}
 use lib.Pow.{shl-exact}
 use Rattle.theory.specs.Places.{Member, one, union}
 use Rattle.places.specs.Followed.{Passed, passed-none, passed-turn, passed-all, rest-within, least-small}
@@ -17,25 +17,20 @@ use Rattle.finding.proofs.sources.gather.Tie as tie
 
 abbrev Inv-loop : tie.InvT-loop
 Inv-loop moves count a p taken from moved₀ met₀ rest₀ moved met rest =
-    (rest < 2 ^ 64) × ((i : ℕ) → Member i rest → Member i taken) × (length moved ≡ 64)
-    × Brought moves count a p (Passed taken rest) from moved met
+    (rest < 2 ^ 64) × ((i : ℕ) → Member i rest → Member i taken) × Brought moves count a p (Passed taken rest) from moved met
 
 abbrev μ-loop : tie.MeasureT-loop
 μ-loop moves count a p taken from moved₀ met₀ rest₀ moved met rest = rest
 
-clear-words-requires : tie.Need-clear-words-requires Inv-loop μ-loop
-clear-words-requires c κs = search needs
+clear-moved-requires : tie.Need-clear-moved-requires Inv-loop μ-loop
+clear-moved-requires c κs = search needs
 
 loop-holds : tie.Need-loop-holds Inv-loop μ-loop
 loop-holds c =
-    let start = c .before .before .before in
-    let x = start .args in (
+    let x = c .before .before .before .args in (
       omega arith,
       λ i m. m,
-      omega (arith, c .before .clear-words-arg .given, c .clear-words .kept .0),
-      subst (λ l. Brought (x .moves .now) (x .count) (x .a) (x .p) (Passed (x .taken) (x .taken)) (x .from .now) l 0)
-          (sym (c .clear-words .ensures .enough (omega (arith, start .pre .0, c .before .clear-words-arg .given))))
-          (brought-none (x .moves .now) (x .count) (x .a) (x .p) (x .from .now) _ (passed-none (x .taken))),
+      brought-none (x .moves .now) (x .count) (x .a) (x .p) (x .from .now) _ (c .clear-moved .ensures) (passed-none (x .taken)),
     )
 
 cast-s : tie.Need-cast-s Inv-loop μ-loop
@@ -62,8 +57,8 @@ shared-slice-read-moved : tie.Need-shared-slice-read-moved Inv-loop μ-loop
 shared-slice-read-moved c =
     omega (
       arith,
+      c .before .held2 .given,
       c .before .before .before .if1 .taken,
-      c .before .before .before .before .before .before .before .loop .inv .2,
       c .before .before .before .before .before .before .before .before .before .before .before .pre .0,
     )
 
@@ -135,13 +130,12 @@ loop-again c =
     λ h. shl-exact {a = 1} 1 (to .result) 64 (lit< tt) (omega arith) ∙ omega arith in (
       omega (arith, l .inv .0, and-le-r (l .rest) (l .rest - 1)),
       rest-within (x .taken) (l .rest) (l .inv .1) d (l .inv .0),
-      ⊎-elim (λ w. ap length (w .5) ∙ length-set (l .moved) (to .result) _ ∙ l .inv .2) (λ w. ap length (w .1) ∙ l .inv .2) (c .if1 .came),
       ⊎-elim
           (λ w. brought-as (w .5) (w .6 ∙ ap (union (l .met)) (bit (omega (arith, w .0 .taken, p .0))))
-          (brought-more (x .moves .now) (x .count) (x .a) (x .p) (x .from .now) s turn (l .moved) (l .met) (l .inv .3) (to .result)
-          (to .ensures .0) (w .0 .taken) (omega (arith, w .0 .taken, p .0, l .inv .2))))
+          (brought-more (x .moves .now) (x .count) (x .a) (x .p) (x .from .now) s turn (l .moved) (l .met) (l .inv .2) (to .result)
+          (to .ensures .0) (w .0 .taken) (omega (arith, w .0 .taken, p .0, w .2 .given))))
           (λ w. brought-as (w .1) (w .2)
-          (brought-out (x .moves .now) (x .count) (x .a) (x .p) (x .from .now) s turn (l .moved) (l .met) (l .inv .3)
+          (brought-out (x .moves .now) (x .count) (x .a) (x .p) (x .from .now) s turn (l .moved) (l .met) (l .inv .2)
           (omega (arith, w .0 .left, to .ensures .0))))
           (c .if1 .came),
     )
@@ -152,7 +146,7 @@ returns c =
     let x = c .before .before .before .before .before .args in
     let all = passed-all (x .taken) (l .rest) (c .loop-test .left) in
     brought-same (x .moves .now) (x .count) (x .a) (x .p) (x .from .now) (l .moved) (l .met) (λ s k h. all s .1 k) (λ s k. all s .0 k)
-    (l .inv .3)
+    (l .inv .2)
 
 pub gather-spec : {M : Type 1} → statement M
 gather-spec =
@@ -160,7 +154,7 @@ gather-spec =
     (tie.spec
     Inv-loop
     μ-loop
-    clear-words-requires
+    clear-moved-requires
     loop-holds
     cast-s
     mul-wide

@@ -1,65 +1,103 @@
--- `is_name` meets its contract: a text is a name where a name is read from its beginning to its end.
-use Prim.Native.Nat.{ℕ, zero, suc, _-_, _≤_}
-use mathlib.Core.Bool.{Bool, true, false}
-use mathlib.Core.Path.{_≡_, refl, sym, _∙_}
+-- `is_name` meets its contract. The loop's invariant: what is left has only bytes of names where the text is a name.
+use Prim.Native.Nat.{ℕ, _+_, _-_, _<_, _≤_}
+use mathlib.Core.Bool.{Bool, true, false, _&&_, and-true, and-false}
+use mathlib.Core.Path.{_≡_, sym, _∙_}
+use native.Mathlib.Numerals.{add-one}
 use native.Mathlib.Omega.{arith}
-use lib.Dec.{eqb, eqb·suc-zero}
-use lib.ListN.{length}
+use lib.Dec.{eqb}
+use lib.ListN.{length, drop, getD, drop-of-length-le}
+use lib.Seq.{drop-cons}
 use borrow.Author.Needs.{needs}
-use borrow.Author.Tests.{eq-eqb, ne-eqb}
-use Rattle.theory.specs.Expression.{label}
-use Rattle.syntax.specs.declared.cursor.Cursor.{Cursor}
-use Rattle.syntax.specs.declared.cursor.Moved.the-variants.{To, Failed}
-use Rattle.syntax.specs.Byte.{Bytes, kind}
-use Rattle.syntax.specs.KindTable.{kindTable}
-use Rattle.syntax.specs.Name.{isName}
-use Rattle.syntax.specs.Parser.{failed, parsed, run, pastRun, named}
-use Rattle.syntax.specs.Place.{cursorAt, parsedTo}
-use Rattle.syntax.proofs.Run.{run-lengths}
-use Rattle.syntax.proofs.RunName.{name-whole}
+use borrow.Author.Tests.{le-leb, lt-leb, not-true, not-false}
+use Rattle.syntax.specs.Byte.{Bytes, kind, letter, nameByte}
+use Rattle.syntax.specs.Name.{nameBytes, isName}
+use Rattle.syntax.specs.NameLaws.{no-bytes, name-parts}
 use Rattle.syntax.proofs.name.is_name.Statement.{statement}
 use Rattle.syntax.proofs.name.is_name.Tie as tie
 
--- Past all but q bytes is past all where q is 0.
-past-all : (n q : ℕ) → q ≤ n → eqb (n - q) n ≡ eqb q 0
-past-all n zero h = eq-eqb (n - zero) n (omega arith)
-past-all n (suc q) h = ne-eqb (n - suc q) n (omega arith) ∙ sym (eqb·suc-zero q)
-
 module _ (s : Bytes) where
-  not-read : Failed ≡ parsedTo s (named s) → false ≡ isName s
-  unfolding named
-  not-read e = go (isName (run s)) refl e
-    where
-      go : (t : Bool) → isName (run s) ≡ t → Failed ≡ parsedTo s (elim t [ true ↦ parsed (label (run s)) (pastRun s) | false ↦ failed ]) → false ≡ isName s
-      go true n e = let z : _≡_ {A = ℕ} 0 1 = cc in absurd (omega arith)
-      go false n e = rw (name-whole s, n)
+  too-long : 16 < length s → false ≡ isName s
+  too-long h = rw (name-parts s (omega arith), lt-leb (length s) 16 h, and-false)
 
-  read : (c : Cursor) → To c ≡ parsedTo s (named s) → eqb (c .at) (length s) ≡ isName s
-  unfolding named
-  read c e = go (isName (run s)) refl e
-    where
-      go : (t : Bool) → isName (run s) ≡ t → To c ≡ parsedTo s (elim t [ true ↦ parsed (label (run s)) (pastRun s) | false ↦ failed ])
-          → eqb (c .at) (length s) ≡ isName s
-      go true n e =
-          let p : c ≡ cursorAt s (pastRun s) = cc in
-          rw (name-whole s, n, p) (past-all (length s) (length (pastRun s)) (omega (arith, run-lengths s)))
-      go false n e = let z : _≡_ {A = ℕ} 0 1 = cc in absurd (omega arith)
+  no-letter : 0 < length s → eqb (kind (getD s 0 0)) letter ≡ false → false ≡ isName s
+  no-letter h k = rw (name-parts s h, k)
 
-name-requires : tie.Need-name-requires
-unfolding kindTable kind
-name-requires c κs = refl
+  begins : 0 < length s → length s ≤ 16 → eqb (kind (getD s 0 0)) letter ≡ true → nameBytes (drop 1 s) ≡ isName s
+  begins h m k = rw (name-parts s h, k, le-leb (length s) 16 m, and-true)
 
-enum-told : tie.Need-enum-told
-enum-told c = search needs
+  next : (i : ℕ) (t : Bool) → i < length s → nameByte (getD s i 0) ≡ t → (t && nameBytes (drop (i + 1) s)) ≡ nameBytes (drop i s)
+  unfolding nameBytes
+  next i t h e = rw (add-one, drop-cons s i 0 h, e)
 
-enum-known-past : tie.Need-enum-known-past
-enum-known-past c = search needs
+  ended : (i : ℕ) → length s ≤ i → true ≡ nameBytes (drop i s)
+  unfolding nameBytes
+  ended i h = rw (drop-of-length-le s h)
 
-returns : tie.Need-returns
-returns c = not-read _ (sym (c .enum-told .given .1) ∙ c .before .before .name .ensures)
+abbrev Inv-loop : tie.InvT-loop
+Inv-loop s i₀ i = nameBytes (drop i s) ≡ isName s
 
-returns-2 : tie.Need-returns-2
-returns-2 c = read _ _ (sym (c .before .before .past .given .1) ∙ c .before .before .before .before .name .ensures)
+abbrev μ-loop : tie.MeasureT-loop
+μ-loop s i₀ i = length s - i
+
+returns : tie.Need-returns Inv-loop μ-loop
+returns c = sym (no-bytes _ (c .if1 .taken))
+
+returns-2 : tie.Need-returns-2 Inv-loop μ-loop
+returns-2 c = too-long _ (c .if2 .taken)
+
+shared-slice-read-is-letter : tie.Need-shared-slice-read-is-letter Inv-loop μ-loop
+shared-slice-read-is-letter c = search needs
+
+is-letter-requires : tie.Need-is-letter-requires Inv-loop μ-loop
+is-letter-requires c κs = search needs
+
+returns-3 : tie.Need-returns-3 Inv-loop μ-loop
+returns-3 c = no-letter _ (omega arith) (sym (c .before .is-letter .ensures) ∙ not-true _ (c .if3 .taken))
+
+loop-holds : tie.Need-loop-holds Inv-loop μ-loop
+loop-holds c = begins _ (omega arith) (omega arith) (sym (c .before .is-letter .ensures) ∙ not-false _ (c .if3 .left))
+
+shared-slice-read-in-name : tie.Need-shared-slice-read-in-name Inv-loop μ-loop
+shared-slice-read-in-name c = search needs
+
+in-name-requires : tie.Need-in-name-requires Inv-loop μ-loop
+in-name-requires c κs = search needs
+
+returns-4 : tie.Need-returns-4 Inv-loop μ-loop
+returns-4 c =
+    let l = c .before .before .before .before .loop in
+    next _ (l .i) false (omega arith) (sym (c .before .in-name .ensures) ∙ not-true _ (c .if4 .taken)) ∙ l .inv
+
+add-i : tie.Need-add-i Inv-loop μ-loop
+add-i c = search needs
+
+loop-less : tie.Need-loop-less Inv-loop μ-loop
+loop-less c = search needs
+
+loop-again : tie.Need-loop-again Inv-loop μ-loop
+loop-again c =
+    let l = c .before .before .before .before .loop in
+    next _ (l .i) true (omega arith) (sym (c .before .in-name .ensures) ∙ not-false _ (c .if4 .left)) ∙ l .inv
+
+returns-5 : tie.Need-returns-5 Inv-loop μ-loop
+returns-5 c = ended _ (c .before .loop .i) (c .loop-test .left) ∙ c .before .loop .inv
 
 pub is-name-spec : {M : Type 1} → statement M
-is-name-spec = tie.close (tie.spec name-requires enum-told enum-known-past returns returns-2)
+is-name-spec =
+    tie.close
+    (tie.spec
+    Inv-loop
+    μ-loop
+    returns
+    returns-2
+    shared-slice-read-is-letter
+    is-letter-requires
+    returns-3
+    loop-holds
+    shared-slice-read-in-name
+    in-name-requires
+    returns-4
+    add-i
+    loop-less
+    loop-again
+    returns-5)

@@ -1,26 +1,18 @@
 -- `same_name` meets its contract. The loop's invariant: what is left of the two names is the same where the names are.
-use Prim.Native.Nat.{ℕ, suc, _+_, _-_, _<_, _≤_}
-use mathlib.Core.Bool.{true, false, and-false}
-use mathlib.Core.List.{[], _∷_}
-use mathlib.Core.Path.{_≡_, refl, sym, ap, _∙_}
+use Prim.Native.Nat.{ℕ, _+_, _-_, _<_, _≤_}
+use mathlib.Core.Bool.{true, false}
+use mathlib.Core.Path.{_≡_, refl, sym, _∙_}
 use native.Mathlib.Numerals.{add-one}
 use native.Mathlib.Omega.{arith}
-use lib.Dec.{eqb}
 use lib.ListN.{length, drop, getD, drop-of-length-le}
 use lib.Seq.{drop-cons}
 use borrow.Author.Needs.{needs}
 use borrow.Author.Tests.{eq-eqb, ne-eqb}
 use Rattle.syntax.specs.Byte.{Bytes}
 use Rattle.syntax.specs.Name.{sameName}
+use Rattle.syntax.specs.NameLaws.{lengths-differ}
 use Rattle.syntax.proofs.name.same_name.Statement.{statement}
 use Rattle.syntax.proofs.name.same_name.Tie as tie
-
-lengths-differ : (a b : Bytes) → (length a ≡ length b → ⊥) → false ≡ sameName a b
-unfolding sameName
-lengths-differ [] [] f = absurd (f refl)
-lengths-differ [] (y ∷ b) f = refl
-lengths-differ (x ∷ a) [] f = refl
-lengths-differ (x ∷ a) (y ∷ b) f = rw (← lengths-differ a b (λ e. f (ap suc e))) (sym (and-false (eqb x y)))
 
 module _ (a b : Bytes) (i : ℕ) where
   agree : i < length a → i < length b → getD a i 0 ≡ getD b i 0

@@ -1,9 +1,11 @@
--- `find` meets its contract. The loop's invariant: a search over the names that are left gives what a search over all of them gives.
+-- `find` meets its contract: a name of one byte is looked for as a letter. The loop's invariant: a search over the names that are left gives
+-- what a search over all of them gives.
 use Prim.Native.Nat.{_-_, _≤_}
 use mathlib.Core.Path.{_≡_, sym, ap, _∙_}
 use native.Mathlib.Omega.{arith}
 use Rattle.syntax.specs.Byte.{Bytes}
 use Rattle.syntax.specs.Name.{sameName}
+use Rattle.syntax.specs.NameLaws.{one-byte}
 use Rattle.syntax.specs.TableLaws.{nameAt, findFrom, findFrom-here, findFrom-past, findFrom-end}
 use borrow.Author.Needs.{needs}
 use Rattle.syntax.proofs.table.find.Statement.{statement}
@@ -17,12 +19,24 @@ abbrev μ-loop : tie.MeasureT-loop
 
 -- Whether the name at the place is the one that is looked for.
 told : (c : tie.After-same-name Inv-loop μ-loop)
-    → let a = c .before .before .before .before .before .before .before .before .before .args in
+    → let a = c .before .before .before .before .before .before .before .before .before .before .args in
     let i = c .before .before .before .before .before .loop .i in
     c .same-name .result ≡ sameName (nameAt (a .text .now) (a .names .now) i) (a .name .now)
 told c =
-    let a = c .before .before .before .before .before .before .before .before .before .args in
+    let a = c .before .before .before .before .before .before .before .before .before .before .args in
     c .same-name .ensures ∙ ap (λ (m : Bytes). sameName m (a .name .now)) (c .before .part .ensures)
+
+shared-slice-read-find-letter : tie.Need-shared-slice-read-find-letter Inv-loop μ-loop
+shared-slice-read-find-letter c = search needs
+
+find-letter-requires : tie.Need-find-letter-requires Inv-loop μ-loop
+find-letter-requires c κs = search needs
+
+returns : tie.Need-returns Inv-loop μ-loop
+returns c =
+    let a = c .before .before .before .before .before .before .args in
+    c .find-letter .ensures
+    ∙ ap (λ (n : Bytes). findFrom (a .text .now) (a .names .now) n 0) (one-byte (a .name .now) (c .before .before .if1 .taken))
 
 loop-holds : tie.Need-loop-holds Inv-loop μ-loop
 loop-holds c = search needs
@@ -54,11 +68,11 @@ part-requires c κs = search needs
 same-name-requires : tie.Need-same-name-requires Inv-loop μ-loop
 same-name-requires c κs = search needs
 
-returns : tie.Need-returns Inv-loop μ-loop
-returns c =
-    let a = c .before .before .before .before .before .before .before .before .before .before .args in
+returns-2 : tie.Need-returns-2 Inv-loop μ-loop
+returns-2 c =
+    let a = c .before .before .before .before .before .before .before .before .before .before .before .args in
     let l = c .before .before .before .before .before .before .loop in
-    sym (findFrom-here (a .text .now) (a .names .now) (a .name .now) (l .i) (omega arith) (sym (told (c .before)) ∙ c .if1 .taken))
+    sym (findFrom-here (a .text .now) (a .names .now) (a .name .now) (l .i) (omega arith) (sym (told (c .before)) ∙ c .if2 .taken))
     ∙ l .inv .1
 
 add-i : tie.Need-add-i Inv-loop μ-loop
@@ -69,14 +83,14 @@ loop-less c = search needs
 
 loop-again : tie.Need-loop-again Inv-loop μ-loop
 loop-again c =
-    let a = c .before .before .before .before .before .before .before .before .before .before .args in
+    let a = c .before .before .before .before .before .before .before .before .before .before .before .args in
     let l = c .before .before .before .before .before .before .loop in
-    let past = findFrom-past (a .text .now) (a .names .now) (a .name .now) (l .i) (omega arith) (sym (told (c .before)) ∙ c .if1 .left) in
+    let past = findFrom-past (a .text .now) (a .names .now) (a .name .now) (l .i) (omega arith) (sym (told (c .before)) ∙ c .if2 .left) in
     (omega arith, sym past ∙ l .inv .1)
 
-returns-2 : tie.Need-returns-2 Inv-loop μ-loop
-returns-2 c =
-    let a = c .before .before .before .before .before .args in
+returns-3 : tie.Need-returns-3 Inv-loop μ-loop
+returns-3 c =
+    let a = c .before .before .before .before .before .before .args in
     let l = c .before .loop in
     sym (findFrom-end (a .text .now) (a .names .now) (a .name .now) (l .i) (omega arith)) ∙ l .inv .1
 
@@ -86,6 +100,9 @@ find-spec =
     (tie.spec
     Inv-loop
     μ-loop
+    shared-slice-read-find-letter
+    find-letter-requires
+    returns
     loop-holds
     mul-start
     mul-start-2
@@ -96,8 +113,8 @@ find-spec =
     shared-slice-read-size
     part-requires
     same-name-requires
-    returns
+    returns-2
     add-i
     loop-less
     loop-again
-    returns-2)
+    returns-3)

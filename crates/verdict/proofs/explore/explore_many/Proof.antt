@@ -1,12 +1,12 @@
--- There is room for what is prepared, for the sums and for the columns, of 16 states or of 64.
+-- There is room for what is prepared and for the columns of sixteen lists, and for the sums where there are at most 64 states.
 use Prim.Native.Nat.{_*_}
 use native.Mathlib.Nat.{mul-le-mul-left}
 use native.Mathlib.Omega.{arith}
 use borrow.Author.Needs.{needs}
 use Rattle.verdict.specs.Sums.{quarters}
 use Rattle.verdict.specs.TablesLaws.{occupied-few}
-use Rattle.verdict.proofs.verdict.explore_few.Statement.{statement}
-use Rattle.verdict.proofs.verdict.explore_few.Tie as tie
+use Rattle.verdict.proofs.explore.explore_many.Statement.{statement}
+use Rattle.verdict.proofs.explore.explore_many.Tie as tie
 
 slice-aggregate-explore-in : tie.Need-slice-aggregate-explore-in
 slice-aggregate-explore-in c = search needs
@@ -20,13 +20,13 @@ slice-aggregate-explore-in-3 c = search needs
 explore-in-requires : tie.Need-explore-in-requires
 explore-in-requires c κs =
     let s = c .before .before .before .before .before .before .before .before .before .before .before in
-    let few = occupied-few (s .args .sizes .now) (s .args .lists) 0 (s .args .lists) (omega arith) (s .pre .0) in (
-      omega (arith, s .pre .1),
-      omega (arith, s .pre .1),
-      omega (arith, few, s .pre .1),
+    let few = occupied-few (s .args .sizes .now) (s .args .lists) 0 (s .args .lists) (omega arith) (s .pre) in (
+      omega (arith, s .pre .few),
+      omega (arith, s .pre .few),
+      omega (arith, few, s .pre .few),
       omega arith,
       omega arith,
-      λ h. omega (arith, s .pre .1, c .before .before .before .before .if1 .taken, mul-le-mul-left (16 * quarters (s .args .states)) (s .pre .1)),
+      λ h. omega (arith, s .pre .few, mul-le-mul-left (16 * quarters (s .args .states)) (s .pre .few)),
     )
 
 slice-aggregate-explore-in-4 : tie.Need-slice-aggregate-explore-in-4
@@ -41,13 +41,13 @@ slice-aggregate-explore-in-6 c = search needs
 explore-in-requires-2 : tie.Need-explore-in-requires-2
 explore-in-requires-2 c κs =
     let s = c .before .before .before .before .before .before .before .before .before .before .before in
-    let few = occupied-few (s .args .sizes .now) (s .args .lists) 0 (s .args .lists) (omega arith) (s .pre .0) in (
-      omega (arith, s .pre .1),
-      omega (arith, s .pre .1),
-      omega (arith, few, s .pre .1),
+    let few = occupied-few (s .args .sizes .now) (s .args .lists) 0 (s .args .lists) (omega arith) (s .pre) in (
+      omega (arith, s .pre .few),
+      omega (arith, s .pre .few),
+      omega (arith, few, s .pre .few),
       omega arith,
       omega arith,
-      λ h. omega (arith, s .pre .1, c .before .before .before .before .if1 .left, mul-le-mul-left (16 * quarters (s .args .states)) (s .pre .1)),
+      λ h. absurd (omega (arith, c .before .before .before .before .if1 .left)),
     )
 
 same-length : tie.Need-same-length
@@ -62,8 +62,8 @@ same-length-2 c = c .before .before .before .before .before .explore-in2 .kept .
 returns-2 : tie.Need-returns-2
 returns-2 c = c .before .before .before .before .before .explore-in2 .ensures
 
-pub explore-few-spec : {M : Type 1} → statement M
-explore-few-spec =
+pub explore-many-spec : {M : Type 1} → statement M
+explore-many-spec =
     tie.close
     (tie.spec
     slice-aggregate-explore-in

@@ -3,8 +3,8 @@ use Prim.Native.Nat.{ℕ, zero, suc, _≤_, _<_}
 use mathlib.Core.Path.{_≡_, _∙_}
 use native.Mathlib.Omega.{arith}
 use Rattle.verdict.specs.Prepared.{columns-chosen, rows-chosen}
-use Rattle.verdict.proofs.verdict.explore_in.Statement.{statement}
-use Rattle.verdict.proofs.verdict.explore_in.Tie as tie
+use Rattle.verdict.proofs.explore.explore_in.Statement.{statement}
+use Rattle.verdict.proofs.explore.explore_in.Tie as tie
 
 turned-fits : (turned occurrences room : ℕ) → (0 < turned → turned ≡ suc occurrences) → occurrences < room → turned ≤ room
 turned-fits zero occurrences room wide fits = omega arith

@@ -2,8 +2,8 @@
 use mathlib.Core.Path.{refl}
 use native.Mathlib.Omega.{arith}
 use borrow.Author.Needs.{needs}
-use Rattle.verdict.proofs.verdict.chosen_way.Statement.{statement}
-use Rattle.verdict.proofs.verdict.chosen_way.Tie as tie
+use Rattle.verdict.proofs.explore.chosen_way.Statement.{statement}
+use Rattle.verdict.proofs.explore.chosen_way.Tie as tie
 
 returns : tie.Need-returns
 returns c = record { by-columns = λ h. (refl, refl); by-rows = λ h. absurd (omega arith) }

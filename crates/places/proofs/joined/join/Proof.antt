@@ -1,36 +1,35 @@
--- `image` meets its contract. The loop's invariant: the rows read so far, with those of the states that are left, are those of the whole set.
--- The measure is the states left.
+-- The loop's invariant: what has been joined, with the words of the places left, is what the whole set has. The measure is the places left.
 use Prim.Native.Nat.{ℕ, _+_, _-_, _*_, _^_, _<_}
 use lib.Bits.{and-le-r}
 use lib.Count.{trailingZeros, trailing-le}
 use lib.ListN.{length, getD}
 use Rattle.theory.specs.Places.{Member}
 use Rattle.places.specs.NextPlace.{trailing-here}
 use Rattle.places.specs.Followed.{FollowedLeft, followed-start, followed-turn, followed-end, rest-within}
 use native.Mathlib.Omega.{arith}
 use borrow.Author.Needs.{needs}
-use Rattle.answering.proofs.word_search.image.Statement.{statement}
-use Rattle.answering.proofs.word_search.image.Tie as tie
+use Rattle.places.proofs.joined.join.Statement.{statement}
+use Rattle.places.proofs.joined.join.Tie as tie
 
 abbrev Inv-loop : tie.InvT-loop
-Inv-loop rows symbols a states all₀ rest₀ all rest =
-    (rest < 2 ^ 64) × ((i : ℕ) → Member i rest → Member i states) × FollowedLeft (λ s. getD rows (symbols * s + a) 0) states all rest
+Inv-loop words first apart set all₀ rest₀ all rest =
+    (rest < 2 ^ 64) × ((p : ℕ) → Member p rest → Member p set) × FollowedLeft (λ p. getD words (apart * p + first) 0) set all rest
 
 abbrev μ-loop : tie.MeasureT-loop
-μ-loop rows symbols a states all₀ rest₀ all rest = rest
+μ-loop words first apart set all₀ rest₀ all rest = rest
 
 loop-holds : tie.Need-loop-holds Inv-loop μ-loop
 loop-holds c =
     let a = c .args in
-    (omega arith, λ i m. m, followed-start (λ s. getD (a .rows .now) (a .symbols * s + a .a) 0) (a .states))
+    (omega arith, λ p m. m, followed-start (λ p. getD (a .words .now) (a .apart * p + a .first) 0) (a .set))
 
-cast-s : tie.Need-cast-s Inv-loop μ-loop
-cast-s c = omega (arith, trailing-le 64 (c .before .loop .rest))
+cast-place : tie.Need-cast-place Inv-loop μ-loop
+cast-place c = omega (arith, trailing-le 64 (c .before .loop .rest))
 
--- The row of the state taken is there.
+-- The word of the place taken is there.
 inside : (c : tie.In-loop Inv-loop μ-loop)
     → let a = c .before .before .args in
-    a .symbols * trailingZeros 64 (c .before .loop .rest) + a .a < length (a .rows .now)
+    a .apart * trailingZeros 64 (c .before .loop .rest) + a .first < length (a .words .now)
 inside c =
     let l = c .before .loop in
     c .before .before .pre (trailingZeros 64 (l .rest)) (l .inv .1 _ (trailing-here 64 (l .rest) (c .loop-test .taken) (l .inv .0)))
@@ -59,27 +58,26 @@ loop-again : tie.Need-loop-again Inv-loop μ-loop
 loop-again c =
     let l = c .before .before .loop in
     let a = c .before .before .before .args in
-    let f : ℕ → ℕ = λ s. getD (a .rows .now) (a .symbols * s + a .a) 0 in
     let d = c .before .loop-test .taken in (
       omega (arith, l .inv .0, and-le-r (l .rest) (l .rest - 1)),
-      rest-within (a .states) (l .rest) (l .inv .1) d (l .inv .0),
-      followed-turn f (a .states) (l .all) (l .rest) d (l .inv .0) (l .inv .2),
+      rest-within (a .set) (l .rest) (l .inv .1) d (l .inv .0),
+      followed-turn (λ p. getD (a .words .now) (a .apart * p + a .first) 0) (a .set) (l .all) (l .rest) d (l .inv .0) (l .inv .2),
     )
 
 returns : tie.Need-returns Inv-loop μ-loop
 returns c =
     let l = c .before .loop in
     let a = c .before .before .args in
-    followed-end (λ s. getD (a .rows .now) (a .symbols * s + a .a) 0) (a .states) (l .all) (l .rest) (c .loop-test .left) (l .inv .2)
+    followed-end (λ p. getD (a .words .now) (a .apart * p + a .first) 0) (a .set) (l .all) (l .rest) (c .loop-test .left) (l .inv .2)
 
-pub image-spec : {M : Type 1} → statement M
-image-spec =
+pub join-spec : {M : Type 1} → statement M
+join-spec =
     tie.close
     (tie.spec
     Inv-loop
     μ-loop
     loop-holds
-    cast-s
+    cast-place
     mul-all
     add-all
     mul-all-2

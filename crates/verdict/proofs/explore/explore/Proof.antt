@@ -1,7 +1,7 @@
 -- Of at most four lists and 64 states, or of any.
 use borrow.Author.Tests.{leb-true}
-use Rattle.verdict.proofs.verdict.explore.Statement.{statement}
-use Rattle.verdict.proofs.verdict.explore.Tie as tie
+use Rattle.verdict.proofs.explore.explore.Statement.{statement}
+use Rattle.verdict.proofs.explore.explore.Tie as tie
 
 explore-few-requires : tie.Need-explore-few-requires
 explore-few-requires c κs = (c .before .before .before .before .before .before .before .before .before .pre, c .before .before .if1 .taken, leb-true _ _ (c .before .if2 .taken))
