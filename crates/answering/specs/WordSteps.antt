@@ -12,11 +12,12 @@ use lib.Bits.{bitAnd, bitXor, and-mask, or-zero-r}
 use lib.ListN.{length, getD, set, length-set}
 use lib.Pow.{pow-lt}
 use lib.Seq.{set-getD}
-use Rattle.theory.specs.Places.{Member, union, unionOver}
+use Rattle.theory.specs.Places.{Member, union}
 use Rattle.theory.specs.PlacesLaws.{member-none, member-one, member-below, member-union, member-intersection, member-unionOver}
 use Rattle.theory.specs.PlacesLaws.{equal-members}
 use Rattle.theory.specs.PlacesShift.{member-cut}
 use Rattle.theory.specs.PlacesWithin.{member-without}
+use Rattle.places.specs.Joined.{joined}
 use Rattle.answering.specs.ProductLaws.{node-below}
 use Rattle.answering.specs.Pairs.{Has}
 use Rattle.answering.specs.WordsFrom.{Zeroed, zeroed-none, zeroed-more}
@@ -39,10 +40,6 @@ has-word l y t h =
     (λ m. rw (e, f) at m, λ m. rw (e, f) m)
 
 -- The next states of what is pending.
-
--- The words number a of the rows of a set's states, k words each, united.
-abbrev pub imageOf : List ℕ → ℕ → ℕ → ℕ → ℕ
-imageOf rows k states a = unionOver (λ s. getD rows (k * s + a) 0) 64 states
 
 -- The steps that rows give, which may be cut by a word of each symbol, and how many words n states have.
 abbrev pub WordStep : Bool → List ℕ → ℕ → List ℕ → ℕ → ℕ → ℕ → Type 0
@@ -69,7 +66,7 @@ pub record NextImages (cut : Bool) (k : ℕ) (rows : List ℕ) (states : ℕ) (i
 
 -- The images stay as they are where the rows are cut ..
 pub cut-images : {cut : Bool} (k : ℕ) (rows : List ℕ) {states : ℕ} (images : List ℕ) {next : ℕ} → cut ≡ true → states < 2 ^ 64
-    → next ≡ imageOf rows 1 states 0 → NextImages cut k rows states images images next
+    → next ≡ joined rows 0 1 states → NextImages cut k rows states images images next
 cut-images {cut} k rows {states} images {next} c small e =
     subst (λ cut. NextImages cut k rows states images images next) (sym c) (record {
       exactly = λ a t h l. (
@@ -95,7 +92,7 @@ ones t h =
     member-intersection t (2 ^ t) 18446744073709551615 .0 (subst (Member t) (sym e) (member-one t t .1 refl)) .1
 
 pub spread-images : {cut : Bool} {k : ℕ} {rows : List ℕ} {states : ℕ} {images images' : List ℕ} → cut ≡ false → states < 2 ^ 64
-    → ((a : ℕ) → a < k → getD images' a 0 ≡ imageOf rows k states a)
+    → ((a : ℕ) → a < k → getD images' a 0 ≡ joined rows a k states)
     → NextImages cut k rows states images images' 18446744073709551615
 spread-images {cut} {k} {rows} {states} {images} {images'} c small made =
     subst (λ cut. NextImages cut k rows states images images' 18446744073709551615) (sym c) (record {

@@ -11,12 +11,13 @@ ghost use mathlib.Core.Path.{_≡_};
 ghost use Prim.Native.Nat.{ℕ, _+_, _-_, _*_, _^_, _≤_, _<_};
 ghost use lib.ListN.{length, getD};
 ghost use Rattle.theory.specs.Places.{Member};
+ghost use Rattle.places.specs.Joined.{joined};
 ghost use Rattle.answering.specs.Links.{FirstLink, InRange};
 ghost use Rattle.answering.specs.LinkBegins.{LinkBegins};
 ghost use Rattle.answering.specs.Grown.{Ready};
 ghost use Rattle.answering.specs.SetSteps.{StatesAdded, RowFollowed, RowsFollowed};
 ghost use Rattle.answering.specs.SetSearchRun.{SetBeginning, SetAllFound};
-ghost use Rattle.answering.specs.WordSteps.{imageOf, rowsOf, WordStep, WordImage, NextRoom, NextImages, WordRoom, Raised};
+ghost use Rattle.answering.specs.WordSteps.{rowsOf, WordStep, WordImage, NextRoom, NextImages, WordRoom, Raised};
 
 // The states below n.
 fn states_below(n: usize) -> u64
@@ -32,7 +33,7 @@ fn states_below(n: usize) -> u64
 // The next states of the states over each symbol.
 fn spread_word(rows: &[u64], symbols: usize, states: u64, images: &mut [u64])
     requires { ⌜ ((s a : ℕ) → Member s states → a < symbols → symbols * s + a < length (now rows)) × (symbols ≤ length (now images)) ⌝ }
-    ensures { λ _. ⌜ ((a : ℕ) → a < symbols → getD (now (images .exit)) a 0 ≡ imageOf (now (rows .entry)) symbols states a) ⌝ }
+    ensures { λ _. ⌜ ((a : ℕ) → a < symbols → getD (now (images .exit)) a 0 ≡ joined (now (rows .entry)) a symbols states) ⌝ }
 {
     let mut a = 0;
     while a < symbols {

@@ -4,7 +4,7 @@ use mathlib.Core.Path.{_≡_, refl, _∙_}
 use lib.ListN.{length, getD, length-set}
 use lib.Seq.{getD-set-same, getD-set-other}
 use borrow.Author.Count.{below-more}
-use Rattle.answering.specs.WordSteps.{imageOf}
+use Rattle.places.specs.Joined.{joined}
 use native.Mathlib.Omega.{arith}
 use borrow.Author.Needs.{needs}
 use Rattle.answering.proofs.word_search.spread_word.Statement.{statement}
@@ -12,7 +12,7 @@ use Rattle.answering.proofs.word_search.spread_word.Tie as tie
 
 abbrev Inv-loop : tie.InvT-loop
 Inv-loop rows symbols states images₀ a₀ images a =
-    (a ≤ symbols) × (length images ≡ length images₀) × ((b : ℕ) → b < a → getD images b 0 ≡ imageOf rows symbols states b)
+    (a ≤ symbols) × (length images ≡ length images₀) × ((b : ℕ) → b < a → getD images b 0 ≡ joined rows b symbols states)
 
 abbrev μ-loop : tie.MeasureT-loop
 μ-loop rows symbols states images₀ a₀ images a = symbols - a
