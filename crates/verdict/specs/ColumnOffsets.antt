@@ -1,13 +1,30 @@
 -- The offsets of the lists in tables (Tables, Columns): every offset but 0 is that of an occurrence of a list.
 use Prim.Native.Nat.{ℕ, zero, suc, _+_, _-_, _≤_, _<_}
 use mathlib.Core.List.{List}
-use mathlib.Core.Path.{_≡_, ap}
+use mathlib.Core.Path.{_≡_, refl, ap}
 use native.Mathlib.Decide.{decLe}
 use native.Mathlib.Omega.{arith}
 use lib.ListN.{getD}
 use Rattle.verdict.specs.Tables.{occupied}
 use Rattle.verdict.specs.TablesLaws.{occupied-more, occupied-grows}
 use Rattle.verdict.specs.Columns.{offsetIn}
+
+-- The offset of the place o of a list, whose occurrences come after the offset `base`.
+abbrev pub offsetFrom : ℕ → ℕ → ℕ
+offsetFrom base zero = 0
+offsetFrom base (suc o) = base + suc o
+
+pub offset-none : (base o : ℕ) → o ≡ 0 → offsetFrom base o ≡ 0
+offset-none base zero e = refl
+offset-none base (suc o) e = absurd (omega arith)
+
+pub offset-some : (base o : ℕ) → ¬ (o ≡ 0) → offsetFrom base o ≡ base + o
+offset-some base zero d = absurd (d refl)
+offset-some base (suc o) d = refl
+
+pub offset-small : (base o size : ℕ) → o ≤ size → offsetFrom base o ≤ base + size
+offset-small base zero size h = omega arith
+offset-small base (suc o) size h = omega arith
 
 module _ (sizes : List ℕ) where
   sized : (i j : ℕ) → i ≡ j → getD sizes i 0 ≡ getD sizes j 0

@@ -18,10 +18,10 @@ offsetIn sizes v (suc o) = occupied sizes 0 v + suc o
 abbrev pub StatesWithin : ℕ → ℕ → List ℕ → Type 0
 StatesWithin w states columns = (q o : ℕ) → o < w → Member q (getD columns o 0) → q < states
 
--- The columns of the cover set C.
-pub record ColumnsOf (w states C : ℕ) (columns : List ℕ) : Type 0 where
-  pub exact : (q o : ℕ) → q < states → o < w → Member q (getD columns o 0) ↔ Member (w * q + o) C
-  pub within : StatesWithin w states columns
+-- The columns of the cover set C; `column` gives that of each offset.
+pub record ColumnsOf (w states C : ℕ) (column : ℕ → ℕ) : Type 0 where
+  pub exact : (q o : ℕ) → q < states → o < w → Member q (column o) ↔ Member (w * q + o) C
+  pub within : (q o : ℕ) → o < w → Member q (column o) → q < states
 
 -- The set C of columns, which has no other places; `next` gives the column of each offset.
 pub record SetOf (w states : ℕ) (next : ℕ → ℕ) (C : ℕ) : Type 0 where

@@ -1,5 +1,5 @@
--- A step by columns (Columns) is the step of the cover set (Cover): the columns hold the places that the label leads to, and the states
--- alone that are reached from them.
+-- A step by columns is the step of the cover set (Cover), whether each offset has a column of its own (Columns) or shares one (Classes): the
+-- columns hold the places that the label leads to, and the states alone that are reached from them.
 use Prim.Native.Nat.{ℕ, zero, suc, _+_, _*_, _/_, _%_, _≤_, _<_}
 use mathlib.Core.List.{List}
 use mathlib.Core.Logic.{_↔_, _⊎_, inl, inr}
@@ -18,10 +18,22 @@ use Rattle.verdict.specs.Tables.{automataOf, occupied, rewritten, Counte
 use Rattle.verdict.specs.CoverBounds.{moves-below, ends-below, state-of-place}
 use Rattle.verdict.specs.CoverPlaces.{split-below, state-below}
 use Rattle.verdict.specs.CoverStepped.{places-ready}
-use Rattle.verdict.specs.Columns.{offsetIn, ColumnsOf, SetOf, Leading, Finishing, Stepped}
+use Rattle.verdict.specs.Columns.{offsetIn, ColumnsOf, SetOf, Passes, Leading, Finishing, Stepped}
 use Rattle.verdict.specs.ColumnOffsets.{occupied-room, offset-below, occurrence-at}
 use Rattle.verdict.specs.TableMoves.{TableMove, table-moves-there, table-moves-back}
 use Rattle.verdict.specs.TableEnds.{table-ends-there, table-ends-back, table-reached-there, table-reached-back}
+
+-- What any step over the label a does to columns, said with the automata alone: an occurrence has the states of the places that lead to it,
+-- and the states alone are those that are reached where paths of lists end.
+pub record ColumnsStepped (n a : ℕ) (follow enter sizes accepting table : List ℕ) (column next : ℕ → ℕ) : Type 0 where
+  pub moved : (v p q : ℕ) → v < n → 0 < p → p ≤ getD sizes (v + 1) 0
+      → Member q (next (occupied sizes 0 v + p))
+      ↔ (Member p (getD enter (32 * (v + 1) + a) 0)
+      × ((o : ℕ) × (o ≤ getD sizes (v + 1) 0) × Member p (getD follow (64 * (v + 1) + o) 0) × Member q (column (offsetIn sizes v o))))
+  pub alone : (t : ℕ) → Member t (next 0)
+      ↔ ((v : ℕ) × (p : ℕ) × (q : ℕ) × (v < n) × (0 < p) × (p ≤ getD sizes (v + 1) 0) × Member p (getD accepting (v + 1) 0)
+      × Member q (next (occupied sizes 0 v + p)) × Reaches (Passes n accepting table) (getD table (16 * q + v) 0) t)
+  pub no-start : (v o : ℕ) → v < n → o ≤ getD sizes (v + 1) 0 → ¬ Member 0 (getD follow (64 * (v + 1) + o) 0)
 
 -- The first of some steps, if there is one.
 pub first-step : {A : Type 0} {R : A → A → Type 0} {x z : A} → Reaches R x z → (x ≡ z) ⊎ ((y : A) × R x y × Reaches R y z)
@@ -94,16 +106,14 @@ module _ (states n a : ℕ) (follow enter sizes accepting table flags : List ℕ
             r,
           )
 
-  module _ (before ended columns : List ℕ) (C : ℕ) (next : ℕ → ℕ) (D : ℕ) (leading : Leading n follow sizes before)
-      (finishing : Finishing states n accepting table ended) (of : ColumnsOf w states C columns)
-      (stepped : Stepped n a enter sizes accepting before ended columns next) (set-of : SetOf w states next D) where
+  module _ (column : ℕ → ℕ) (C : ℕ) (next : ℕ → ℕ) (D : ℕ) (of : ColumnsOf w states C column)
+      (stepped : ColumnsStepped n a follow enter sizes accepting table column next) (set-of : SetOf w states next D) where
     -- A state in the column of an occurrence: a place of the set leads there.
     moved-from : (v p q : ℕ) → v < n → 0 < p → p ≤ getD sizes (v + 1) 0 → Member q (next (occupied sizes 0 v + p))
         → (q < states) × ((x : ℕ) × (x < states * w) × Member x C
         × TableMove n a follow enter sizes x (w * q + (occupied sizes 0 v + p)))
     moved-from v p q h s k m =
-        let (i, (o, j, c)) = stepped .moved v p q h s k .0 m in
-        let l : o ≤ getD sizes (v + 1) 0 = leading .within v o p h (omega (arith, counted .small v h)) j in
+        let (i, (o, l, j, c)) = stepped .moved v p q h s k .0 m in
         let low : offsetIn sizes v o < w = offset-below sizes v o n h l in
         let inside : q < states = of .within q (offsetIn sizes v o) low c in (
           inside,
@@ -120,7 +130,7 @@ module _ (states n a : ℕ) (follow enter sizes accepting table flags : List ℕ
               within = l;
               starts = refl;
               stops = refl;
-              follows = leading .exact v o p h l (omega (arith, counted .small v h)) .0 j;
+              follows = j;
               enters = i;
             },
           ),
@@ -134,7 +144,7 @@ module _ (states n a : ℕ) (follow enter sizes accepting table flags : List ℕ
         let z = w * r + (occupied sizes 0 v + p) in
         let ends-here = table-ends-back states n follow enter sizes accepting table flags counted room r v p l s i c in
         let onwards = table-reached-back states n follow enter sizes accepting table flags counted room
-        (getD table (16 * r + v) 0) q (finishing .exact r v q inside l .0 d) in
+        (getD table (16 * r + v) 0) q d in
         let same : w * q ≡ w * q + 0 = omega arith in
         subst (λ y. Member y (coverStep R lists C a)) same
         (step-exactly C (w * q) .1 (x, z, b, e, t, onward ends-here onwards))
@@ -165,7 +175,8 @@ module _ (states n a : ℕ) (follow enter sizes accepting table flags : List ℕ
             t .enters,
             (
               t .from,
-              leading .exact v (t .from) (t .to) (t .inside) (t .within) (omega (arith, counted .small v (t .inside))) .1 (t .follows),
+              t .within,
+              t .follows,
               of .exact (t .state) (offsetIn sizes v (t .from)) inside low .1 (subst (λ y. Member y C) (t .starts) m),
             ),
           ),
@@ -173,7 +184,7 @@ module _ (states n a : ℕ) (follow enter sizes accepting table flags : List ℕ
       where
         not-start : Dec (t .to ≡ 0) → 0 < t .to
         not-start (yes e) =
-            absurd (leading .no-start (t .list) (t .from) (t .inside) (t .within)
+            absurd (stepped .no-start (t .list) (t .from) (t .inside) (t .within)
             (subst (λ y. Member y (getD follow (64 * (t .list + 1) + t .from) 0)) e (t .follows)))
         not-start (no d) = omega arith
 
@@ -205,12 +216,12 @@ module _ (states n a : ℕ) (follow enter sizes accepting table flags : List ℕ
             let (s, k, p) = table-reached-there states n follow enter sizes accepting table flags counted room
             (getD table (16 * q + v) 0) y (subst (λ k. Reaches Ends k y) g f) in
             let alone : Member s (next 0) =
-            stepped .alone s .1 (v, t .to, q, t .inside, some, small, i, c, finishing .exact q v s inside (t .inside) .1 p) in
+            stepped .alone s .1 (v, t .to, q, t .inside, some, small, i, c, p) in
             let state : s < states = set-of .within s 0 (omega arith) alone in
             let same : w * s + 0 ≡ y = omega arith in
             subst (λ u. Member u D) same (set-of .exact s 0 state (omega arith) .0 alone)
 
-    same-step : D ≡ coverStep R lists C a
+    pub same-step : D ≡ coverStep R lists C a
     same-step = equal-members D (coverStep R lists C a) λ y. (there y, back y)
       where
         there : (y : ℕ) → Member y D → Member y (coverStep R lists C a)
@@ -228,10 +239,40 @@ module _ (states n a : ℕ) (follow enter sizes accepting table flags : List ℕ
             let (x, z, l, i, t, r) = step-exactly C y .0 m in
             reached-column x z y l i t r
 
+-- The step by the places that lead to each occurrence (Leading) and by what is reached where lists end (Finishing).
+stepped-by-columns : (states n a : ℕ) (follow enter sizes accepting table before ended columns : List ℕ) (next : ℕ → ℕ) (D : ℕ) → Counted n sizes
+    → Leading n follow sizes before → Finishing states n accepting table ended → Stepped n a enter sizes accepting before ended columns next
+    → SetOf (suc (occupied sizes 0 n)) states next D
+    → ColumnsStepped n a follow enter sizes accepting table (λ o. getD columns o 0) next
+stepped-by-columns states n a follow enter sizes accepting table before ended columns next D counted leading finishing stepped set-of =
+    record {
+      moved = λ v p q h s k.
+          let low : p ≤ 63 = omega (arith, counted .small v h) in (
+            λ m.
+                let (i, (o, j, c)) = stepped .moved v p q h s k .0 m in
+                let l = leading .within v o p h low j in
+                (i, (o, l, leading .exact v o p h l low .0 j, c)),
+            λ (i, (o, l, j, c)). stepped .moved v p q h s k .1 (i, (o, leading .exact v o p h l low .1 j, c)),
+          );
+      alone = λ t. (
+        λ m.
+            let (v, p, q, h, s, k, i, c, e) = stepped .alone t .0 m in
+            (v, p, q, h, s, k, i, c, finishing .exact q v t (inside v p q h k c) h .0 e),
+        λ (v, p, q, h, s, k, i, c, e). stepped .alone t .1 (v, p, q, h, s, k, i, c, finishing .exact q v t (inside v p q h k c) h .1 e),
+      );
+      no-start = leading .no-start;
+    }
+  where
+    inside : (v p q : ℕ) → v < n → p ≤ getD sizes (v + 1) 0 → Member q (next (occupied sizes 0 v + p)) → q < states
+    inside v p q h k c = set-of .within q (occupied sizes 0 v + p) (omega (arith, occupied-room sizes v n h)) c
+
 pub columns-step : (states n a : ℕ) (follow enter sizes accepting table before ended columns : List ℕ) (C : ℕ) (next : ℕ → ℕ) (D : ℕ)
     → Proper states n follow enter sizes accepting table → a < 32 → Leading n follow sizes before → Finishing states n accepting table ended
-    → ColumnsOf (suc (occupied sizes 0 n)) states C columns → Stepped n a enter sizes accepting before ended columns next
+    → ColumnsOf (suc (occupied sizes 0 n)) states C (λ o. getD columns o 0) → Stepped n a enter sizes accepting before ended columns next
     → SetOf (suc (occupied sizes 0 n)) states next D → (flags : List ℕ)
     → D ≡ coverStep (rewritten states table flags) (automataOf follow enter sizes accepting n) C a
 columns-step states n a follow enter sizes accepting table before ended columns C next D proper h leading finishing of s t flags =
-    same-step states n a follow enter sizes accepting table flags proper h before ended columns C next D leading finishing of s t
+    same-step states n a follow enter sizes accepting table flags proper h (λ o. getD columns o 0) C next D
+    of
+    (stepped-by-columns states n a follow enter sizes accepting table before ended columns next D (proper .ready .counted) leading finishing s t)
+    t

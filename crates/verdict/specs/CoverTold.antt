@@ -7,7 +7,7 @@ use lib.ListN.{length, getD}
 use Rattle.theory.specs.Places.{union, unionOver}
 use Rattle.places.specs.Words.{numberOf}
 use Rattle.verdict.specs.Cover.{places, entered, movedWithin, moves, passed, finished, ends, settled, coverStart, coverStep}
-use Rattle.verdict.specs.Coded.{StandsAs}
+use Rattle.verdict.specs.Coded.{Layout, StandsAs}
 use Rattle.verdict.specs.Tables.{automataOf, occupied, rewritten, Counted, Ready, Proper}
 
 -- `set` becomes `set′`: it gains the places x, those below 1,024.
@@ -89,12 +89,12 @@ pub record StepTold (states n : ℕ) (follow enter sizes accepting table : List 
   pub told : Proper states n follow enter sizes accepting table → a < 32 → (flags : List ℕ)
       → numberOf r ≡ coverStep (rewritten states table flags) (automataOf follow enter sizes accepting n) (numberOf set) a
 
--- The same of cover sets as they stand in the workspace (Coded), turned where c is not 0.
+-- The same of cover sets as they stand in the workspace (Coded).
 
-pub record StartStands (c states n : ℕ) (follow enter sizes accepting table : List ℕ) (r : List ℕ) : Type 0 where
+pub record StartStands (L : Layout) (states n : ℕ) (follow enter sizes accepting table : List ℕ) (r : List ℕ) : Type 0 where
   pub told : Proper states n follow enter sizes accepting table → (flags : List ℕ)
-      → StandsAs c states (coverStart (rewritten states table flags) (automataOf follow enter sizes accepting n)) (numberOf r)
+      → StandsAs L states (coverStart (rewritten states table flags) (automataOf follow enter sizes accepting n)) (numberOf r)
 
-pub record StepStands (c states n : ℕ) (follow enter sizes accepting table : List ℕ) (a : ℕ) (set r : List ℕ) : Type 0 where
-  pub told : Proper states n follow enter sizes accepting table → a < 32 → (flags : List ℕ) (C : ℕ) → StandsAs c states C (numberOf set)
-      → StandsAs c states (coverStep (rewritten states table flags) (automataOf follow enter sizes accepting n) C a) (numberOf r)
+pub record StepStands (L : Layout) (states n : ℕ) (follow enter sizes accepting table : List ℕ) (a : ℕ) (set r : List ℕ) : Type 0 where
+  pub told : Proper states n follow enter sizes accepting table → a < 32 → (flags : List ℕ) (C : ℕ) → StandsAs L states C (numberOf set)
+      → StandsAs L states (coverStep (rewritten states table flags) (automataOf follow enter sizes accepting n) C a) (numberOf r)

@@ -1,12 +1,14 @@
 -- The first cover set, of the empty path (Cover): it has states alone, those that lists with the empty path lead to from the first. So where
--- sets stand turned it is the set of these states.
+-- sets stand turned, with a column for the states alone, it is the set of these states.
 use Prim.Native.Nat.{ℕ, suc, _+_, _*_, _^_, _≤_, _<_}
+use mathlib.Core.Bool.{Bool, true, false}
 use mathlib.Core.List.{List}
 use mathlib.Core.Logic.{_↔_}
-use mathlib.Core.Path.{_≡_, sym, _∙_, subst}
-use native.Mathlib.Nat.{mul-comm}
+use mathlib.Core.Path.{_≡_, refl, sym, ap, _∙_, subst}
+use native.Mathlib.Decide.{ℕ-discrete, decLt}
+use native.Mathlib.Nat.{mul-comm, mul-zero}
 use native.Mathlib.Omega.{arith}
-use lib.ListN.{length}
+use lib.ListN.{length, getD}
 use Rattle.theory.specs.Places.{Member, one}
 use Rattle.theory.specs.PlacesLaws.{member-one, members-below, one-below}
 use Rattle.theory.specs.Closure.{Reaches}
@@ -14,16 +16,19 @@ use Rattle.theory.specs.ClosureLaws.{closed-under, closure-below, closure-exact
 use Rattle.theory.specs.Automaton.{Automaton}
 use Rattle.places.specs.Words.{numberOf}
 use Rattle.verdict.specs.Cover.{Rewritten, places, ends, settled, coverStart}
-use Rattle.verdict.specs.Tables.{automataOf, occupied, rewritten, Counted, Ready, Proper}
+use Rattle.verdict.specs.Tables.{automataOf, occupied, rewritten, Counted, Proper}
 use Rattle.verdict.specs.CoverBounds.{ends-below}
 use Rattle.verdict.specs.CoverPlaces.{split-below, split-unique}
 use Rattle.verdict.specs.CoverStepped.{places-ready}
-use Rattle.verdict.specs.CoverTold.{StartStands}
-use Rattle.verdict.specs.CodedLaws.{turned-stands}
+use Rattle.verdict.specs.CoverTold.{StartTold, StartStands}
+use Rattle.verdict.specs.Coded.{Layout, turned, layoutOf}
+use Rattle.verdict.specs.CodedLaws.{layout-plain, layout-apart, layout-classed}
 use Rattle.verdict.specs.Columns.{Passes}
-use Rattle.verdict.specs.Prepared.{FirstReached}
+use Rattle.verdict.specs.Prepared.{FirstReached, WayReady}
+use Rattle.verdict.specs.NextCover.{start-plain, classes-onto, classes-apart}
 use Rattle.verdict.specs.TableEnds.{table-reached-there, table-reached-back}
-use Rattle.verdict.specs.Turned.{Turned}
+use Rattle.verdict.specs.Turned.{Onto, Turned}
+use Rattle.verdict.specs.TurnedLaws.{onto-same}
 
 module _ (states n : ℕ) (follow enter sizes accepting table flags : List ℕ) (proper : Proper states n follow enter sizes accepting table) where
   abbrev w : ℕ
@@ -73,42 +78,74 @@ module _ (states n : ℕ) (follow enter sizes accepting table flags : List ℕ) 
   reached-below r =
       closed-under (λ z. z < states) (λ q t h (v, k, i, e). subst (λ z. z < states) (sym e) (proper .next q v h k)) (proper .some-state) r
 
-  turned-start : (first : List ℕ) → FirstReached n accepting table first → Turned w states (coverStart R lists) (numberOf first)
-  turned-start first f =
-      record {
-        exact = λ q o h k. (there q o h k, back q o h k);
-        below = start-below;
-        turned-below = members-below (states * w) (numberOf first) λ i m.
-            omega (arith, mul-comm states w, split-below states w 0 i (reached-below (f .exact i .0 m)) (omega arith));
-      }
-    where
-      there : (q o : ℕ) → q < states → o < w → Member (w * q + o) (coverStart R lists) → Member (states * o + q) (numberOf first)
-      there q o h k m =
-          let (t, e, r) = table-reached-there states n follow enter sizes accepting table flags counted room 0 (w * q + o)
-          (start-exactly (w * q + o) .0 m) in
-          let (state, alone) = split-unique w q t o 0 k (omega arith) (e ∙ omega arith) in
-          let same : t ≡ states * o + q = omega (arith, subst (λ z. states * z ≡ 0) (sym alone) (omega arith)) in
-          subst (λ z. Member z (numberOf first)) same (f .exact t .1 r)
+  -- Where the states alone have their own column, the first of k.
+  module _ (k : ℕ) (f : ℕ → ℕ) (column : 0 < k) (onto : Onto w k f) (alone : f 0 ≡ 0) (apart : (o : ℕ) → 0 < o → o < w → 0 < f o) where
+    turned-start : (first : List ℕ) → FirstReached n accepting table first → Turned w k f states (coverStart R lists) (numberOf first)
+    turned-start first g =
+        record {
+          exact = λ q o h b. (there q o h b, back q o h b (ℕ-discrete o 0));
+          below = start-below;
+          turned-below = members-below (states * k) (numberOf first) λ i m.
+              omega (arith, mul-comm states k, split-below states k 0 i (reached-below (g .exact i .0 m)) column);
+          onto = onto;
+          alone = alone;
+        }
+      where
+        there : (q o : ℕ) → q < states → o < w → Member (w * q + o) (coverStart R lists) → Member (states * f o + q) (numberOf first)
+        there q o h b m =
+            let (t, e, r) = table-reached-there states n follow enter sizes accepting table flags counted room 0 (w * q + o)
+            (start-exactly (w * q + o) .0 m) in
+            let (state, start) = split-unique w q t o 0 b (omega arith) (e ∙ omega arith) in
+            let none : states * f o ≡ 0 = ap (λ z. states * z) (ap f start ∙ alone) ∙ mul-zero states in
+            let same : t ≡ states * f o + q = omega arith in
+            subst (λ z. Member z (numberOf first)) same (g .exact t .1 r)
 
-      back : (q o : ℕ) → q < states → o < w → Member (states * o + q) (numberOf first) → Member (w * q + o) (coverStart R lists)
-      back q o h k m =
-          let r = f .exact (states * o + q) .0 m in
-          let (alone, state) = split-unique states o 0 q (states * o + q) h (reached-below r) (omega arith) in
-          let same : w * (states * o + q) ≡ w * q + o = subst (λ z. w * z ≡ w * q + o) state (omega arith) in
-          subst (λ z. Member z (coverStart R lists)) same
-          (start-exactly (w * (states * o + q)) .1
-          (table-reached-back states n follow enter sizes accepting table flags counted room 0 (states * o + q) r))
+        back : (q o : ℕ) → q < states → o < w → Dec (o ≡ 0) → Member (states * f o + q) (numberOf first) → Member (w * q + o) (coverStart R lists)
+        back q o h b (yes start) m =
+            let none : states * f o ≡ 0 = ap (λ z. states * z) (ap f start ∙ alone) ∙ mul-zero states in
+            let state : states * f o + q ≡ q = omega arith in
+            let same : w * q ≡ w * q + o = omega arith in
+            subst (λ z. Member z (coverStart R lists)) same
+            (start-exactly (w * q) .1
+            (table-reached-back states n follow enter sizes accepting table flags counted room 0 q
+            (subst (λ z. Reaches (Passes n accepting table) 0 z) state (g .exact (states * f o + q) .0 m))))
+        back q o h b (no d) m =
+            let r = reached-below (g .exact (states * f o + q) .0 m) in
+            let (none, state) = split-unique states (f o) 0 q (states * f o + q) h r (omega (arith, mul-zero states)) in
+            absurd (omega (arith, apart o (omega arith) b))
 
 -- r is the set of the states reached, at least where these are below the number of places: of proper tables they are.
-pub first-stands : {states n : ℕ} {follow enter sizes accepting table : List ℕ} {w : ℕ} → Ready states n follow enter sizes accepting table w
-    → (first r : List ℕ) → FirstReached n accepting table first → (numberOf first < 2 ^ (states * w) → numberOf r ≡ numberOf first)
-    → StartStands w states n follow enter sizes accepting table r
-first-stands {states} {n} {follow} {enter} {sizes} {accepting} {table} {w} ready first r f same =
-    subst (λ z. StartStands z states n follow enter sizes accepting table r) (sym (ready .wide))
-    (record {
+pub first-stands : {states n : ℕ} {follow enter sizes accepting table : List ℕ} (k : ℕ) (f : ℕ → ℕ) → 0 < k
+    → Onto (suc (occupied sizes 0 n)) k f → f 0 ≡ 0 → ((o : ℕ) → 0 < o → o < suc (occupied sizes 0 n) → 0 < f o)
+    → (first r : List ℕ) → FirstReached n accepting table first → (numberOf first < 2 ^ (states * k) → numberOf r ≡ numberOf first)
+    → StartStands (turned (suc (occupied sizes 0 n)) k f) states n follow enter sizes accepting table r
+first-stands {states} {n} {follow} {enter} {sizes} {accepting} {table} k f column onto alone apart first r g same =
+    record {
       told = λ proper flags.
-          let turned = turned-start states n follow enter sizes accepting table flags proper first f in
-          turned-stands (suc (occupied sizes 0 n)) states _ (numberOf r) (omega arith)
-          (subst (Turned (suc (occupied sizes 0 n)) states _)
-          (sym (same (subst (λ z. numberOf first < 2 ^ (states * z)) (sym (ready .wide)) (turned .turned-below)))) turned);
-    })
+          let t = turned-start states n follow enter sizes accepting table flags proper k f column onto alone apart first g in
+          subst (Turned (suc (occupied sizes 0 n)) k f states _) (sym (same (t .turned-below))) t;
+    }
+
+-- The first set as it stands, whichever way steps go.
+pub start-stands : {states n labels : ℕ} {follow enter sizes accepting table : List ℕ} {w : ℕ} {by : Bool} {before ended classes : List ℕ}
+    → WayReady states n labels follow enter sizes accepting table w by before ended classes → (first r : List ℕ)
+    → (0 < w → FirstReached n accepting table first) → (w ≡ 0 → StartTold states n follow enter sizes accepting table r)
+    → (0 < w → numberOf first < 2 ^ (states * w) → numberOf r ≡ numberOf first)
+    → StartStands (layoutOf (suc (occupied sizes 0 n)) w by classes) states n follow enter sizes accepting table r
+start-stands {states} {n} {labels} {follow} {enter} {sizes} {accepting} {table} {w} {by} {before} {ended} {classes} ready first r reached plainly same =
+    go (decLt 0 w) by refl
+  where
+    Stands : Layout → Type 0
+    Stands L = StartStands L states n follow enter sizes accepting table r
+
+    go : Dec (0 < w) → (b : Bool) → by ≡ b → Stands (layoutOf (suc (occupied sizes 0 n)) w by classes)
+    go (no z) b e = subst Stands (sym (layout-plain _ w by classes (omega arith))) (start-plain (plainly (omega arith)))
+    go (yes h) false e =
+        let wide : w ≡ suc (occupied sizes 0 n) = ready .apart h e .ready .wide in
+        subst Stands (sym (layout-apart _ w by classes h e))
+        (first-stands w (λ o. o) h (subst (λ z. Onto (suc (occupied sizes 0 n)) z (λ o. o)) (sym wide) (onto-same _)) refl (λ o some small. some)
+        first r (reached h) (same h))
+    go (yes h) true e =
+        let c = ready .classed h e .stable in
+        subst Stands (sym (layout-classed _ w by classes h e))
+        (first-stands w (λ o. getD classes o 0) h (classes-onto c) (c .alone) (classes-apart c) first r (reached h) (same h))

@@ -18,10 +18,11 @@ use Rattle.verdict.specs.Cover.{Rewritten, width, places, yielding}
 use Rattle.verdict.specs.Pairs.{Pair, pairs, firstMissed}
 use Rattle.verdict.specs.Tables.{automatonAt, automataOf, occupied, rewritten}
 use Rattle.verdict.specs.TablesLaws.{width-exactly}
-use Rattle.verdict.specs.PairsTold.{Lent, Lending, PairsCase, PairsTold}
+use Rattle.verdict.specs.Coded.{Sided}
+use Rattle.verdict.specs.PairsTold.{Lent, Lending, PairsCase, SearchTold}
 use Rattle.verdict.specs.PathTold.{DepthTold, PathWritten}
 use Rattle.verdict.specs.Missing.{gap, Yields, FirstTold, none-missed, some-missed}
-use Rattle.verdict.specs.Verdict.{missed, refused, verdict}
+use Rattle.verdict.specs.Verdict.{refused, verdict}
 use Rattle.verdict.specs.VerdictTold.{toldOf, PathAfter, Fit, verdictOf, VerdictTold, Placed, JudgedAs, Judged}
 use Rattle.verdict.specs.declared.pairs.Explored.{Explored}
 use Rattle.verdict.specs.declared.pairs.Explored.the-variants.{All, Over}
@@ -36,7 +37,7 @@ same-rest d l m e h =
 
 -- The pairs held are judged.
 
-module _ (states : ℕ) (flags : List ℕ) (w c ends n : ℕ) (turned : 0 < c → c ≡ w) (space path yields : List ℕ) (i : ℕ)
+module _ (states : ℕ) (flags : List ℕ) (w c ends n : ℕ) (space path yields : List ℕ) (i : ℕ)
     (yielded : Yields flags (gap c w) states yields) (first : FirstTold n space ends (numberOf yields) i) where
   first-of : (A : Automaton) (table : List ℕ) (lists : List Automaton) → A .accepting ≡ ends → width lists ≡ w
       → FirstTold n space (A .accepting) (yielding (rewritten states table flags) (gap c (width lists)) states) i
@@ -47,9 +48,9 @@ module _ (states : ℕ) (flags : List ℕ) (w c ends n : ℕ) (turned : 0 < c �
   pub judged-none : i ≡ n → Judged states flags w c ends n space path (Complete n) path
   judged-none q =
       record {
-        told = λ room A table lists e f S l held count.
+        told = λ room A table lists e f L side S l held count.
             subst (JudgedAs n path (Complete n) path)
-            (sym (none-missed A (rewritten states table flags) lists c (λ h. turned h ∙ sym f) S space l held n count i (first-of A table lists e f) q)) (refl, refl);
+            (sym (none-missed A (rewritten states table flags) lists c L (subst (λ z. Sided c z L) (sym f) side) S space l held n count i (first-of A table lists e f) q)) (refl, refl);
         beyond = λ j k. refl;
       }
 
@@ -57,13 +58,13 @@ module _ (states : ℕ) (flags : List ℕ) (w c ends n : ℕ) (turned : 0 < c �
       → Judged states flags w c ends n space path (Missed d n) path′
   judged-some d path′ q deep written =
       record {
-        told = λ room A table lists e f S l held count.
+        told = λ room A table lists e f L side S l held count.
             let b : i < length l = omega (arith, first .inside, count) in
             let t : List ℕ = reverse (entryAt S l i .trail) in
             let depth : d ≡ length (entryAt S l i .trail) = deep .told S l (held .trails) b in
             let size : d ≡ length t = depth ∙ sym (length-reverse (entryAt S l i .trail)) in
             subst (JudgedAs n path (Missed d n) path′)
-            (sym (some-missed A (rewritten states table flags) lists c (λ h. turned h ∙ sym f) S space l held n count i (first-of A table lists e f) (omega (arith, first .inside)))) (
+            (sym (some-missed A (rewritten states table flags) lists c L (subst (λ z. Sided c z L) (sym f) side) S space l held n count i (first-of A table lists e f) (omega (arith, first .inside)))) (
               ap (λ x. Missed x n) size,
               subst (λ x. take x path′ ≡ t) size (written .told (omega (arith, deep .few, first .inside)) S l (held .trails) b depth),
               subst (λ x. drop x path′ ≡ drop x path) size (same-rest d path′ path (written .size) (written .rest)),
@@ -149,26 +150,26 @@ module _ (D : Lent) (flags : List ℕ) (most allowance : ℕ) where
     lending f = fit-lending f (omega (arith, few-places f, placed .few some-width .1))
 
     -- There are too many pairs.
-    pub told-pairs : (c : ℕ) (space path : List ℕ) (r : Explored) (space′ : List ℕ) → PairsTold D c allowance space r space′ → r ≡ Over
+    pub told-pairs : (c : ℕ) (space path : List ℕ) (r : Explored) (space′ : List ℕ) → SearchTold D c allowance space r space′ → r ≡ Over
         → VerdictTold D flags most allowance space path (Refused TooManyPairs) space′ path
     unfolding verdict PairsCase
     told-pairs c space path r space′ t e =
         record {
           answer = λ f m a s k. sym (ap toldOf (is f a s));
           written = λ f m a s k. subst (PathAfter path path) (sym (is f a s)) refl;
-          space-beyond = t .beyond;
+          space-beyond = t .told .beyond;
           path-beyond = λ j k. refl;
         }
       where
         is : Fit D flags → allowance ≤ 4096 → 18 * allowance ≤ length space → verdictOf D flags most allowance ≡ refused TooManyPairs
         is f a s =
             let o : pairs query (D .labels) rewriting lists allowance ≡ over =
-            subst (PairsCase D c flags allowance space′) e (t .told (lending f) a s flags) in
+            subst (PairsCase D (t .layout) flags allowance space′) e (t .told .told (lending f) a s flags) in
             rw (le-leb (places rewriting lists) most (within f), verdict, o)
 
     -- All pairs are found, and judged.
     pub told-judged : (c : ℕ) (space path : List ℕ) (r : Explored) (space′ : List ℕ) (m : ℕ) (answer : Told) (path′ : List ℕ)
-        → PairsTold D c allowance space r space′ → r ≡ All m
+        → SearchTold D c allowance space r space′ → r ≡ All m
         → Judged (D .states) flags w c (getD (D .accepting) 0 0) m space′ path answer path′
         → VerdictTold D flags most allowance space path answer space′ path′
     unfolding verdict PairsCase
@@ -176,16 +177,17 @@ module _ (D : Lent) (flags : List ℕ) (most allowance : ℕ) where
         record {
           answer = λ f x a s k. final f a s k .0;
           written = λ f x a s k. final f a s k .1;
-          space-beyond = t .beyond;
-          path-beyond = λ n k. j .beyond n (omega (arith, t .few m e .0));
+          space-beyond = t .told .beyond;
+          path-beyond = λ n k. j .beyond n (omega (arith, t .told .few m e .0));
         }
       where
         final : Fit D flags → allowance ≤ 4096 → 18 * allowance ≤ length space → allowance ≤ length path
             → (answer ≡ toldOf (verdictOf D flags most allowance)) × PathAfter path path′ (verdictOf D flags most allowance)
         final f a s k =
-            let (l, o, held, count) = subst (PairsCase D c flags allowance space′) e (t .told (lending f) a s flags) in
+            let (l, o, held, count) = subst (PairsCase D (t .layout) flags allowance space′) e (t .told .told (lending f) a s flags) in
             go l o count (firstMissed query rewriting lists l) refl
-            (j .told (omega (arith, t .few m e .0)) query (D .table) lists refl (fit-width f ∙ sym (placed .wide some-width)) _ l held count)
+            (j .told (omega (arith, t .told .few m e .0)) query (D .table) lists refl (fit-width f ∙ sym (placed .wide some-width))
+            (t .layout) (subst (λ z. Sided c z (t .layout)) (sym (placed .wide some-width)) (t .sided)) _ l held count)
           where
             go : (l : List (Entry Pair)) → pairs query (D .labels) rewriting lists allowance ≡ all l → length l ≡ m
                 → (p : Option Path) → firstMissed query rewriting lists l ≡ p → JudgedAs m path answer path′ p

@@ -51,11 +51,18 @@ pub mod RangesLaws
 pub mod RangesStep
 pub mod Sums
 pub mod SumsLaws
+pub mod Classes
+pub mod ClassTurns
+pub mod ClassesStep
+pub mod ClassSumsTurns
 pub mod Prepared
 pub mod NextCover
 pub mod FirstCover
 pub mod ColumnLists
 pub mod ColumnTurns
+pub mod KindsTurns
+pub mod ClassesTurns
+pub mod StableTurns
 pub mod Turned
 pub mod TurnedTurns
 pub mod TurnedColumns
@@ -68,6 +75,7 @@ pub mod Workspace
 pub mod PairIndex
 pub mod PairIndexLaws
 pub mod PairsTold
+pub mod Searches
 pub mod PairRows
 pub mod PathTold
 pub mod Missing

@@ -22,7 +22,7 @@ use Rattle.theory.specs.Explored.{entryAt}
 use Rattle.places.specs.Words.{numberOf}
 use Rattle.verdict.specs.Cover.{Rewritten, width, yielding}
 use Rattle.verdict.specs.CoverTold.{Gains}
-use Rattle.verdict.specs.Coded.{StandsAs, Coded}
+use Rattle.verdict.specs.Coded.{Layout, plain, turned, Sided, StandsAs, Coded}
 use Rattle.verdict.specs.MissedPairs.{member-yielding}
 use Rattle.verdict.specs.Pairs.{Pair, misses, firstMissed}
 use Rattle.verdict.specs.PairTable.{pairAt, Holds}
@@ -73,31 +73,36 @@ gap zero w = w
 gap (suc c) w = 1
 
 -- A set has an accepting state alone exactly where it has one as it stands.
-stands-yields : (R : Rewritten) (w c C D : ℕ) → (0 < c → c ≡ w) → StandsAs c (R .states) C D
+stands-yields : (R : Rewritten) (w c : ℕ) (L : Layout) (C D : ℕ) → 0 < w → Sided c w L → StandsAs L (R .states) C D
     → ((p : ℕ) × Member p (intersection C (yielding R w (R .states)))) ↔ ((p : ℕ) × Member p (intersection D (yielding R (gap c w) (R .states))))
-stands-yields R w zero C D turned e = subst (λ z. ((p : ℕ) × Member p (intersection C (yielding R w (R .states)))) ↔ ((p : ℕ) × Member p (intersection z (yielding R w (R .states))))) e (λ x. x, λ x. x)
-stands-yields R w (suc c) C D turned t = (there, back)
+stands-yields R w zero plain C D least side e = subst (λ z. ((p : ℕ) × Member p (intersection C (yielding R w (R .states)))) ↔ ((p : ℕ) × Member p (intersection z (yielding R w (R .states))))) e (λ x. x, λ x. x)
+stands-yields R w (suc c) plain C D least side e = absurd (omega arith)
+stands-yields R w zero (turned x k f) C D least side t = absurd (omega (arith, side .0))
+stands-yields R w (suc c) (turned x k f) C D least side t = (there, back)
   where
-    same : suc c ≡ w
-    same = turned (omega arith)
+    first : 0 < x
+    first = omega (arith, side .1)
+
+    -- The states alone stand first.
+    placed : (q : ℕ) → R .states * f 0 + q ≡ 1 * q
+    placed q = ap (λ z. R .states * z + q) (t .alone) ∙ omega (arith, mul-zero (R .states))
 
     there : (p : ℕ) × Member p (intersection C (yielding R w (R .states))) → (p : ℕ) × Member p (intersection D (yielding R 1 (R .states)))
     there (p, m) =
         let (a, b) = member-intersection p C (yielding R w (R .states)) .0 m in
-        let (q, h, e, f) = member-yielding R w (R .states) p .0 b in
-        let k : suc c * q + 0 ≡ p = ap (λ z. z * q + 0) same ∙ omega (arith, e) in
-        let d : Member (R .states * 0 + q) D = t .exact q 0 h (omega arith) .0 (subst (λ z. Member z C) (sym k) a) in
-        let x : R .states * 0 + q ≡ 1 * q = omega (arith, mul-zero (R .states)) in
-        (1 * q, member-intersection (1 * q) D (yielding R 1 (R .states)) .1 (subst (λ z. Member z D) x d, member-yielding R 1 (R .states) (1 * q) .1 (q, h, refl, f)))
+        let (q, h, e, g) = member-yielding R w (R .states) p .0 b in
+        let k : x * q + 0 ≡ p = ap (λ z. z * q + 0) (side .1) ∙ omega (arith, e) in
+        let d : Member (R .states * f 0 + q) D = t .exact q 0 h first .0 (subst (λ z. Member z C) (sym k) a) in
+        (1 * q, member-intersection (1 * q) D (yielding R 1 (R .states)) .1 (subst (λ z. Member z D) (placed q) d, member-yielding R 1 (R .states) (1 * q) .1 (q, h, refl, g)))
 
     back : (p : ℕ) × Member p (intersection D (yielding R 1 (R .states))) → (p : ℕ) × Member p (intersection C (yielding R w (R .states)))
     back (p, m) =
         let (a, b) = member-intersection p D (yielding R 1 (R .states)) .0 m in
-        let (q, h, e, f) = member-yielding R 1 (R .states) p .0 b in
-        let k : R .states * 0 + q ≡ p = omega (arith, e, mul-zero (R .states)) in
-        let d : Member (suc c * q + 0) C = t .exact q 0 h (omega arith) .1 (subst (λ z. Member z D) (sym k) a) in
-        let x : suc c * q + 0 ≡ w * q = ap (λ z. z * q + 0) same ∙ omega arith in
-        (w * q, member-intersection (w * q) C (yielding R w (R .states)) .1 (subst (λ z. Member z C) x d, member-yielding R w (R .states) (w * q) .1 (q, h, refl, f)))
+        let (q, h, e, g) = member-yielding R 1 (R .states) p .0 b in
+        let k : R .states * f 0 + q ≡ p = placed q ∙ sym e in
+        let d : Member (x * q + 0) C = t .exact q 0 h first .1 (subst (λ z. Member z D) (sym k) a) in
+        let y : x * q + 0 ≡ w * q = ap (λ z. z * q + 0) (side .1) ∙ omega arith in
+        (w * q, member-intersection (w * q) C (yielding R w (R .states)) .1 (subst (λ z. Member z C) y d, member-yielding R w (R .states) (w * q) .1 (q, h, refl, g)))
 
 same-empty : (s t : ℕ) → ((p : ℕ) × Member p s) ↔ ((p : ℕ) × Member p t) → eqb s 0 ≡ eqb t 0
 same-empty s t e = side (ℕ-discrete s 0) (ℕ-discrete t 0)
@@ -108,12 +113,12 @@ same-empty s t e = side (ℕ-discrete s 0) (ℕ-discrete t 0)
     side (no a) (yes b) = let (p, m) = e .0 (not-none s a) in absurd (member-none p (subst (Member p) b m))
     side (no a) (no b) = ne-eqb s 0 a ∙ sym (ne-eqb t 0 b)
 
-misses-coded : (R : Rewritten) (w ends c : ℕ) → (0 < c → c ≡ w) → (x y : Pair) → Coded c (R .states) x y
+misses-coded : (R : Rewritten) (w ends c : ℕ) (L : Layout) → 0 < w → Sided c w L → (x y : Pair) → Coded L (R .states) x y
     → missesWith ends (yielding R w (R .states)) x ≡ missesWith ends (yielding R (gap c w) (R .states)) y
-misses-coded R w ends c turned x y e =
+misses-coded R w ends c L least side x y e =
     ap₂ (λ s b. not (eqb (intersection s ends) 0) && b) (e .standing)
     (same-empty (intersection (x .cover) (yielding R w (R .states))) (intersection (y .cover) (yielding R (gap c w) (R .states)))
-    (stands-yields R w c (x .cover) (y .cover) turned (e .cover)))
+    (stands-yields R w c L (x .cover) (y .cover) least side (e .cover)))
 
 -- The first of n pairs whose paths are missed; n where there is none.
 pub record FirstTold (n : ℕ) (space : List ℕ) (ends yields r : ℕ) : Type 0 where
@@ -137,14 +142,18 @@ module _ (A : Automaton) (R : Rewritten) (lists : List Automaton) where
   first-some (e ∷ l) d zero b h m = rw (m, firstMissed)
   first-some (e ∷ l) d (suc r) b h m = rw (h 0 (omega arith), firstMissed) (first-some l d r (omega arith) (λ k c. h (suc k) (omega arith)) m)
 
-  module _ (w : ℕ) (turned : 0 < w → w ≡ width lists) (S : System Pair) (space : List ℕ) (l : List (Entry Pair))
-      (held : Holds w (R .states) S space l) (n : ℕ) (count : length l ≡ n) (r : ℕ)
-      (told : FirstTold n space (A .accepting) (yielding R (gap w (width lists)) (R .states)) r) where
+  module _ (c : ℕ) (L : Layout) (side : Sided c (width lists) L) (S : System Pair) (space : List ℕ) (l : List (Entry Pair))
+      (held : Holds L (R .states) S space l) (n : ℕ) (count : length l ≡ n) (r : ℕ)
+      (told : FirstTold n space (A .accepting) (yielding R (gap c (width lists)) (R .states)) r) where
+    some-width : 0 < width lists
+    unfolding width
+    some-width = omega arith
+
     misses-at : (k : ℕ) → k < length l → misses A R lists (entryAt S l k .value)
-        ≡ missesWith (A .accepting) (yielding R (gap w (width lists)) (R .states)) (pairAt space k)
+        ≡ missesWith (A .accepting) (yielding R (gap c (width lists)) (R .states)) (pairAt space k)
     misses-at k b =
         misses-with A R lists (entryAt S l k .value)
-        ∙ misses-coded R (width lists) (A .accepting) w turned (entryAt S l k .value) (pairAt space k) (held .value k b)
+        ∙ misses-coded R (width lists) (A .accepting) c L some-width side (entryAt S l k .value) (pairAt space k) (held .value k b)
 
     pub none-missed : r ≡ n → firstMissed A R lists l ≡ none
     none-missed e =

@@ -6,7 +6,6 @@ use mathlib.Core.Path.{_≡_, refl, sym, ap, _∙_, subst}
 use native.Mathlib.Numerals.{add-one}
 use native.Mathlib.Omega.{arith}
 use lib.ListN.{length, getD, length-append}
-use Rattle.theory.specs.Places.{one}
 use Rattle.theory.specs.Automaton.{step}
 use Rattle.theory.specs.Exploration.{Entry, over, known, grow, extend, row, sweep, explore}
 use Rattle.theory.specs.Explored.{entryAt}
@@ -15,7 +14,7 @@ use Rattle.theory.specs.ExplorationSteps.{explore-some, explore-none}
 use Rattle.places.specs.Words.{numberOf}
 use Rattle.verdict.specs.Cover.{coverStep}
 use Rattle.verdict.specs.CoverTold.{StartStands, StepStands}
-use Rattle.verdict.specs.Coded.{StandsAs, Coded}
+use Rattle.verdict.specs.Coded.{Layout, StandsAs, Coded}
 use Rattle.verdict.specs.Pairs.{Pair, pairs}
 use Rattle.verdict.specs.PairCounts.{pair-tests}
 use Rattle.verdict.specs.PairTable.{wordsAt, Holds, Stored, Seen}
@@ -27,35 +26,35 @@ use Rattle.verdict.specs.declared.pairs.Explored.{Explored}
 use Rattle.verdict.specs.declared.pairs.Explored.the-variants.{All, Over}
 
 -- The labels of the entry number i: the labels from a on are left, and m entries are found.
-pub record RowLeft (D : Lent) (w : ℕ) (flags : List ℕ) (limit i a : ℕ) (l : List (Entry Pair)) (m : ℕ) (space : List ℕ) : Type 0 where
+pub record RowLeft (D : Lent) (L : Layout) (flags : List ℕ) (limit i a : ℕ) (l : List (Entry Pair)) (m : ℕ) (space : List ℕ) : Type 0 where
   pub entries : List (Entry Pair)
-  pub held : Holds w (D .states) (systemOf D flags) space entries
+  pub held : Holds L (D .states) (systemOf D flags) space entries
   pub count : length entries ≡ m
   pub entry : entryAt (systemOf D flags) entries i ≡ entryAt (systemOf D flags) l i
   pub left : row (systemOf D flags) limit (entryAt (systemOf D flags) l i) (D .labels - a) a entries
       ≡ row (systemOf D flags) limit (entryAt (systemOf D flags) l i) (D .labels) 0 l
 
-pub record RowLoop (D : Lent) (w limit i n : ℕ) (space₀ : List ℕ) (a m : ℕ) (space : List ℕ) : Type 0 where
+pub record RowLoop (D : Lent) (L : Layout) (limit i n : ℕ) (space₀ : List ℕ) (a m : ℕ) (space : List ℕ) : Type 0 where
   pub symbol : a ≤ D .labels
   pub kept : n ≤ m
   pub within : m ≤ limit
   pub size : length space ≡ length space₀
   pub words : wordsAt space (18 * i + 1) 16 ≡ wordsAt space₀ (18 * i + 1) 16
   pub beyond : (j : ℕ) → 18 * limit ≤ j → getD space j 0 ≡ getD space₀ j 0
-  pub told : Lending D → (flags : List ℕ) (l : List (Entry Pair)) → Holds w (D .states) (systemOf D flags) space₀ l → length l ≡ n
-      → RowLeft D w flags limit i a l m space
+  pub told : Lending D → (flags : List ℕ) (l : List (Entry Pair)) → Holds L (D .states) (systemOf D flags) space₀ l → length l ≡ n
+      → RowLeft D L flags limit i a l m space
 
 -- The pair that the label a leads to from the pair number i.
-pub record Stepped (D : Lent) (w : ℕ) (space : List ℕ) (i a standing : ℕ) (cover : List ℕ) : Type 0 where
+pub record Stepped (D : Lent) (L : Layout) (space : List ℕ) (i a standing : ℕ) (cover : List ℕ) : Type 0 where
   pub from : ℕ
   pub from-at : getD space (18 * i) 0 ≡ from
   pub words : List ℕ
   pub words-at : words ≡ wordsAt space (18 * i + 1) 16
   pub query : QueryStep (D .follow) (D .enter) (D .sizes) a from standing
-  pub covered : StepStands w (D .states) (D .lists) (D .follow) (D .enter) (D .sizes) (D .accepting) (D .table) a words cover
+  pub covered : StepStands L (D .states) (D .lists) (D .follow) (D .enter) (D .sizes) (D .accepting) (D .table) a words cover
 
-pub row-start : (D : Lent) (w limit i n : ℕ) (space : List ℕ) → n ≤ limit → RowLoop D w limit i n space 0 n space
-row-start D w limit i n space h =
+pub row-start : (D : Lent) (L : Layout) (limit i n : ℕ) (space : List ℕ) → n ≤ limit → RowLoop D L limit i n space 0 n space
+row-start D L limit i n space h =
     record {
       symbol = omega arith;
       kept = omega arith;
@@ -75,9 +74,9 @@ row-start D w limit i n space h =
           };
     }
 
-module _ (D : Lent) (w limit i n : ℕ) (space₀ : List ℕ) (a m : ℕ) (space : List ℕ) (loop : RowLoop D w limit i n space₀ a m space)
-    (more : a < D .labels) (inside : i < n) (standing : ℕ) (cover : List ℕ) (stepped : Stepped D w space₀ i a standing cover) where
-  module _ (p : Lending D) (flags : List ℕ) (l : List (Entry Pair)) (held : Holds w (D .states) (systemOf D flags) space₀ l) (count : length l ≡ n) where
+module _ (D : Lent) (L : Layout) (limit i n : ℕ) (space₀ : List ℕ) (a m : ℕ) (space : List ℕ) (loop : RowLoop D L limit i n space₀ a m space)
+    (more : a < D .labels) (inside : i < n) (standing : ℕ) (cover : List ℕ) (stepped : Stepped D L space₀ i a standing cover) where
+  module _ (p : Lending D) (flags : List ℕ) (l : List (Entry Pair)) (held : Holds L (D .states) (systemOf D flags) space₀ l) (count : length l ≡ n) where
     -- The pair that the system's step gives stands as the pair computed.
     next : Pair
     next =
@@ -87,7 +86,7 @@ module _ (D : Lent) (w limit i n : ℕ) (space₀ : List ℕ) (a m : ℕ) (space
               (entryAt (systemOf D flags) l i .value .cover) a;
         }
 
-    next-coded : Coded w (D .states) next (pair standing cover)
+    next-coded : Coded L (D .states) next (pair standing cover)
     unfolding next
     next-coded =
         let b : i < length l = omega (arith, count) in
@@ -100,13 +99,13 @@ module _ (D : Lent) (w limit i n : ℕ) (space₀ : List ℕ) (a m : ℕ) (space
               ∙ sym (stepped .query .told (p .query) (omega (arith, r .follow-room)) (omega (arith, r .enter-room)) k (omega (arith, r .counted .room)) (D .accepting));
           cover =
               stepped .covered .told (p .proper) k flags (entryAt (systemOf D flags) l i .value .cover)
-              (subst (λ x. StandsAs w (D .states) (entryAt (systemOf D flags) l i .value .cover) (numberOf x)) (sym (stepped .words-at)) (e .cover));
+              (subst (λ x. StandsAs L (D .states) (entryAt (systemOf D flags) l i .value .cover) (numberOf x)) (sym (stepped .words-at)) (e .cover));
         }
 
     new : Entry Pair
     new = record { value = next; trail = a ∷ entryAt (systemOf D flags) l i .trail }
 
-    s : RowLeft D w flags limit i a l m space
+    s : RowLeft D L flags limit i a l m space
     s = loop .told p flags l held count
 
     extended : extend (systemOf D flags) limit (entryAt (systemOf D flags) l i) a (s .entries) ≡ grow (systemOf D flags) limit new (s .entries)
@@ -119,7 +118,7 @@ module _ (D : Lent) (w limit i n : ℕ) (space₀ : List ℕ) (a m : ℕ) (space
         let e : suc (D .labels - (a + 1)) ≡ D .labels - a = omega arith in
         ap (λ k. row (systemOf D flags) limit (entryAt (systemOf D flags) l i) k a (s .entries)) e ∙ s .left
 
-    left-known : (r : Bool) → Seen m space (pair standing cover) r → r ≡ true → RowLeft D w flags limit i (a + 1) l m space
+    left-known : (r : Bool) → Seen m space (pair standing cover) r → r ≡ true → RowLeft D L flags limit i (a + 1) l m space
     unfolding new
     left-known r seen e =
         record {
@@ -131,26 +130,26 @@ module _ (D : Lent) (w limit i n : ℕ) (space₀ : List ℕ) (a m : ℕ) (space
               ap (λ k. row (systemOf D flags) limit (entryAt (systemOf D flags) l i) (D .labels - (a + 1)) k (s .entries)) (add-one a)
               ∙ sym (row-on (systemOf D flags) limit (entryAt (systemOf D flags) l i) (D .labels - (a + 1)) a (s .entries) (s .entries)
               (extended ∙ grow-known (systemOf D flags) limit new (s .entries)
-              (seen-known w (D .states) (systemOf D flags) (pair-tests _ _ _ _) space (s .entries) (s .held) m (s .count) next (pair standing cover) next-coded r seen e)))
+              (seen-known L (D .states) (systemOf D flags) (pair-tests _ _ _ _) space (s .entries) (s .held) m (s .count) next (pair standing cover) next-coded r seen e)))
               ∙ whole;
         }
 
     fresh : (r : Bool) → Seen m space (pair standing cover) r → r ≡ false → known (systemOf D flags) (new .value) (s .entries) ≡ false
     unfolding new
     fresh r seen e =
-        seen-new w (D .states) (systemOf D flags) (pair-tests _ _ _ _) space (s .entries) (s .held) m (s .count) next (pair standing cover) next-coded r seen
+        seen-new L (D .states) (systemOf D flags) (pair-tests _ _ _ _) space (s .entries) (s .held) m (s .count) next (pair standing cover) next-coded r seen
         (p .proper .some-state) e
 
     left-new : (r : Bool) (space′ : List ℕ) → Seen m space (pair standing cover) r → r ≡ false → m < limit → limit ≤ 4096
-        → length cover ≡ 16 → Stored space m standing cover (a * 8192 + i) space′ → RowLeft D w flags limit i (a + 1) l (m + 1) space′
+        → length cover ≡ 16 → Stored space m standing cover (a * 8192 + i) space′ → RowLeft D L flags limit i (a + 1) l (m + 1) space′
     unfolding new
     left-new r space′ seen e room few sized stored =
         record {
           entries = s .entries ++ (new ∷ []);
           held =
-              subst (λ t. Holds w (D .states) (systemOf D flags) space′ (s .entries ++ (record { value = next; trail = a ∷ t } ∷ [])))
+              subst (λ t. Holds L (D .states) (systemOf D flags) space′ (s .entries ++ (record { value = next; trail = a ∷ t } ∷ [])))
               (ap (λ x. x .trail) (s .entry))
-              (holds-more w (D .states) (systemOf D flags) space space′ (s .entries) i a next standing cover (s .held)
+              (holds-more L (D .states) (systemOf D flags) space space′ (s .entries) i a next standing cover (s .held)
               (subst (λ k. Stored space k standing cover (a * 8192 + i) space′) (sym (s .count)) stored) sized next-coded
               (omega (arith, s .count, loop .kept)) (omega (arith, loop .kept)) (omega (arith, p .few-labels)));
           count = length-append (s .entries) (new ∷ []) ∙ omega (arith, s .count);
@@ -171,7 +170,7 @@ module _ (D : Lent) (w limit i n : ℕ) (space₀ : List ℕ) (a m : ℕ) (space
         (extended ∙ grow-over (systemOf D flags) limit new (s .entries) (fresh r seen e) (omega (arith, s .count)))
 
   -- The pair is known.
-  pub row-known : (r : Bool) → Seen m space (pair standing cover) r → r ≡ true → RowLoop D w limit i n space₀ (a + 1) m space
+  pub row-known : (r : Bool) → Seen m space (pair standing cover) r → r ≡ true → RowLoop D L limit i n space₀ (a + 1) m space
   row-known r seen e =
       record {
         symbol = omega arith;
@@ -185,7 +184,7 @@ module _ (D : Lent) (w limit i n : ℕ) (space₀ : List ℕ) (a m : ℕ) (space
 
   -- It is new, and stored.
   pub row-new : (r : Bool) (space′ : List ℕ) → Seen m space (pair standing cover) r → r ≡ false → m < limit → limit ≤ 4096 → length cover ≡ 16
-      → Stored space m standing cover (a * 8192 + i) space′ → RowLoop D w limit i n space₀ (a + 1) (m + 1) space′
+      → Stored space m standing cover (a * 8192 + i) space′ → RowLoop D L limit i n space₀ (a + 1) (m + 1) space′
   row-new r space′ seen e room few sized stored =
       record {
         symbol = omega arith;
@@ -199,7 +198,7 @@ module _ (D : Lent) (w limit i n : ℕ) (space₀ : List ℕ) (a m : ℕ) (space
       }
 
   -- It is new, and there is no room.
-  pub row-exceeds : (r : Bool) → Seen m space (pair standing cover) r → r ≡ false → limit ≤ m → RowTold D w limit i n space₀ Over space
+  pub row-exceeds : (r : Bool) → Seen m space (pair standing cover) r → r ≡ false → limit ≤ m → RowTold D L limit i n space₀ Over space
   unfolding RowCase
   row-exceeds r seen e full =
       record {
@@ -212,10 +211,10 @@ module _ (D : Lent) (w limit i n : ℕ) (space₀ : List ℕ) (a m : ℕ) (space
       over-not-all q = let z : _≡_ {A = ℕ} 0 1 = cc in omega arith
 
 -- All labels are tried.
-pub row-told : (D : Lent) (w limit i n : ℕ) (space₀ : List ℕ) (a m : ℕ) (space : List ℕ) → RowLoop D w limit i n space₀ a m space → D .labels ≤ a
-    → RowTold D w limit i n space₀ (All m) space
+pub row-told : (D : Lent) (L : Layout) (limit i n : ℕ) (space₀ : List ℕ) (a m : ℕ) (space : List ℕ) → RowLoop D L limit i n space₀ a m space → D .labels ≤ a
+    → RowTold D L limit i n space₀ (All m) space
 unfolding RowCase
-row-told D w limit i n space₀ a m space loop h =
+row-told D L limit i n space₀ a m space loop h =
     record {
       bounds = λ k q. let z : m ≡ k = cc in (omega (arith, loop .kept), omega (arith, loop .within));
       beyond = loop .beyond;
@@ -231,24 +230,24 @@ row-told D w limit i n space₀ a m space loop h =
     }
 
 -- All entries: those from i on are left, and n are found.
-pub record SweepLeft (D : Lent) (w : ℕ) (flags : List ℕ) (limit i n : ℕ) (space : List ℕ) : Type 0 where
+pub record SweepLeft (D : Lent) (L : Layout) (flags : List ℕ) (limit i n : ℕ) (space : List ℕ) : Type 0 where
   pub entries : List (Entry Pair)
-  pub held : Holds w (D .states) (systemOf D flags) space entries
+  pub held : Holds L (D .states) (systemOf D flags) space entries
   pub count : length entries ≡ n
   pub left : sweep (systemOf D flags) limit (limit - i) i entries ≡ explore (systemOf D flags) limit
 
-pub record SweepLoop (D : Lent) (w limit : ℕ) (space₀ : List ℕ) (i n : ℕ) (space : List ℕ) : Type 0 where
+pub record SweepLoop (D : Lent) (L : Layout) (limit : ℕ) (space₀ : List ℕ) (i n : ℕ) (space : List ℕ) : Type 0 where
   pub inside : i ≤ n
   pub within : n ≤ limit
   pub size : length space ≡ length space₀
   pub beyond : (j : ℕ) → 18 * limit ≤ j → getD space j 0 ≡ getD space₀ j 0
-  pub told : Lending D → (flags : List ℕ) → SweepLeft D w flags limit i n space
+  pub told : Lending D → (flags : List ℕ) → SweepLeft D L flags limit i n space
 
 -- The first pair is stored.
-pub sweep-start : (D : Lent) (w limit : ℕ) (space₀ space : List ℕ) (cover : List ℕ) → 0 < limit → length cover ≡ 16
-    → StartStands w (D .states) (D .lists) (D .follow) (D .enter) (D .sizes) (D .accepting) (D .table) cover → Stored space₀ 0 1 cover 0 space
-    → SweepLoop D w limit space 0 1 space
-sweep-start D w limit space₀ space cover room sized started stored =
+pub sweep-start : (D : Lent) (L : Layout) (limit : ℕ) (space₀ space : List ℕ) (cover : List ℕ) → 0 < limit → length cover ≡ 16
+    → StartStands L (D .states) (D .lists) (D .follow) (D .enter) (D .sizes) (D .accepting) (D .table) cover → Stored space₀ 0 1 cover 0 space
+    → SweepLoop D L limit space 0 1 space
+sweep-start D L limit space₀ space cover room sized started stored =
     record {
       inside = omega arith;
       within = room;
@@ -258,8 +257,8 @@ sweep-start D w limit space₀ space cover room sized started stored =
           record {
             entries = record { value = systemOf D flags .start; trail = [] } ∷ [];
             held =
-                holds-first w (D .states) (systemOf D flags) space
-                (subst (Coded w (D .states) (systemOf D flags .start)) (sym (stored-pair stored sized))
+                holds-first L (D .states) (systemOf D flags) space
+                (subst (Coded L (D .states) (systemOf D flags .start)) (sym (stored-pair stored sized))
                 (record { standing = refl; cover = started .told (p .proper) flags }));
             count = refl;
             left =
@@ -269,8 +268,8 @@ sweep-start D w limit space₀ space cover room sized started stored =
           };
     }
 
-module _ (D : Lent) (w limit : ℕ) (space₀ : List ℕ) (i n : ℕ) (space : List ℕ) (loop : SweepLoop D w limit space₀ i n space) (more : i < n)
-    (r : Explored) (space′ : List ℕ) (told : RowTold D w limit i n space r space′) where
+module _ (D : Lent) (L : Layout) (limit : ℕ) (space₀ : List ℕ) (i n : ℕ) (space : List ℕ) (loop : SweepLoop D L limit space₀ i n space) (more : i < n)
+    (r : Explored) (space′ : List ℕ) (told : RowTold D L limit i n space r space′) where
   beyond-both : (j : ℕ) → 18 * limit ≤ j → getD space′ j 0 ≡ getD space₀ j 0
   beyond-both j k = told .beyond j k ∙ loop .beyond j k
 
@@ -278,7 +277,7 @@ module _ (D : Lent) (w limit : ℕ) (space₀ : List ℕ) (i n : ℕ) (space : L
   fuel = omega (arith, loop .within)
 
   -- The entry number i is done.
-  pub sweep-turn : (m : ℕ) → r ≡ All m → length space′ ≡ length space → SweepLoop D w limit space₀ (i + 1) m space′
+  pub sweep-turn : (m : ℕ) → r ≡ All m → length space′ ≡ length space → SweepLoop D L limit space₀ (i + 1) m space′
   unfolding RowCase
   sweep-turn m e kept =
       record {
@@ -289,7 +288,7 @@ module _ (D : Lent) (w limit : ℕ) (space₀ : List ℕ) (i n : ℕ) (space : L
         told = λ p flags.
             let s = loop .told p flags in
             let (entries, done, held, count) =
-            subst (RowCase D w flags limit i (s .entries) space′) e (told .told p flags (s .entries) (s .held) (s .count)) in
+            subst (RowCase D L flags limit i (s .entries) space′) e (told .told p flags (s .entries) (s .held) (s .count)) in
             record {
               entries = entries;
               held = held;
@@ -303,7 +302,7 @@ module _ (D : Lent) (w limit : ℕ) (space₀ : List ℕ) (i n : ℕ) (space : L
       }
 
   -- There are more pairs than the limit.
-  pub sweep-exceeds : r ≡ Over → PairsTold D w limit space₀ Over space′
+  pub sweep-exceeds : r ≡ Over → PairsTold D L limit space₀ Over space′
   unfolding RowCase PairsCase pairs
   sweep-exceeds e =
       record {
@@ -311,17 +310,17 @@ module _ (D : Lent) (w limit : ℕ) (space₀ : List ℕ) (i n : ℕ) (space : L
         beyond = beyond-both;
         told = λ p few room flags.
             let s = loop .told p flags in
-            let done = subst (RowCase D w flags limit i (s .entries) space′) e (told .told p flags (s .entries) (s .held) (s .count)) in
+            let done = subst (RowCase D L flags limit i (s .entries) space′) e (told .told p flags (s .entries) (s .held) (s .count)) in
             sym (s .left)
             ∙ sym (ap (λ k. sweep (systemOf D flags) limit k i (s .entries)) fuel)
             ∙ sweep-over (systemOf D flags) limit (limit - (i + 1)) i (s .entries) (omega (arith, s .count)) done;
       }
 
 -- All entries are done.
-pub pairs-told : (D : Lent) (w limit : ℕ) (space₀ : List ℕ) (i n : ℕ) (space : List ℕ) → SweepLoop D w limit space₀ i n space → n ≤ i
-    → limit ≤ 4096 → 18 * limit ≤ length space₀ → PairsTold D w limit space₀ (All n) space
+pub pairs-told : (D : Lent) (L : Layout) (limit : ℕ) (space₀ : List ℕ) (i n : ℕ) (space : List ℕ) → SweepLoop D L limit space₀ i n space → n ≤ i
+    → limit ≤ 4096 → 18 * limit ≤ length space₀ → PairsTold D L limit space₀ (All n) space
 unfolding PairsCase pairs
-pairs-told D w limit space₀ i n space loop h most room =
+pairs-told D L limit space₀ i n space loop h most room =
     record {
       few = λ k q. let z : n ≡ k = cc in (omega (arith, loop .within), most, room);
       beyond = loop .beyond;
@@ -331,9 +330,9 @@ pairs-told D w limit space₀ i n space loop h most room =
     }
 
 -- What is told after the first pair is stored is told of the workspace before.
-pub told-before : (D : Lent) (w limit : ℕ) (space₀ space : List ℕ) (cover : List ℕ) (r : Explored) (space′ : List ℕ) → 0 < limit
-    → Stored space₀ 0 1 cover 0 space → PairsTold D w limit space r space′ → PairsTold D w limit space₀ r space′
-told-before D w limit space₀ space cover r space′ room stored t =
+pub told-before : (D : Lent) (L : Layout) (limit : ℕ) (space₀ space : List ℕ) (cover : List ℕ) (r : Explored) (space′ : List ℕ) → 0 < limit
+    → Stored space₀ 0 1 cover 0 space → PairsTold D L limit space r space′ → PairsTold D L limit space₀ r space′
+told-before D L limit space₀ space cover r space′ room stored t =
     record {
       few = λ m e. let (few, most, fits) = t .few m e in (few, most, omega (arith, stored .size));
       beyond = λ j k. t .beyond j k ∙ stored .others j (λ x y. omega arith);
@@ -341,9 +340,9 @@ told-before D w limit space₀ space cover r space′ room stored t =
     }
 
 -- No pair is allowed.
-pub pairs-none : (D : Lent) (w limit : ℕ) (space : List ℕ) → limit ≡ 0 → PairsTold D w limit space Over space
+pub pairs-none : (D : Lent) (L : Layout) (limit : ℕ) (space : List ℕ) → limit ≡ 0 → PairsTold D L limit space Over space
 unfolding PairsCase pairs
-pairs-none D w limit space e =
+pairs-none D L limit space e =
     record {
       few = λ k q. let z : _≡_ {A = ℕ} 0 1 = cc in absurd (omega arith);
       beyond = λ j k. refl;
@@ -351,9 +350,9 @@ pairs-none D w limit space e =
     }
 
 -- Nothing is promised.
-pub pairs-unfit : (D : Lent) (w limit : ℕ) (space : List ℕ) → (Lending D → limit ≤ 4096 → 18 * limit ≤ length space → ⊥)
-    → PairsTold D w limit space Over space
-pairs-unfit D w limit space h =
+pub pairs-unfit : (D : Lent) (L : Layout) (limit : ℕ) (space : List ℕ) → (Lending D → limit ≤ 4096 → 18 * limit ≤ length space → ⊥)
+    → PairsTold D L limit space Over space
+pairs-unfit D L limit space h =
     record {
       few = λ k q. let z : _≡_ {A = ℕ} 0 1 = cc in absurd (omega arith);
       beyond = λ j k. refl;

@@ -9,7 +9,7 @@ use Rattle.theory.specs.Exploration.{System, Entry}
 use Rattle.theory.specs.Explored.{entryAt}
 use Rattle.places.specs.Words.{numberOf}
 use Rattle.verdict.specs.Pairs.{Pair}
-use Rattle.verdict.specs.Coded.{Coded}
+use Rattle.verdict.specs.Coded.{Layout, Coded}
 
 -- The n words from x on.
 unfoldable pub wordsAt : List ℕ → ℕ → ℕ → List ℕ
@@ -32,8 +32,8 @@ pub record Trails (S : System Pair) (space : List ℕ) (l : List (Entry Pair)) :
   pub trail : (i : ℕ) → 0 < i → i < length l → entryAt S l i .trail ≡ labelAt space i ∷ entryAt S l (parentAt space i) .trail
 
 -- It holds the entries l: the value of each, as it stands there (Coded), and how it was reached.
-pub record Holds (w n : ℕ) (S : System Pair) (space : List ℕ) (l : List (Entry Pair)) : Type 0 where
-  pub value : (i : ℕ) → i < length l → Coded w n (entryAt S l i .value) (pairAt space i)
+pub record Holds (L : Layout) (n : ℕ) (S : System Pair) (space : List ℕ) (l : List (Entry Pair)) : Type 0 where
+  pub value : (i : ℕ) → i < length l → Coded L n (entryAt S l i .value) (pairAt space i)
   pub trails : Trails S space l
 
 -- The pair number m is stored: `space` becomes `space′`.

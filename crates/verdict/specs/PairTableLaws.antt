@@ -12,7 +12,7 @@ use Rattle.theory.specs.Exploration.{System, Entry, known}
 use Rattle.theory.specs.Explored.{Tests, entryAt}
 use Rattle.places.specs.Words.{numberOf}
 use Rattle.verdict.specs.Pairs.{Pair}
-use Rattle.verdict.specs.Coded.{Coded}
+use Rattle.verdict.specs.Coded.{Layout, Coded}
 use Rattle.verdict.specs.CodedLaws.{pair-path, coded-from, coded-to}
 use Rattle.verdict.specs.PairTable.{wordsAt, pairAt, parentAt, labelAt, Holds, Stored, Seen}
 
@@ -80,18 +80,18 @@ module _ (S : System Pair) where
   pub earlier-entry : (l : List (Entry Pair)) (e : Entry Pair) (i : ℕ) → i < length l → entryAt S (l ++ (e ∷ [])) i ≡ entryAt S l i
   earlier-entry l e i h = List·getD-append l (e ∷ []) (record { value = S .start; trail = [] }) i h
 
-module _ (w n : ℕ) (S : System Pair) where
-  pub holds-first : (space : List ℕ) → Coded w n (S .start) (pairAt space 0) → Holds w n S space (record { value = S .start; trail = [] } ∷ [])
+module _ (L : Layout) (n : ℕ) (S : System Pair) where
+  pub holds-first : (space : List ℕ) → Coded L n (S .start) (pairAt space 0) → Holds L n S space (record { value = S .start; trail = [] } ∷ [])
   holds-first space e =
       record {
-        value = λ i h. let z : i ≡ 0 = omega arith in subst (λ j. Coded w n (entryAt S (record { value = S .start; trail = [] } ∷ []) j .value) (pairAt space j)) (sym z) e;
+        value = λ i h. let z : i ≡ 0 = omega arith in subst (λ j. Coded L n (entryAt S (record { value = S .start; trail = [] } ∷ []) j .value) (pairAt space j)) (sym z) e;
         trails = record { first = refl; parent = λ i h k. absurd (omega arith); trail = λ i h k. absurd (omega arith) };
       }
 
-  pub holds-more : (space space′ : List ℕ) (l : List (Entry Pair)) (i a : ℕ) (x : Pair) (standing : ℕ) (cover : List ℕ) → Holds w n S space l
+  pub holds-more : (space space′ : List ℕ) (l : List (Entry Pair)) (i a : ℕ) (x : Pair) (standing : ℕ) (cover : List ℕ) → Holds L n S space l
       → Stored space (length l) standing cover (a * 8192 + i) space′ → length cover ≡ 16
-      → Coded w n x (record { standing = standing; cover = numberOf cover }) → i < length l → i < 8192 → a < 64
-      → Holds w n S space′ (l ++ (record { value = x; trail = a ∷ entryAt S l i .trail } ∷ []))
+      → Coded L n x (record { standing = standing; cover = numberOf cover }) → i < length l → i < 8192 → a < 64
+      → Holds L n S space′ (l ++ (record { value = x; trail = a ∷ entryAt S l i .trail } ∷ []))
   holds-more space space′ l i a x standing cover held s sized coded inside small few =
       record {
         value = λ j h. value j (ℕ-discrete j (length l)) h;
@@ -121,13 +121,13 @@ module _ (w n : ℕ) (S : System Pair) where
       old-label : (j : ℕ) → j < length l → labelAt space′ j ≡ labelAt space j
       old-label j h = ap (λ x. x / 8192 % 64) (other-link s j h)
 
-      value : (j : ℕ) → Dec (j ≡ length l) → j < length (l ++ (new ∷ [])) → Coded w n (entryAt S (l ++ (new ∷ [])) j .value) (pairAt space′ j)
+      value : (j : ℕ) → Dec (j ≡ length l) → j < length (l ++ (new ∷ [])) → Coded L n (entryAt S (l ++ (new ∷ [])) j .value) (pairAt space′ j)
       value j (yes e) h =
-          subst (λ k. Coded w n (entryAt S (l ++ (new ∷ [])) k .value) (pairAt space′ k)) (sym e)
-          (subst₂ (λ y z. Coded w n y z) (sym (ap (λ e. e .value) (last-entry S l new))) (sym (stored-pair s sized)) coded)
+          subst (λ k. Coded L n (entryAt S (l ++ (new ∷ [])) k .value) (pairAt space′ k)) (sym e)
+          (subst₂ (λ y z. Coded L n y z) (sym (ap (λ e. e .value) (last-entry S l new))) (sym (stored-pair s sized)) coded)
       value j (no d) h =
           let b : j < length l = omega (arith, size) in
-          subst₂ (λ y z. Coded w n y z) (sym (ap (λ e. e .value) (earlier-entry S l new j b))) (sym (other-pair s j b)) (held .value j b)
+          subst₂ (λ y z. Coded L n y z) (sym (ap (λ e. e .value) (earlier-entry S l new j b))) (sym (other-pair s j b)) (held .value j b)
 
       parent : (j : ℕ) → 0 < j → Dec (j ≡ length l) → j < length (l ++ (new ∷ [])) → parentAt space′ j < j
       parent j p (yes e) h = subst (λ k. parentAt space′ k < k) (sym e) (omega (arith, new-parent))
@@ -170,17 +170,17 @@ module _ {A : Type 0} (S : System A) (tests : Tests S) where
       neither true e p = absurd (h 0 (omega arith) (sym (tests .sound x (f .value) e)))
       neither false e p = p
 
-module _ (w n : ℕ) (S : System Pair) (tests : Tests S) (space : List ℕ) (l : List (Entry Pair)) (held : Holds w n S space l) (m : ℕ)
-    (count : length l ≡ m) (x y : Pair) (coded : Coded w n x y) (r : Bool) (seen : Seen m space y r) where
+module _ (L : Layout) (n : ℕ) (S : System Pair) (tests : Tests S) (space : List ℕ) (l : List (Entry Pair)) (held : Holds L n S space l) (m : ℕ)
+    (count : length l ≡ m) (x y : Pair) (coded : Coded L n x y) (r : Bool) (seen : Seen m space y r) where
   pub seen-known : r ≡ true → known S x l ≡ true
   seen-known e =
       let (i, h, q) = seen .found e in
       let b : i < length l = omega (arith, count) in
       known-found S tests x l i (record { value = S .start; trail = [] }) b
-      (coded-from w n (entryAt S l i .value) x y (subst (Coded w n (entryAt S l i .value)) q (held .value i b)) coded)
+      (coded-from L n (entryAt S l i .value) x y (subst (Coded L n (entryAt S l i .value)) q (held .value i b)) coded)
 
   pub seen-new : 0 < n → r ≡ false → known S x l ≡ false
   seen-new some e =
       known-new S tests x l (record { value = S .start; trail = [] })
       (λ i b q. seen .new e i (omega (arith, count))
-      (coded-to w n x (pairAt space i) y some (subst (λ z. Coded w n z (pairAt space i)) q (held .value i b)) coded))
+      (coded-to L n x (pairAt space i) y some (subst (λ z. Coded L n z (pairAt space i)) q (held .value i b)) coded))

@@ -1,7 +1,8 @@
 -- Steps of turned sets are prepared, by columns (Columns) where there are at most 64 states, else by ranges (Ranges): the tables have room,
 -- and it is known which places lead to each place of a list and which states are reached where a path of a list ends, or from each state. Or
--- steps by rows of two words (WideRows) are: then sets stand as they are.
+-- steps by classes (Classes) are, or steps by rows of two words (WideRows): then sets stand as they are.
 use Prim.Native.Nat.{ℕ, _*_, _≤_, _<_}
+use mathlib.Core.Bool.{Bool, true, false}
 use mathlib.Core.List.{List}
 use mathlib.Core.Logic.{_↔_}
 use mathlib.Core.Path.{_≡_, sym, subst}
@@ -14,6 +15,7 @@ use Rattle.places.specs.Words.{numberOf}
 use Rattle.verdict.specs.Tables.{Ready}
 use Rattle.verdict.specs.Columns.{Leading, Passes, NextBelow, LeadsIn, Passing, Finishing}
 use Rattle.verdict.specs.Sums.{Sums}
+use Rattle.verdict.specs.Classes.{ClassesReady}
 use Rattle.verdict.specs.WideRows.{RowsPrepared}
 
 pub record Prepared (states n : ℕ) (follow enter sizes accepting table : List ℕ) (w : ℕ) (before ended : List ℕ) : Type 0 where
@@ -37,6 +39,12 @@ pub first-reached : {k states n : ℕ} {accepting table passes first : List ℕ}
     → ((t : ℕ) → Member t (numberOf first) ↔ LeadsIn k passes 0 t) → FirstReached n accepting table first
 first-reached some p told =
     record { exact = λ t. (λ m. p .exact 0 t some .0 (told t .0 m), λ r. told t .1 (p .exact 0 t some .1 r)) }
+
+-- What steps need is prepared, where sets stand turned: w columns, by classes or one for each offset.
+pub record WayReady (states n labels : ℕ) (follow enter sizes accepting table : List ℕ) (w : ℕ) (by : Bool) (before ended classes : List ℕ)
+    : Type 0 where
+  pub apart : 0 < w → by ≡ false → Prepared states n follow enter sizes accepting table w before ended
+  pub classed : 0 < w → by ≡ true → ClassesReady states n labels follow enter sizes accepting table w before ended classes
 
 -- The width is `rows`. There is room in `laid` for the rows that can come next.
 pub record RowsReady (states n : ℕ) (follow enter sizes accepting table : List ℕ) (w rows : ℕ) (before ended laid : List ℕ) : Type 0 where

@@ -9,7 +9,7 @@ use Rattle.theory.specs.Places.{Member}
 use Rattle.places.specs.Words.{numberOf}
 use Rattle.verdict.specs.Tables.{occupied, Counted}
 use Rattle.verdict.specs.Columns.{PlacesWithin, LeadsIn}
-use Rattle.verdict.specs.WideRowsPrepared.{offsetFrom}
+use Rattle.verdict.specs.ColumnOffsets.{offsetFrom}
 
 -- The state t is in the four words of the state q.
 abbrev pub Leads : List ℕ → ℕ → ℕ → Type 0

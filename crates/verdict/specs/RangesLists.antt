@@ -1,5 +1,5 @@
 -- The occurrences of a list and the lists, one by one, in a step by ranges (Ranges).
-use Prim.Native.Nat.{ℕ, zero, suc, _+_, _*_, _-_, _≤_, _<_}
+use Prim.Native.Nat.{ℕ, _+_, _*_, _-_, _≤_, _<_}
 use mathlib.Core.List.{List}
 use mathlib.Core.Logic.{_↔_, _⊎_, inl, inr}
 use mathlib.Core.Path.{_≡_, refl, sym, ap, _∙_, subst}
@@ -12,11 +12,10 @@ use Rattle.places.specs.Words.{numberOf}
 use Rattle.theory.specs.PlacesLaws.{member-none}
 use Rattle.verdict.specs.Tables.{occupied}
 use Rattle.verdict.specs.TablesLaws.{occupied-few, occupied-more}
-use Rattle.verdict.specs.ColumnOffsets.{occupied-room}
+use Rattle.verdict.specs.ColumnOffsets.{offsetFrom, offset-small, occupied-room}
 use Rattle.verdict.specs.RowsLaws.{member-row}
 use Rattle.verdict.specs.CoverPlaces.{split-unique}
 use Rattle.verdict.specs.ColumnLists.{innerOf}
-use Rattle.verdict.specs.WideRowsPrepared.{offsetFrom}
 use Rattle.verdict.specs.Ranges.{Closed, Adds, RangesAt, EndsAt, Comes, PlaceNew, ListNew, PlaceReady, ListReady, RangesReady, StepNew, RangesStepped}
 use Rattle.verdict.specs.RangesTurns.{adds-same, adds-both, closed-beyond, AddsLeft}
 
@@ -168,10 +167,6 @@ module _ (n lists a : ℕ) (enter sizes accepting before reached table : List �
       let all : n * (o + 1) ≤ n * (occupied sizes 0 lists + 1) = mul-le-mul-left n (omega arith) in
       omega (arith, mul-add n o 1, ready .few-places)
 
-  from-small : (base o : ℕ) → offsetFrom base o ≤ base + o
-  from-small base zero = omega arith
-  from-small base (suc o) = omega arith
-
   module _ (v base : ℕ) (words : List ℕ) (h : v < lists)
       (l : Stepping n a v base enter sizes accepting before reached table s words) where
     below : base + getD sizes (v + 1) 0 ≤ occupied sizes 0 lists
@@ -188,7 +183,7 @@ module _ (n lists a : ℕ) (enter sizes accepting before reached table : List �
           few-places = column-room (base + getD sizes (v + 1) 0) below;
           from = λ o p some small m.
               column-room (offsetFrom base o)
-              (omega (arith, below, from-small base o, ready .places v o p h (omega (arith, ready .counted .small v h)) m));
+              (omega (arith, below, offset-small base o _ (ready .places v o p h (omega (arith, ready .counted .small v h)) m)));
           closing = ready .closing;
           next = λ q k. ready .next q v k h;
           closed = l .closed;

@@ -16,16 +16,15 @@ use Rattle.verdict.specs.Tables.{automataOf, occupied, rewritten, Counte
 use Rattle.verdict.specs.CoverBounds.{state-of-place}
 use Rattle.verdict.specs.CoverPlaces.{split-below, split-unique, state-below}
 use Rattle.verdict.specs.CoverTold.{StepStands}
-use Rattle.verdict.specs.CodedLaws.{stands-turned, turned-stands}
+use Rattle.verdict.specs.Coded.{turned}
 use Rattle.verdict.specs.Columns.{offsetIn, Leading, Passing}
-use Rattle.verdict.specs.ColumnOffsets.{occupied-room, offset-below}
+use Rattle.verdict.specs.ColumnOffsets.{offsetFrom, occupied-room, offset-below}
 use Rattle.verdict.specs.ColumnsStep.{first-step, step-exactly}
 use Rattle.verdict.specs.ColumnsStep as step
 use Rattle.verdict.specs.TableMoves.{TableMove}
 use Rattle.verdict.specs.TableEnds.{table-ends-there, table-ends-back, table-reached-there, table-reached-back}
 use Rattle.verdict.specs.Turned.{Turned}
-use Rattle.verdict.specs.TurnedLaws.{turn, turn-made}
-use Rattle.verdict.specs.WideRowsPrepared.{offsetFrom}
+use Rattle.verdict.specs.TurnedLaws.{turn, turn-made, onto-same}
 use Rattle.verdict.specs.RangesLaws.{ranges-below}
 use Rattle.verdict.specs.Ranges.{Comes, StepNew, RangesStepped}
 
@@ -37,7 +36,7 @@ module _ (states n a : ℕ) (follow enter sizes accepting table before reached :
     (leading : Leading n follow sizes before) (passing : Passing 4 states n accepting table reached)
     (stepped : RangesStepped states n a enter sizes accepting before reached table s r)
     (proper : Proper states n follow enter sizes accepting table) (flags : List ℕ)
-    (turned : Turned (suc (occupied sizes 0 n)) states C s) where
+    (turned : Turned (suc (occupied sizes 0 n)) (suc (occupied sizes 0 n)) (λ o. o) states C s) where
   abbrev w : ℕ
   w = suc (occupied sizes 0 n)
 
@@ -181,41 +180,40 @@ module _ (states n a : ℕ) (follow enter sizes accepting table before reached :
                 (stepped .exact s′ .1 (v, t .inside, (t .to, some, small, t .enters, inr (i, (q, inside, c, leads))))),
           )
 
-  same-step : turn w states r ≡ next
-  same-step = equal-members (turn w states r) next λ y. (first y, second y)
+  same-step : turn w (λ o. o) states r ≡ next
+  same-step = equal-members (turn w (λ o. o) states r) next λ y. (first y, second y)
     where
-      made : Turned w states (turn w states r) r
-      made = turn-made w states r (omega arith) below
+      made : Turned w w (λ o. o) states (turn w (λ o. o) states r) r
+      made = turn-made w w (λ o. o) states r (omega arith) refl (onto-same w) below
 
-      first : (y : ℕ) → Member y (turn w states r) → Member y next
+      first : (y : ℕ) → Member y (turn w (λ o. o) states r) → Member y next
       first y m =
-          let l : y < states * w = member-below (states * w) (turn w states r) y (made .below) m in
+          let l : y < states * w = member-below (states * w) (turn w (λ o. o) states r) y (made .below) m in
           let q : y / w < states = state-of-place w states y (omega arith) l in
           let o : y % w < w = mod-lt y (omega arith) in
           let parts : w * (y / w) + y % w ≡ y = div-add-mod y w in
           subst (λ z. Member z next) parts
           (there (y / w) (y % w) q o
           (stepped .exact (states * (y % w) + y / w) .0
-          (made .exact (y / w) (y % w) q o .0 (subst (λ z. Member z (turn w states r)) (sym parts) m))))
+          (made .exact (y / w) (y % w) q o .0 (subst (λ z. Member z (turn w (λ o. o) states r)) (sym parts) m))))
 
-      second : (y : ℕ) → Member y next → Member y (turn w states r)
+      second : (y : ℕ) → Member y next → Member y (turn w (λ o. o) states r)
       second y m =
           let (q, o, h, k, e, i) = back y m in
-          subst (λ z. Member z (turn w states r)) (sym e) (made .exact q o h k .1 i)
+          subst (λ z. Member z (turn w (λ o. o) states r)) (sym e) (made .exact q o h k .1 i)
 
-  turned-step : Turned w states next r
-  turned-step = subst (λ z. Turned w states z r) same-step (turn-made w states r (omega arith) below)
+  turned-step : Turned w w (λ o. o) states next r
+  turned-step = subst (λ z. Turned w w (λ o. o) states z r) same-step (turn-made w w (λ o. o) states r (omega arith) refl (onto-same w) below)
 
 -- The set after the step stands turned as the step of the set that stands turned.
 pub ranges-step : (states n a : ℕ) (follow enter sizes accepting table before reached set r : List ℕ) (w : ℕ)
     → w ≡ suc (occupied sizes 0 n) → Leading n follow sizes before → Passing 4 states n accepting table reached
     → RangesStepped states n a enter sizes accepting before reached table (numberOf set) (numberOf r)
-    → StepStands w states n follow enter sizes accepting table a set r
+    → StepStands (turned (suc (occupied sizes 0 n)) w (λ o. o)) states n follow enter sizes accepting table a set r
 ranges-step states n a follow enter sizes accepting table before reached set r w wide leading passing stepped =
-    subst (λ z. StepStands z states n follow enter sizes accepting table a set r) (sym wide)
+    subst (λ z. StepStands (turned (suc (occupied sizes 0 n)) z (λ o. o)) states n follow enter sizes accepting table a set r) (sym wide)
     (record {
       told = λ proper label flags C stands.
-          turned-stands (suc (occupied sizes 0 n)) states _ (numberOf r) (omega arith)
-          (turned-step states n a follow enter sizes accepting table before reached C (numberOf set) (numberOf r) label leading passing
-          stepped proper flags (stands-turned (suc (occupied sizes 0 n)) states C (numberOf set) (omega arith) stands));
+          turned-step states n a follow enter sizes accepting table before reached C (numberOf set) (numberOf r) label leading passing
+          stepped proper flags stands;
     })

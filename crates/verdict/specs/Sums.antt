@@ -1,10 +1,10 @@
 -- Sums of what is reached where a path of a list ends (Columns, Finishing): one word for each set of four neighbouring states. The words of
 -- the lists stand first, 64 for each; behind them stand the sums, sixteen for each four states of a list.
-use Prim.Native.Nat.{ℕ, _+_, _*_, _/_, _≤_, _<_}
+use Prim.Native.Nat.{ℕ, _+_, _*_, _/_, _^_, _≤_, _<_}
 use mathlib.Core.List.{List}
 use mathlib.Core.Path.{_≡_}
 use lib.ListN.{length, getD}
-use Rattle.theory.specs.Places.{unionOver}
+use Rattle.theory.specs.Places.{Member, unionOver}
 
 -- How many times four states there are, the last four perhaps not all.
 abbrev pub quarters : ℕ → ℕ
@@ -31,3 +31,14 @@ pub record Sums (lists n : ℕ) (ended : List ℕ) : Type 0 where
   pub room : SumsRoom lists n ended
   pub summed : (v k m : ℕ) → v < lists → k < quarters n → m < 16
       → getD ended (64 * lists + 16 * quarters n * v + 16 * k + m) 0 ≡ unionOver (λ i. getD ended (64 * v + 4 * k + i) 0) 4 m
+
+-- The sums of words, four after four, `count` times, stand from `from` on.
+pub record SummedBy (word : ℕ → ℕ) (from count : ℕ) (ended : List ℕ) : Type 0 where
+  pub summed : (k m : ℕ) → k < count → m < 16 → getD ended (from + 16 * k + m) 0 ≡ unionOver (λ i. word (4 * k + i)) 4 m
+
+-- The word r is joined from the words of the states of a set by their sums, which stand from `sums` on, whatever words they are the sums of;
+-- it has nothing that is not in a sum of states up to one of the set.
+pub record SumsJoined (ended : List ℕ) (sums ends r : ℕ) : Type 0 where
+  pub exact : (word : ℕ → ℕ) (count : ℕ) → SummedBy word sums count ended → ends < 2 ^ (4 * count) → r ≡ unionOver word 64 ends
+  pub inside : (t : ℕ) → Member t r
+      → (q : ℕ) × (k : ℕ) × (m : ℕ) × Member q ends × (4 * k ≤ q) × (m < 16) × Member t (getD ended (sums + 16 * k + m) 0)

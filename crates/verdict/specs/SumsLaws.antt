@@ -12,14 +12,15 @@ use lib.ListN.{length, getD, set, length-set}
 use lib.Pow.{shr-shr}
 use lib.Seq.{getD-set-same, getD-set-other}
 use Rattle.theory.specs.Places.{Member, union, unionOver}
-use Rattle.theory.specs.PlacesLaws.{member-below, member-union, member-unionOver, equal-members, not-none}
+use Rattle.theory.specs.PlacesLaws.{member-none, member-one, one-below, member-below, members-below, member-union, member-unionOver}
+use Rattle.theory.specs.PlacesLaws.{equal-members, not-none}
 use Rattle.theory.specs.PlacesShift.{member-cut, member-down}
 use Rattle.places.specs.UnionLaws.{union-assoc}
 use Rattle.places.specs.NextPlace.{trailing-here}
 use Rattle.places.specs.Followed.{least-first, over-none}
 use Rattle.places.specs.Joined.{over-same}
 use Rattle.verdict.specs.Columns.{Finishing}
-use Rattle.verdict.specs.Sums.{quarters, SumsRoom, FourSummed, ListSummed, Sums}
+use Rattle.verdict.specs.Sums.{quarters, SumsRoom, FourSummed, ListSummed, Sums, SummedBy, SumsJoined}
 
 -- A set of four places has no others.
 over-four : (f : ℕ → ℕ) (s : ℕ) → s < 2 ^ 4 → unionOver f 64 s ≡ unionOver f 4 s
@@ -211,14 +212,31 @@ split-four f s small = equal-members (union low high) (unionOver f 64 s) λ y. (
         inr (member-unionOver (λ q. f (4 + q)) 64 (s / 2 ^ 4) y .1
         (x - 4, omega arith, member-down 4 (x - 4) s .1 (subst (λ z. Member z s) e a), subst (λ z. Member y (f z)) e b))
 
+-- The word of one place.
+over-one : (f : ℕ → ℕ) (n i : ℕ) → i < n → unionOver f n (2 ^ i) ≡ f i
+over-one f n i h = equal-members (unionOver f n (2 ^ i)) (f i) λ y. (
+  λ m. let (x, l, a, b) = member-unionOver f n (2 ^ i) y .0 m in subst (λ z. Member y (f z)) (member-one x i .0 a) b,
+  λ m. member-unionOver f n (2 ^ i) y .1 (i, h, member-one i i .1 refl, m),
+)
+
+-- The sum of one state of four is its word.
+alone-summed : (word : ℕ → ℕ) (sums count q : ℕ) (ended : List ℕ) → SummedBy word sums count ended → q < 4 * count
+    → getD ended (sums + 16 * (q / 4) + 2 ^ (q % 4)) 0 ≡ word q
+alone-summed word sums count q ended s h =
+    s .summed (q / 4) (2 ^ (q % 4)) (omega arith) (one-below 4 (q % 4) (omega arith))
+    ∙ over-one (λ i. word (4 * (q / 4) + i)) 4 (q % 4) (omega arith)
+    ∙ (let e : 4 * (q / 4) + q % 4 ≡ q = omega arith in ap word e)
+
 -- Four states k times are joined, and `rest` are left, whose sums stand from `at` on.
 pub record SumsLeft (ended : List ℕ) (sums ends all rest at : ℕ) : Type 0 where
   pub k : ℕ
   pub place : at ≡ sums + 16 * k
   pub left : rest ≡ ends / 2 ^ (4 * k)
   pub small : rest < 2 ^ 64
-  pub joined : (lists n v : ℕ) → Sums lists n ended → v < lists → n ≤ 64 → ends < 2 ^ n → sums ≡ 64 * lists + 16 * quarters n * v
-      → union all (unionOver (λ q. getD ended (64 * v + (4 * k + q)) 0) 64 rest) ≡ unionOver (λ q. getD ended (64 * v + q) 0) 64 ends
+  pub joined : (word : ℕ → ℕ) (count : ℕ) → SummedBy word sums count ended → ends < 2 ^ (4 * count)
+      → union all (unionOver (λ q. word (4 * k + q)) 64 rest) ≡ unionOver word 64 ends
+  pub inside : (t : ℕ) → Member t all
+      → (q : ℕ) × (j : ℕ) × (m : ℕ) × Member q ends × (4 * j ≤ q) × (m < 16) × Member t (getD ended (sums + 16 * j + m) 0)
 
 module _ (ended : List ℕ) (sums ends : ℕ) where
   pub left-start : ends < 2 ^ 64 → SumsLeft ended sums ends 0 ends sums
@@ -228,10 +246,10 @@ module _ (ended : List ℕ) (sums ends : ℕ) where
         place = omega arith;
         left = sym (div-one ends);
         small = h;
-        joined = λ lists n v s l few below e.
-            or-zero-l (unionOver (λ q. getD ended (64 * v + (4 * 0 + q)) 0) 64 ends)
-            ∙ over-same (λ q. getD ended (64 * v + (4 * 0 + q)) 0) (λ q. getD ended (64 * v + q) 0) 64 ends
-            (λ x h. let z : 64 * v + (4 * 0 + x) ≡ 64 * v + x = omega arith in ap (λ (z : ℕ). getD ended z 0) z);
+        joined = λ word count s below.
+            or-zero-l (unionOver (λ q. word (4 * 0 + q)) 64 ends)
+            ∙ over-same (λ q. word (4 * 0 + q)) word 64 ends (λ x h. let z : 4 * 0 + x ≡ x = omega arith in ap word z);
+        inside = λ t m. absurd (member-none t m);
       }
 
   module _ (all rest at : ℕ) (s : SumsLeft ended sums ends all rest at) where
@@ -252,40 +270,96 @@ module _ (ended : List ℕ) (sums ends : ℕ) where
               ap (λ (z : ℕ). z / 2 ^ 4) (s .left) ∙ shr-shr ends (4 * s .k) 4
               ∙ (let e : 4 * s .k + 4 ≡ 4 * (s .k + 1) = omega arith in ap (λ (z : ℕ). ends / 2 ^ z) e);
           small = omega (arith, s .small);
-          joined = λ lists n v t l few below e.
+          joined = λ word count t below.
               let (i, m) = state-left d in
-              let inside : s .k < quarters n = omega (arith, member-below n ends (4 * s .k + i) below m) in
-              turned lists n v e (t .summed v (s .k) (rest % 16) l inside (omega arith)) ∙ s .joined lists n v t l few below e;
+              let inside : s .k < count = omega (arith, member-below (4 * count) ends (4 * s .k + i) below m) in
+              turned word (t .summed (s .k) (rest % 16) inside (omega arith)) ∙ s .joined word count t below;
+          inside = λ t m. side t (member-union t all (getD ended (at + rest % 16) 0) .0 m);
         }
       where
-        f : ℕ → ℕ → ℕ
-        f v q = getD ended (64 * v + (4 * s .k + q)) 0
+        side : (t : ℕ) → Member t all ⊎ Member t (getD ended (at + rest % 16) 0)
+            → (q : ℕ) × (j : ℕ) × (m : ℕ) × Member q ends × (4 * j ≤ q) × (m < 16) × Member t (getD ended (sums + 16 * j + m) 0)
+        side t (inl m) = s .inside t m
+        side t (inr m) =
+            let (i, l) = state-left d in
+            let place : at + rest % 16 ≡ sums + 16 * s .k + rest % 16 = omega (arith, s .place) in (
+              4 * s .k + i,
+              s .k,
+              rest % 16,
+              l,
+              omega arith,
+              omega arith,
+              subst (λ (z : ℕ). Member t (getD ended z 0)) place m,
+            )
 
-        turned : (lists n v : ℕ) → sums ≡ 64 * lists + 16 * quarters n * v
-            → getD ended (64 * lists + 16 * quarters n * v + 16 * s .k + rest % 16) 0
-            ≡ unionOver (λ i. getD ended (64 * v + 4 * s .k + i) 0) 4 (rest % 16)
-            → union (union all (getD ended (at + rest % 16) 0)) (unionOver (λ q. getD ended (64 * v + (4 * (s .k + 1) + q)) 0) 64 (rest / 16))
-            ≡ union all (unionOver (f v) 64 rest)
-        turned lists n v e sum =
-            let place : at + rest % 16 ≡ 64 * lists + 16 * quarters n * v + 16 * s .k + rest % 16 = omega (arith, s .place) in
-            let four : getD ended (at + rest % 16) 0 ≡ unionOver (f v) 4 (rest % 16) =
-            ap (λ (z : ℕ). getD ended z 0) place ∙ sum
-            ∙ over-same (λ i. getD ended (64 * v + 4 * s .k + i) 0) (f v) 4 (rest % 16)
-            (λ x h. let z : 64 * v + 4 * s .k + x ≡ 64 * v + (4 * s .k + x) = omega arith in ap (λ (z : ℕ). getD ended z 0) z) in
-            let others : unionOver (λ q. getD ended (64 * v + (4 * (s .k + 1) + q)) 0) 64 (rest / 16) ≡ unionOver (λ q. f v (4 + q)) 64 (rest / 16) =
-            over-same (λ q. getD ended (64 * v + (4 * (s .k + 1) + q)) 0) (λ q. f v (4 + q)) 64 (rest / 16)
-            (λ x h. let z : 64 * v + (4 * (s .k + 1) + x) ≡ 64 * v + (4 * s .k + (4 + x)) = omega arith in ap (λ (z : ℕ). getD ended z 0) z) in
-            union-assoc all (getD ended (at + rest % 16) 0) (unionOver (λ q. getD ended (64 * v + (4 * (s .k + 1) + q)) 0) 64 (rest / 16))
-            ∙ ap (λ x. union all (union x (unionOver (λ q. getD ended (64 * v + (4 * (s .k + 1) + q)) 0) 64 (rest / 16)))) four
-            ∙ ap (λ x. union all (union (unionOver (f v) 4 (rest % 16)) x)) others
-            ∙ ap (union all) (split-four (f v) rest (s .small))
+        turned : (word : ℕ → ℕ) → getD ended (sums + 16 * s .k + rest % 16) 0 ≡ unionOver (λ i. word (4 * s .k + i)) 4 (rest % 16)
+            → union (union all (getD ended (at + rest % 16) 0)) (unionOver (λ q. word (4 * (s .k + 1) + q)) 64 (rest / 16))
+            ≡ union all (unionOver (λ q. word (4 * s .k + q)) 64 rest)
+        turned word sum =
+            let f : ℕ → ℕ = λ q. word (4 * s .k + q) in
+            let later : ℕ → ℕ = λ q. word (4 * (s .k + 1) + q) in
+            let place : at + rest % 16 ≡ sums + 16 * s .k + rest % 16 = omega (arith, s .place) in
+            let four : getD ended (at + rest % 16) 0 ≡ unionOver f 4 (rest % 16) = ap (λ (z : ℕ). getD ended z 0) place ∙ sum in
+            let others : unionOver later 64 (rest / 16) ≡ unionOver (λ q. f (4 + q)) 64 (rest / 16) =
+            over-same later (λ q. f (4 + q)) 64 (rest / 16)
+            (λ x h. let z : 4 * (s .k + 1) + x ≡ 4 * s .k + (4 + x) = omega arith in ap word z) in
+            union-assoc all (getD ended (at + rest % 16) 0) (unionOver later 64 (rest / 16))
+            ∙ ap (λ x. union all (union x (unionOver later 64 (rest / 16)))) four
+            ∙ ap (λ x. union all (union (unionOver f 4 (rest % 16)) x)) others
+            ∙ ap (union all) (split-four f rest (s .small))
 
-    pub left-end : rest ≡ 0 → (lists n v : ℕ) → Sums lists n ended → v < lists → n ≤ 64 → ends < 2 ^ n
-        → sums ≡ 64 * lists + 16 * quarters n * v → all ≡ unionOver (λ q. getD ended (64 * v + q) 0) 64 ends
-    left-end z lists n v t l few below e =
-        sym (or-zero-r all)
-        ∙ ap (union all) (sym (ap (unionOver f 64) z ∙ over-none f 64))
-        ∙ s .joined lists n v t l few below e
-      where
-        f : ℕ → ℕ
-        f q = getD ended (64 * v + (4 * s .k + q)) 0
+    pub left-end : rest ≡ 0 → SumsJoined ended sums ends all
+    left-end z =
+        record {
+          exact = λ word count t below.
+              let f : ℕ → ℕ = λ q. word (4 * s .k + q) in
+              sym (or-zero-r all) ∙ ap (union all) (sym (ap (unionOver f 64) z ∙ over-none f 64)) ∙ s .joined word count t below;
+          inside = s .inside;
+        }
+
+  -- No states, and one state alone.
+
+  pub joined-none : ends ≡ 0 → SumsJoined ended sums ends 0
+  joined-none z =
+      record { exact = λ word count t below. sym (ap (unionOver word 64) z ∙ over-none word 64); inside = λ t m. absurd (member-none t m) }
+
+  pub joined-one : (r : ℕ) → ends ≢ 0 → ends < 2 ^ 64 → bitAnd ends (ends - 1) ≡ 0
+      → r ≡ getD ended (sums + 16 * (trailingZeros 64 ends / 4) + 2 ^ (trailingZeros 64 ends % 4)) 0 → SumsJoined ended sums ends r
+  joined-one r d h z e =
+      record {
+        exact = λ word count t below.
+            e ∙ alone-summed word sums count q ended t (member-below (4 * count) ends q below here)
+            ∙ sym (or-zero-r (word q))
+            ∙ ap (union (word q)) (sym (ap (unionOver word 64) z ∙ over-none word 64))
+            ∙ least-first word ends d h;
+        inside = λ t m. (
+          q,
+          q / 4,
+          2 ^ (q % 4),
+          here,
+          omega arith,
+          one-below 4 (q % 4) (omega arith),
+          subst (Member t) e m,
+        );
+      }
+    where
+      q : ℕ
+      q = trailingZeros 64 ends
+
+      here : Member q ends
+      here = trailing-here 64 ends d h
+
+-- The sums of a list are those of its words.
+pub list-sums : (lists n v : ℕ) (ended : List ℕ) → v < lists → Sums lists n ended
+    → SummedBy (λ q. getD ended (64 * v + q) 0) (64 * lists + 16 * quarters n * v) (quarters n) ended
+list-sums lists n v ended h s =
+    record {
+      summed = λ k m l p.
+          s .summed v k m h l p
+          ∙ over-same (λ i. getD ended (64 * v + 4 * k + i) 0) (λ i. getD ended (64 * v + (4 * k + i)) 0) 4 m
+          (λ x q. let z : 64 * v + 4 * k + x ≡ 64 * v + (4 * k + x) = omega arith in ap (λ (z : ℕ). getD ended z 0) z);
+    }
+
+-- A set of n states is one of so many times four.
+pub quarters-below : (n s : ℕ) → s < 2 ^ n → s < 2 ^ (4 * quarters n)
+quarters-below n s h = members-below (4 * quarters n) s λ q m. omega (arith, member-below n s q h m)

@@ -9,7 +9,7 @@ use lib.Seq.{length-take-le, getD-take, getD-drop}
 use Rattle.theory.specs.Places.{intersection}
 use Rattle.theory.specs.Automaton.{nexts, step}
 use Rattle.verdict.specs.Cover.{occurrences, allOccurrences, width}
-use Rattle.verdict.specs.Tables.{automatonAt, automataFrom, automataOf, occupied, Counted}
+use Rattle.verdict.specs.Tables.{automatonAt, automataFrom, automataOf, occupied, Counted, Ready}
 
 module _ (follow enter sizes accepting : List ℕ) where
   pub occurrences-at : (x : ℕ) → 64 * x + 64 ≤ length follow → getD sizes x 0 ≤ 63
@@ -53,6 +53,10 @@ occupied-last sizes u (suc m) =
     let e : getD sizes (u + 1 + m + 1) 0 ≡ getD sizes (u + suc m + 1) 0 = ap (λ z. getD sizes z 0) (omega arith) in
     omega (arith, occupied-last sizes (u + 1) m)
 
+pub occupied-none : (sizes : List ℕ) → 0 ≡ occupied sizes 0 0
+unfolding occupied
+occupied-none sizes = refl
+
 pub occupied-more : (sizes : List ℕ) (v : ℕ) → occupied sizes 0 (v + 1) ≡ occupied sizes 0 v + getD sizes (v + 1) 0
 occupied-more sizes v =
     let e : getD sizes (0 + v + 1) 0 ≡ getD sizes (v + 1) 0 = ap (λ z. getD sizes z 0) (omega arith) in
@@ -68,6 +72,11 @@ occupied-grows sizes u v h =
     by (suc d) =
         let e : occupied sizes 0 (u + d + 1) ≡ occupied sizes 0 (u + suc d) = ap (occupied sizes 0) (omega arith) in
         omega (arith, by d, occupied-more sizes (u + d))
+
+-- Tables are ready with their own width.
+pub ready-width : (states n w : ℕ) (follow enter sizes accepting table : List ℕ) → Ready states n follow enter sizes accepting table w
+    → Ready states n follow enter sizes accepting table (suc (occupied sizes 0 n))
+ready-width states n w follow enter sizes accepting table r = subst (Ready states n follow enter sizes accepting table) (r .wide) r
 
 -- The step of the query's standing.
 pub query-step : (follow enter sizes accepting : List ℕ) (s a : ℕ) → a < 32

@@ -7,14 +7,17 @@ use mathlib.Core.Path.{_≡_, sym, subst}
 use native.Mathlib.Decide.{decLt}
 use native.Mathlib.Nat.{div-add-mod, mod-lt, mul-comm}
 use native.Mathlib.Omega.{arith}
+use lib.ListN.{getD}
 use Rattle.theory.specs.Places.{Member, union}
 use Rattle.theory.specs.PlacesLaws.{member-none, member-below, member-union, members-below, equal-members, no-members}
 use Rattle.theory.specs.PlacesShift.{member-moved, member-cut}
 use Rattle.places.specs.Words.{numberOf}
+use Rattle.verdict.specs.Columns.{ColumnsOf, SetOf}
 use Rattle.verdict.specs.CoverPlaces.{split-unique, split-below}
 use Rattle.verdict.specs.CoverTold.{Gains}
 use Rattle.verdict.specs.Rows.{rowOf}
 use Rattle.verdict.specs.RowsLaws.{member-row}
+use Rattle.verdict.specs.Turned.{Turned, Stacked}
 
 -- The column of the offset o, of n states.
 unfoldable pub columnIn : ℕ → List ℕ → ℕ → ℕ
@@ -103,3 +106,27 @@ columns-below w n set some empty = members-below (n * w) (numberOf set) λ i m. 
         absurd (member-none (i % n) (subst (Member (i % n)) (empty (i / n) (omega arith))
         (member-column n set (i / n) (i % n) .1
         (mod-lt i some, subst (λ (z : ℕ). Member z (numberOf set)) (sym (div-add-mod i n)) m))))
+
+-- The columns of a turned set are those of the set: each offset has the column of its class.
+pub columns-turned : (w k n : ℕ) (f : ℕ → ℕ) (C D : ℕ) (columns : List ℕ) → ((o : ℕ) → o < w → f o < k) → Turned w k f n C D → Stacked k n columns D
+    → ColumnsOf w n C (λ o. getD columns (f o) 0)
+columns-turned w k n f C D columns inside t s =
+    record {
+      exact = λ q o h l. (
+        λ m. t .exact q o h l .1 (s .exact q (f o) h (inside o l) .0 m),
+        λ m. s .exact q (f o) h (inside o l) .1 (t .exact q o h l .0 m),
+      );
+      within = λ q o l m. s .within q (f o) (inside o l) m;
+    }
+
+-- The set that is turned is the set of the columns that stand in the turned one.
+pub set-turned : (w k n : ℕ) (f : ℕ → ℕ) (C : ℕ) (r : List ℕ) → Turned w k f n C (numberOf r) → SetOf w n (λ o. columnIn n r (f o)) C
+set-turned w k n f C r t =
+    record {
+      exact = λ q o h l. (
+        λ m. t .exact q o h l .1 (member-column n r (f o) q .0 m .1),
+        λ m. member-column n r (f o) q .1 (h, t .exact q o h l .0 m),
+      );
+      within = λ q o l m. member-column n r (f o) q .0 m .0;
+      below = t .below;
+    }

@@ -10,6 +10,7 @@ use Rattle.theory.specs.Exploration.{System, Entry}
 use Rattle.verdict.specs.Cover.{width}
 use Rattle.verdict.specs.Pairs.{Pair, firstMissed}
 use Rattle.verdict.specs.Tables.{automatonAt, automataOf, occupied, rewritten, Counted}
+use Rattle.verdict.specs.Coded.{Layout, Sided}
 use Rattle.verdict.specs.PairTable.{Holds}
 use Rattle.verdict.specs.PairsTold.{Lent}
 use Rattle.verdict.specs.Verdict.{Verdict, complete, missed, refused, verdict}
@@ -71,6 +72,6 @@ JudgedAs n path r path′ (some p) = (r ≡ Missed (length p) n) × (take (lengt
 
 pub record Judged (states : ℕ) (flags : List ℕ) (w c ends n : ℕ) (space path : List ℕ) (r : Told) (path′ : List ℕ) : Type 0 where
   pub told : n ≤ length path → (A : Automaton) (table : List ℕ) (lists : List Automaton) → A .accepting ≡ ends → width lists ≡ w
-      → (S : System Pair) (l : List (Entry Pair)) → Holds c states S space l → length l ≡ n
+      → (L : Layout) → Sided c w L → (S : System Pair) (l : List (Entry Pair)) → Holds L states S space l → length l ≡ n
       → JudgedAs n path r path′ (firstMissed A (rewritten states table flags) lists l)
   pub beyond : (j : ℕ) → n ≤ j → getD path′ j 0 ≡ getD path j 0

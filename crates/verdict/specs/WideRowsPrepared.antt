@@ -12,27 +12,11 @@ use Rattle.places.specs.Words.{numberOf, Words}
 use Rattle.places.specs.WordsLaws.{member-number}
 use Rattle.verdict.specs.Tables.{occupied}
 use Rattle.verdict.specs.Columns.{offsetIn}
+use Rattle.verdict.specs.ColumnOffsets.{offsetFrom}
 use Rattle.verdict.specs.ColumnLists.{innerOf}
 use Rattle.verdict.specs.ColumnTurns.{member-inner}
 use Rattle.verdict.specs.WideRows.{wordOf, Has, InPair, Gained, OccursAt, OccursIn, ComesNext, RowsPrepared}
 use Rattle.verdict.specs.WideRowsLaws.{has-none, same-pair, gained-row}
-
--- The offset of the place o of a list, whose occurrences come after the offset `base`.
-abbrev pub offsetFrom : ℕ → ℕ → ℕ
-offsetFrom base zero = 0
-offsetFrom base (suc o) = base + suc o
-
-pub offset-none : (base o : ℕ) → o ≡ 0 → offsetFrom base o ≡ 0
-offset-none base zero e = refl
-offset-none base (suc o) e = absurd (omega arith)
-
-pub offset-some : (base o : ℕ) → ¬ (o ≡ 0) → offsetFrom base o ≡ base + o
-offset-some base zero d = absurd (d refl)
-offset-some base (suc o) d = refl
-
-pub offset-small : (base o size : ℕ) → o ≤ size → offsetFrom base o ≤ base + size
-offset-small base zero size h = omega arith
-offset-small base (suc o) size h = omega arith
 
 -- The rows of the offsets gain what can come next from the first k places of the list v, which has `size` occurrences after the offset
 -- `base`. The start never comes next.

@@ -1,16 +1,17 @@
 // The step of a cover set by columns, where there are at most 64 states: an occurrence is reached by the states of the places that lead to
 // it, and a state alone from the states at whose occurrences a path of a list may end.
-ghost use Prim.Native.Nat.{ℕ, suc, _+_, _-_, _*_, _/_, _^_, _≤_, _<_};
+ghost use Prim.Native.Nat.{suc, _+_, _*_, _^_, _≤_, _<_};
 ghost use mathlib.Core.Path.{_≡_};
-ghost use lib.ListN.{length, getD};
-ghost use Rattle.theory.specs.Places.{Member, member, intersection, when, unionOver};
+ghost use lib.ListN.{length};
+ghost use Rattle.theory.specs.Places.{member, when};
 ghost use Rattle.places.specs.Words.{numberOf};
 ghost use Rattle.verdict.specs.Tables.{Counted, occupied};
 ghost use Rattle.verdict.specs.Columns.{StatesWithin, PlacesWithin, EndedWithin, Stepped};
 ghost use Rattle.verdict.specs.ColumnLists.{Below, PlacesOf, innerOf, joinedOf, ListColumns};
-ghost use Rattle.verdict.specs.Sums.{quarters, Sums};
+ghost use Rattle.verdict.specs.Sums.{Sums};
 ghost use Rattle.verdict.specs.TurnedColumns.{columnIn};
 use crate::columns::put_at;
+use crate::sums::ended_of;
 use places::joined::join;
 
 // The columns of the places of a list, all in one: the start's is that of the states alone, the occurrences' come after the offset `base`.
@@ -78,46 +79,6 @@ fn list_columns(
     ends
 }
 
-// The states that are reached from the states of a set where a path of a list ends: four states at a time, by the list's sums, which stand
-// from `sums` on.
-fn ended_from(ended: &[u64], sums: usize, ends: u64) -> u64
-    requires { ⌜ ((q : ℕ) → Member q ends → sums + 16 * (q / 4) + 16 ≤ length (now ended)) ⌝ }
-    ensures { λ r. ⌜ ((lists n v : ℕ) → Sums lists n (now (ended .entry)) → v < lists → n ≤ 64 → ends < 2 ^ n
-        → sums ≡ 64 * lists + 16 * quarters n * v → r ≡ unionOver (λ q. getD (now (ended .entry)) (64 * v + q) 0) 64 ends) ⌝ }
-{
-    let mut all: u64 = 0;
-    let mut rest = ends;
-    let mut at = sums;
-    while rest != 0 {
-        all = all | ended[at + ((rest % 16) as usize)];
-        rest = rest / 16;
-        at += 16;
-    }
-    all
-}
-
-// The states of a set but the least.
-fn others(set: u64) -> u64
-    ensures { λ r. ⌜ r ≡ intersection set (set - 1) ⌝ }
-{
-    if set == 0 {
-        return 0;
-    }
-    set & (set - 1)
-}
-
-// The same: what one state alone leads to is read off at once, of more states the sums are joined.
-fn ended_of(ended: &[u64], v: usize, sums: usize, ends: u64) -> u64
-    requires { ⌜ (64 * v + 64 ≤ length (now ended)) × ((q : ℕ) → Member q ends → sums + 16 * (q / 4) + 16 ≤ length (now ended)) ⌝ }
-    ensures { λ r. ⌜ ((lists n : ℕ) → Sums lists n (now (ended .entry)) → v < lists → n ≤ 64 → ends < 2 ^ n
-        → sums ≡ 64 * lists + 16 * quarters n * v → r ≡ unionOver (λ q. getD (now (ended .entry)) (64 * v + q) 0) 64 ends) ⌝ }
-{
-    if others(ends) == 0 {
-        return join(ended, 64 * v, 1, ends);
-    }
-    ended_from(ended, sums, ends)
-}
-
 // The columns after a step over the label a, each of n states, are put into the turned set `words`, which is empty before.
 pub fn step_columns(
     enter: &[u64],
@@ -159,7 +120,7 @@ pub fn step_columns(
             n,
             words,
         );
-        alone = alone | ended_of(ended, v, sums, ends);
+        alone = alone | ended_of(ended, sums, ends);
         sums += each;
         base += size as usize;
         v += 1;

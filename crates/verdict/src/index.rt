@@ -79,6 +79,9 @@ pub fn bucket(standing: u64, cover: &[u64; 16], used: usize) -> usize
     if used <= 4 {
         return remainder(standing, cover, 4);
     }
+    if used <= 8 {
+        return remainder(standing, cover, 8);
+    }
     remainder(standing, cover, 16)
 }
 

@@ -9,7 +9,7 @@ ghost use Rattle.verdict.specs.LeadingTurns.{LedFrom, ListLed};
 use finding::clear::clear_words;
 
 // Adds the place o to the entries of the places of a set, which stand from `base` on.
-fn lead_from(set: u64, base: usize, o: u64, before: &mut [u64])
+pub fn lead_from(set: u64, base: usize, o: u64, before: &mut [u64])
     requires { ⌜ (base + 64 ≤ length (now before)) × (o < 64) ⌝ }
     ensures { λ _. ⌜ LedFrom base o set (now (before .entry)) (now (before .exit)) ⌝ }
 {

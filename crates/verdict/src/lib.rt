@@ -1,10 +1,15 @@
 // The verdict: cover places, pairs, and whether every query path is yielded.
+mod class_steps;
+mod class_sums;
+mod classes;
 mod column_steps;
 mod columns;
 pub mod cover;
 mod explore;
 mod index;
+mod kinds;
 mod leading;
+mod merged;
 mod next_cover;
 pub mod operation;
 mod pairs;
@@ -13,6 +18,7 @@ pub mod path;
 mod prepared;
 mod ranges;
 mod rows;
+mod stable;
 mod sums;
 pub mod verdict;
 mod wide_rows;

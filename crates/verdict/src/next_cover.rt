@@ -1,18 +1,19 @@
-// Cover sets as they stand in the workspace, turned where a width is given: the first one, and the step over a label.
+// Cover sets as they stand in the workspace, turned where there are columns: the first one, and the step over a label.
 ghost use Prim.Native.Nat.{ℕ, suc, _+_, _*_, _^_, _≤_, _<_};
 ghost use mathlib.Core.Path.{_≡_};
 ghost use lib.ListN.{length};
 ghost use Rattle.places.specs.Words.{numberOf};
 ghost use Rattle.verdict.specs.Columns.{StatesWithin, PlacesWithin, EndedWithin, Stepped};
-ghost use Rattle.verdict.specs.CoverTold.{StartStands, StepStands};
+ghost use Rattle.verdict.specs.Coded.{layoutOf};
+ghost use Rattle.verdict.specs.CoverTold.{StartTold, StepStands};
 ghost use Rattle.verdict.specs.NextCover.{Laid, Used};
 ghost use Rattle.verdict.specs.PairTable.{wordsAt};
-ghost use Rattle.verdict.specs.Prepared.{FirstReached};
 ghost use Rattle.verdict.specs.Sums.{Sums};
-ghost use Rattle.verdict.specs.Tables.{Counted, Ready, occupied};
+ghost use Rattle.verdict.specs.Tables.{Counted, occupied};
 ghost use Rattle.verdict.specs.Turned.{Stacked};
 ghost use Rattle.verdict.specs.TurnedColumns.{columnIn};
 ghost use Rattle.verdict.specs.WideRows.{RowsLaid};
+use crate::class_steps::step_classes;
 use crate::column_steps::step_columns;
 use crate::columns::columns_at;
 use crate::cover::cover_start;
@@ -69,10 +70,11 @@ pub fn first_cover(
     first: &[u64; 4],
     used: usize,
 ) -> Wide
-    requires { ⌜ (0 < w → Ready states lists (now follow) (now enter) (now sizes) (now accepting) (now table) w
-        × FirstReached lists (now accepting) (now table) (now first)) × Used states w used ⌝ }
-    ensures { λ r. ⌜ StartStands w states lists (now (follow .entry)) (now (enter .entry)) (now (sizes .entry)) (now (accepting .entry)) (now (table .entry))
-        (r .words) × (numberOf (r .words) < 2 ^ (64 * used)) ⌝ }
+    requires { ⌜ Used states w used ⌝ }
+    ensures { λ r. ⌜ (w ≡ 0 → StartTold states lists (now (follow .entry)) (now (enter .entry)) (now (sizes .entry)) (now (accepting .entry))
+        (now (table .entry)) (r .words))
+        × (0 < w → numberOf (now (first .entry)) < 2 ^ (64 * used) → numberOf (r .words) ≡ numberOf (now (first .entry)))
+        × (numberOf (r .words) < 2 ^ (64 * used)) ⌝ }
 {
     if w == 0 {
         return cover_start(states, table, follow, enter, sizes, accepting, lists);
@@ -80,7 +82,7 @@ pub fn first_cover(
     reached_words(first, used)
 }
 
-// How many words have all places of a set as it stands: where it is turned, as many as its places need.
+// How many words have all places of a set as it stands: where it is turned, as many as its w columns need.
 pub fn used_words(states: u64, w: u64) -> usize
     requires { ⌜ (0 < w → states * w ≤ 1024) ⌝ }
     ensures { λ r. ⌜ Used states w r ⌝ }
@@ -92,7 +94,7 @@ pub fn used_words(states: u64, w: u64) -> usize
     }
 }
 
-// What all labels have in common of a step from the cover set of the pair number i: its columns, where it stands turned and steps go by
+// What all labels have in common of a step from the cover set of the pair number i: its w columns, where it stands turned and steps go by
 // them; the rows that can come next, where steps go by rows.
 pub fn lay(
     states: u64,
@@ -161,8 +163,8 @@ fn step_turned(
     );
 }
 
-// The step of the cover set of the pair number i over the label a, as sets stand. `laid` has the columns of the set, or the rows that can
-// come next; `cover` has a set of before.
+// The step of the cover set of the pair number i over the label a, as sets stand: by classes, by ranges or by columns where they stand turned.
+// `laid` has the columns of the set, or the rows that can come next; `cover` has a set of before.
 pub fn next_cover(
     states: u64,
     table: &[u16],
@@ -175,15 +177,18 @@ pub fn next_cover(
     workspace: &[u64],
     i: usize,
     w: u64,
+    classed: bool,
     rows: u64,
     before: &[u64],
     ended: &[u64],
+    classes: &[u8],
     laid: &[u64],
     cover: &mut [u64; 16],
 )
-    requires { ⌜ Laid states lists (now follow) (now enter) (now sizes) (now accepting) (now table) w rows (now before) (now ended)
-        (wordsAt (now workspace) (18 * i + 1) 16) (now laid) × (a < 32) × (18 * i + 18 ≤ length (now workspace)) ⌝ }
-    ensures { λ _. ⌜ StepStands w states lists (now (follow .entry)) (now (enter .entry)) (now (sizes .entry)) (now (accepting .entry)) (now (table .entry)) a
+    requires { ⌜ Laid states lists (now follow) (now enter) (now sizes) (now accepting) (now table) w classed rows (now before) (now ended) (now classes)
+        (wordsAt (now workspace) (18 * i + 1) 16) (now laid) a × (a < 32) × (18 * i + 18 ≤ length (now workspace)) ⌝ }
+    ensures { λ _. ⌜ StepStands (layoutOf (suc (occupied (now (sizes .entry)) 0 lists)) w classed (now (classes .entry))) states lists
+        (now (follow .entry)) (now (enter .entry)) (now (sizes .entry)) (now (accepting .entry)) (now (table .entry)) a
         (wordsAt (now (workspace .entry)) (18 * i + 1) 16) (now (cover .exit))
         × ((used : ℕ) → Used states w used → numberOf (now (cover .exit)) < 2 ^ (64 * used)) × (length (now (cover .exit)) ≡ 16) ⌝ }
 {
@@ -205,6 +210,11 @@ pub fn next_cover(
             load(workspace, i),
         );
         copy(next, cover);
+        return;
+    }
+    if classed {
+        clear_words(cover, 16);
+        step_classes(before, ended, a, w, laid, states, cover);
         return;
     }
     if 64 < states {

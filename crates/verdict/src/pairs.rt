@@ -1,5 +1,5 @@
 // Pairs (document 01, "Pair") by exploration over the labels, in a lent workspace.
-ghost use Prim.Native.Nat.{ℕ, _+_, _*_, _≤_, _<_};
+ghost use Prim.Native.Nat.{ℕ, suc, _+_, _*_, _≤_, _<_};
 ghost use mathlib.Core.List.{List};
 ghost use mathlib.Core.Path.{_≡_};
 ghost use lib.ListN.{length};
@@ -8,7 +8,9 @@ ghost use Rattle.verdict.specs.Workspace.{Put, pair};
 ghost use Rattle.verdict.specs.PairIndex.{bucketOf, Indexed, IndexedAll, Short, ShortAll};
 ghost use Rattle.verdict.specs.NextCover.{Used};
 ghost use Rattle.verdict.specs.PairsTold.{lent, QueryFollows, QueryStep, RowTold, PairsTold};
-ghost use Rattle.verdict.specs.Prepared.{FirstReached, Prepared, RowsReady};
+ghost use Rattle.verdict.specs.Prepared.{FirstReached, RowsReady, WayReady};
+ghost use Rattle.verdict.specs.Coded.{layoutOf};
+ghost use Rattle.verdict.specs.Tables.{occupied};
 use crate::index::bucket;
 use crate::index::note;
 use crate::index::seen;
@@ -100,8 +102,8 @@ fn query_step(after: u64, enter: &[u64], a: usize) -> u64
 }
 
 // The pairs that the labels lead to from the pair number i: those that are new go behind the n that are found. Where w is not 0, cover sets
-// stand turned and steps by columns are prepared; where `rows` is not 0, steps by rows are. `laid` is for the columns of one set, or for the
-// rows that can come next.
+// stand turned, with w columns, and what steps need is prepared; `classes` tells which offsets share a column, where steps go by classes (`classed`).
+// `rows` is not 0 where steps go by rows. `laid` is for the columns of one set, or for the rows that can come next.
 fn row(
     states: u64,
     table: &[u16],
@@ -115,9 +117,11 @@ fn row(
     i: usize,
     n: usize,
     w: u64,
+    classed: bool,
     rows: u64,
     before: &[u64],
     ended: &[u64],
+    classes: &[u8],
     laid: &mut [u64],
     used: usize,
     workspace: &mut [u64],
@@ -126,11 +130,11 @@ fn row(
 ) -> Explored
     requires { ⌜ (i < n) × (n ≤ limit) × (limit ≤ 4096) × (labels ≤ 32) × (18 * limit ≤ length (now workspace))
         × Indexed (now workspace) n (now heads) (now nexts) × Used states w used × Short used (now workspace) n
-        × (0 < w → Prepared states lists (now follow) (now enter) (now sizes) (now accepting) (now table) w (now before) (now ended))
+        × WayReady states lists labels (now follow) (now enter) (now sizes) (now accepting) (now table) w classed (now before) (now ended) (now classes)
         × (w ≤ length (now laid))
         × (0 < rows → RowsReady states lists (now follow) (now enter) (now sizes) (now accepting) (now table) w rows (now before) (now ended) (now laid)) ⌝ }
     ensures { λ r. ⌜ RowTold (lent states labels lists (now (follow .entry)) (now (enter .entry)) (now (sizes .entry)) (now (accepting .entry)) (now (table .entry)))
-        w limit i n (now (workspace .entry)) r (now (workspace .exit)) ⌝ }
+        (layoutOf (suc (occupied (now (sizes .entry)) 0 lists)) w classed (now (classes .entry))) limit i n (now (workspace .entry)) r (now (workspace .exit)) ⌝ }
     ensures indexed { λ r. ⌜ IndexedAll (now (workspace .exit)) (now (heads .exit)) (now (nexts .exit)) r
         × ShortAll used (now (workspace .exit)) r ⌝ }
 {
@@ -154,9 +158,11 @@ fn row(
             workspace,
             i,
             w,
+            classed,
             rows,
             before,
             ended,
+            classes,
             laid,
             &mut cover,
         );
@@ -187,19 +193,21 @@ fn sweep(
     labels: usize,
     limit: usize,
     w: u64,
+    classed: bool,
     rows: u64,
     before: &[u64],
     ended: &[u64],
+    classes: &[u8],
     first: &[u64; 4],
     laid: &mut [u64],
     workspace: &mut [u64],
 ) -> Explored
     requires { ⌜ (0 < limit) × (limit ≤ 4096) × (labels ≤ 32) × (18 * limit ≤ length (now workspace))
-        × (0 < w → Prepared states lists (now follow) (now enter) (now sizes) (now accepting) (now table) w (now before) (now ended))
+        × WayReady states lists labels (now follow) (now enter) (now sizes) (now accepting) (now table) w classed (now before) (now ended) (now classes)
         × (0 < w → FirstReached lists (now accepting) (now table) (now first)) × (w ≤ length (now laid))
         × (0 < rows → RowsReady states lists (now follow) (now enter) (now sizes) (now accepting) (now table) w rows (now before) (now ended) (now laid)) ⌝ }
     ensures { λ r. ⌜ PairsTold (lent states labels lists (now (follow .entry)) (now (enter .entry)) (now (sizes .entry)) (now (accepting .entry)) (now (table .entry)))
-        w limit (now (workspace .entry)) r (now (workspace .exit)) ⌝ }
+        (layoutOf (suc (occupied (now (sizes .entry)) 0 lists)) w classed (now (classes .entry))) limit (now (workspace .entry)) r (now (workspace .exit)) ⌝ }
 {
     let mut heads: [u16; 4093] = [0; 4093];
     let mut nexts: [u16; 4096] = [0; 4096];
@@ -235,9 +243,11 @@ fn sweep(
             i,
             n,
             w,
+            classed,
             rows,
             before,
             ended,
+            classes,
             laid,
             used,
             workspace,
@@ -253,8 +263,8 @@ fn sweep(
     Explored::All(n as u64)
 }
 
-// All pairs, as long as there are no more than the allowance, which is at most 4,096. Where w is not 0, cover sets stand turned; where `rows`
-// is not 0, steps go by rows.
+// All pairs, as long as there are no more than the allowance, which is at most 4,096. Where w is not 0, cover sets stand turned, with w
+// columns.
 pub fn pairs(
     states: u64,
     table: &[u16],
@@ -266,18 +276,20 @@ pub fn pairs(
     labels: usize,
     allowance: u64,
     w: u64,
+    classed: bool,
     rows: u64,
     before: &[u64],
     ended: &[u64],
+    classes: &[u8],
     first: &[u64; 4],
     laid: &mut [u64],
     workspace: &mut [u64],
 ) -> Explored
-    requires { ⌜ (0 < w → Prepared states lists (now follow) (now enter) (now sizes) (now accepting) (now table) w (now before) (now ended))
+    requires { ⌜ WayReady states lists labels (now follow) (now enter) (now sizes) (now accepting) (now table) w classed (now before) (now ended) (now classes)
         × (0 < w → FirstReached lists (now accepting) (now table) (now first)) × (w ≤ length (now laid))
         × (0 < rows → RowsReady states lists (now follow) (now enter) (now sizes) (now accepting) (now table) w rows (now before) (now ended) (now laid)) ⌝ }
     ensures { λ r. ⌜ PairsTold (lent states labels lists (now (follow .entry)) (now (enter .entry)) (now (sizes .entry)) (now (accepting .entry)) (now (table .entry)))
-        w allowance (now (workspace .entry)) r (now (workspace .exit)) ⌝ }
+        (layoutOf (suc (occupied (now (sizes .entry)) 0 lists)) w classed (now (classes .entry))) allowance (now (workspace .entry)) r (now (workspace .exit)) ⌝ }
 {
     let limit = allowance as usize;
     if limit == 0 {
@@ -303,9 +315,11 @@ pub fn pairs(
         labels,
         limit,
         w,
+        classed,
         rows,
         before,
         ended,
+        classes,
         first,
         laid,
         workspace,

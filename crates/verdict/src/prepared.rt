@@ -1,11 +1,15 @@
 // What steps by columns or by ranges need, computed once for all pairs.
-ghost use Prim.Native.Nat.{_*_, _≤_, _<_};
-ghost use lib.ListN.{length};
+ghost use Prim.Native.Nat.{ℕ, _*_, _≤_, _<_};
+ghost use lib.ListN.{length, getD};
+ghost use mathlib.Core.List.{List};
+ghost use Rattle.theory.specs.Places.{Member};
 ghost use mathlib.Core.Bool.{true};
 ghost use mathlib.Core.Path.{_≡_};
+ghost use Rattle.verdict.specs.Classes.{ClassSums, EndingLists};
 ghost use Rattle.verdict.specs.Columns.{NextBelow, Finishing, Passing};
 ghost use Rattle.verdict.specs.Prepared.{FirstReached, Prepared};
 ghost use Rattle.verdict.specs.Sums.{SumsRoom, Sums};
+use crate::class_sums::class_sums;
 use crate::cover::ready;
 use crate::leading::leading;
 use crate::passing::finishing;
@@ -39,6 +43,32 @@ fn prepare_columns(
     }
     sum_lists(ended, lists, states);
     true
+}
+
+// For at most 64 states by classes: the states that are reached where a path of a list ends at an occurrence of a class, in sums, and those
+// that are reached from the first. Whether the tables are in order and have room.
+pub fn prepare_classes(
+    table: &[u16],
+    accepting: &[u64],
+    states: usize,
+    lists: usize,
+    k: usize,
+    ends: &[u64; 64],
+    ended: &mut [u64],
+    first: &mut [u64; 4],
+) -> bool
+    requires { ⌜ (0 < states) × (states ≤ 64) × (lists ≤ 16) × (lists < length (now accepting)) × (16 * states ≤ length (now table))
+        × (k ≤ 63) × (128 ≤ length (now ended)) × ((v c : ℕ) → Member v (getD (now ends) c 0) → v < lists) ⌝ }
+    ensures { λ r. ⌜ (r ≡ true → ((sizes classes : List ℕ) → EndingLists lists sizes (now (accepting .entry)) classes (now (ends .entry))
+        → ClassSums states lists k sizes (now (accepting .entry)) (now (table .entry)) classes (now (ended .exit)))
+        × FirstReached lists (now (accepting .entry)) (now (table .entry)) (now (first .exit)) × NextBelow states lists (now (table .entry))) ⌝ }
+{
+    let mut passes = [0; 64];
+    if !passing(accepting, table, states, lists, 1, &mut passes) {
+        return false;
+    }
+    first_of(&passes, 1, first);
+    class_sums(&passes, table, states, lists, k, ends, ended)
 }
 
 // For more states: those that are reached from each state, as four words, and from the first. Whether the tables are in order and have room.

@@ -5,7 +5,7 @@ ghost use mathlib.Core.Path.{_≡_};
 ghost use lib.ListN.{length};
 ghost use Rattle.theory.specs.Places.{Member};
 ghost use Rattle.places.specs.Words.{numberOf};
-ghost use Rattle.verdict.specs.WideRowsPrepared.{offsetFrom};
+ghost use Rattle.verdict.specs.ColumnOffsets.{offsetFrom};
 ghost use Rattle.verdict.specs.Ranges.{Leads, Closing, Closed, Adds, Block, RangeAt, RangesAt, NextAt, Going, EndsAt, NextWithin};
 ghost use Rattle.verdict.specs.Ranges.{PlaceNew, ListNew, PlaceReady, ListReady, RangesReady, RangesStepped};
 use crate::column_steps::inner;

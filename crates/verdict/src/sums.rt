@@ -1,9 +1,10 @@
 // Sums: the states that are reached where a path of a list ends, from each set of four neighbouring states. They stand behind what is reached
 // from each state alone, sixteen words for four states, so that a step joins one word for four states.
-ghost use Prim.Native.Nat.{ℕ, _+_, _*_, _≤_, _<_};
+ghost use Prim.Native.Nat.{ℕ, _+_, _-_, _*_, _/_, _%_, _^_, _≤_, _<_};
+ghost use Rattle.theory.specs.Places.{Member, intersection};
 ghost use mathlib.Core.Path.{_≡_};
 ghost use lib.ListN.{length, getD};
-ghost use Rattle.verdict.specs.Sums.{quarters, SumsRoom, FourSummed, ListSummed, Sums};
+ghost use Rattle.verdict.specs.Sums.{SumsRoom, FourSummed, ListSummed, Sums, SumsJoined};
 
 // The sixteen sums of the four words from `from` on are put down from `at` on.
 fn sum_four(ended: &mut [u64], from: usize, at: usize)
@@ -21,7 +22,7 @@ fn sum_four(ended: &mut [u64], from: usize, at: usize)
 }
 
 // The sums of a list whose words stand from `from` on, four states after the other.
-fn sum_list(ended: &mut [u64], from: usize, at: usize, count: usize)
+pub fn sum_list(ended: &mut [u64], from: usize, at: usize, count: usize)
     requires { ⌜ (count ≤ 16) × (from + 64 ≤ at) × (at + 16 * count ≤ length (now ended)) ⌝ }
     ensures { λ _. ⌜ ListSummed from at count (now (ended .entry)) (now (ended .exit)) ⌝ }
 {
@@ -44,4 +45,52 @@ pub fn sum_lists(ended: &mut [u64], lists: usize, n: usize)
         sum_list(ended, 64 * v, 64 * lists + 16 * count * v, count);
         v += 1;
     }
+}
+
+// The union of the words of the states of a set: four states at a time, by the sums of the words, which stand from `sums` on.
+fn ended_from(ended: &[u64], sums: usize, ends: u64) -> u64
+    requires { ⌜ ((q : ℕ) → Member q ends → sums + 16 * (q / 4) + 16 ≤ length (now ended)) ⌝ }
+    ensures { λ r. ⌜ SumsJoined (now (ended .entry)) sums ends r ⌝ }
+{
+    let mut all: u64 = 0;
+    let mut rest = ends;
+    let mut at = sums;
+    while rest != 0 {
+        all = all | ended[at + ((rest % 16) as usize)];
+        rest = rest / 16;
+        at += 16;
+    }
+    all
+}
+
+// The states of a set but the least.
+fn others(set: u64) -> u64
+    ensures { λ r. ⌜ r ≡ intersection set (set - 1) ⌝ }
+{
+    if set == 0 {
+        return 0;
+    }
+    set & (set - 1)
+}
+
+// The word of a state is the sum of that state alone.
+fn ended_alone(ended: &[u64], sums: usize, q: usize) -> u64
+    requires { ⌜ (q < 64) × (sums + 16 * (q / 4) + 16 ≤ length (now ended)) ⌝ }
+    ensures { λ r. ⌜ r ≡ getD (now (ended .entry)) (sums + 16 * (q / 4) + 2 ^ (q % 4)) 0 ⌝ }
+{
+    ended[sums + 16 * (q / 4) + (1 << (q % 4))]
+}
+
+// The same: the word of one state alone is read off at once, of more states the sums are joined.
+pub fn ended_of(ended: &[u64], sums: usize, ends: u64) -> u64
+    requires { ⌜ ((q : ℕ) → Member q ends → sums + 16 * (q / 4) + 16 ≤ length (now ended)) ⌝ }
+    ensures { λ r. ⌜ SumsJoined (now (ended .entry)) sums ends r ⌝ }
+{
+    if ends == 0 {
+        return 0;
+    }
+    if others(ends) == 0 {
+        return ended_alone(ended, sums, u64::trailing_zeros(ends) as usize);
+    }
+    ended_from(ended, sums, ends)
 }

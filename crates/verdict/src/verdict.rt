@@ -77,7 +77,7 @@ fn gap(turned: u64, w: u64) -> u64
     if turned == 0 { w } else { 1 }
 }
 
-// Tells the first missed path of n pairs, and writes it. Cover sets stand turned where `turned`, which is then the width, is not 0.
+// Tells the first missed path of n pairs, and writes it. Cover sets stand turned where `turned` is not 0.
 fn judged(
     states: u64,
     flags: &[u8],
@@ -88,7 +88,7 @@ fn judged(
     workspace: &[u64],
     path: &mut [u8],
 ) -> Told
-    requires { ⌜ (0 < w) × (states * w ≤ 1024) × (0 < turned → turned ≡ w) × (states ≤ length (now flags)) × (18 * n ≤ length (now workspace)) ⌝ }
+    requires { ⌜ (0 < w) × (states * w ≤ 1024) × (states ≤ length (now flags)) × (18 * n ≤ length (now workspace)) ⌝ }
     ensures { λ r. ⌜ Judged states (now (flags .entry)) w turned ends n (now (workspace .entry)) (now (path .entry)) r (now (path .exit)) ⌝ }
 {
     let i = first_missed(workspace, n, ends, yielding(flags, states, gap(turned, w)));

@@ -1,14 +1,14 @@
 -- The loop's invariant: the occurrences of the lists before v have their columns (ListsLeft), and the sums of the list v stand
 -- from `sums` on. The measure is the number of lists left.
 use Prim.Native.Nat.{_+_, _*_, _-_, _^_, _≤_, _<_}
-use mathlib.Core.Path.{_≡_, sym, _∙_}
+use mathlib.Core.Path.{_≡_, sym, _∙_, subst}
 use native.Mathlib.Nat.{mul-add, mul-le-mul-left}
 use lib.ListN.{length, getD}
 use Rattle.theory.specs.PlacesLaws.{member-below}
 use Rattle.verdict.specs.ColumnTurns.{ListsLeft, lists-start, lists-room, lists-turn, alone-within, ends-below}
 use Rattle.verdict.specs.ColumnTurns.{lists-empty, lists-end}
-use Rattle.verdict.specs.Sums.{quarters}
-use Rattle.verdict.specs.SumsLaws.{next-list}
+use Rattle.verdict.specs.Sums.{quarters, SummedBy}
+use Rattle.verdict.specs.SumsLaws.{next-list, list-sums, quarters-below}
 use Rattle.verdict.specs.CoverBounds.{few-columns}
 use Rattle.verdict.specs.TurnedColumns.{columnIn, no-columns, Puts, put-column, columns-below}
 use native.Mathlib.Omega.{arith}
@@ -106,16 +106,14 @@ ended-of-requires c κs =
     let list = c .before .before .list-columns in
     let below : list .result < 2 ^ s .args .n =
     ends-below _ _ _ _ _ _ _ _ (s .args .w) (s .args .n) _ _ (l .base) (l .alone) (l .v) (list .result) h (l .inv .1) (s .pre .0) (s .pre .4)
-    (s .pre .5) (s .pre .11) (list .ensures) in (
-      omega (arith, h, s .pre .15 .room),
-      λ q m.
-          omega (
-            arith,
-            l .inv .2,
-            member-below (s .args .n) (list .result) q below m,
-            next-list (16 * quarters (s .args .n)) (l .v) (s .args .lists) h,
-            s .pre .15 .room,
-          ),
+    (s .pre .5) (s .pre .11) (list .ensures) in
+    λ q m.
+    omega (
+      arith,
+      l .inv .2,
+      member-below (s .args .n) (list .result) q below m,
+      next-list (16 * quarters (s .args .n)) (l .v) (s .args .lists) h,
+      s .pre .15 .room,
     )
 
 add-sums : tie.Need-add-sums Inv-loop μ-loop
@@ -150,7 +148,10 @@ loop-again c =
       lists-turn (s .args .lists) (s .args .a) (s .args .enter .now) (s .args .sizes .now) (s .args .accepting .now) (s .args .before .now)
           (s .args .ended .now) (s .args .columns .now) (columnIn (s .args .n) (l .words)) _ (l .base) (l .alone) (l .v) (list .result) h
           (l .inv .1) (omega (arith, list .ok)) (list .ensures) (s .pre .0 .small (l .v) h) (c .ended-of .result)
-          (c .ended-of .ensures (s .args .lists) (s .args .n) (s .pre .15) h (s .pre .9) below (l .inv .2)),
+          (c .ended-of .ensures .exact (λ q. getD (s .args .ended .now) (64 * l .v + q) 0) (quarters (s .args .n))
+          (subst (λ z. SummedBy (λ q. getD (s .args .ended .now) (64 * l .v + q) 0) z (quarters (s .args .n)) (s .args .ended .now))
+          (sym (l .inv .2)) (list-sums (s .args .lists) (s .args .n) (l .v) (s .args .ended .now) h (s .pre .15)))
+          (quarters-below (s .args .n) (list .result) below)),
       omega (arith, l .inv .2, mul-add (16 * quarters (s .args .n)) (l .v) 1),
     )
 

@@ -1,8 +1,11 @@
--- The columns have room where sets stand turned: then the width is one more than the occurrences.
+-- The columns have room where sets stand turned: then there are as many as the width, one more than the occurrences.
 use Prim.Native.Nat.{ℕ, zero, suc, _≤_, _<_}
+use mathlib.Core.Bool.{false, false≢true}
 use mathlib.Core.Path.{_≡_, _∙_}
-use native.Mathlib.Omega.{arith}
 use Rattle.verdict.specs.Prepared.{columns-chosen, rows-chosen}
+use Rattle.verdict.specs.Searches.{told-search}
+use native.Mathlib.Omega.{arith}
+use borrow.Author.Needs.{needs}
 use Rattle.verdict.proofs.explore.explore_in.Statement.{statement}
 use Rattle.verdict.proofs.explore.explore_in.Tie as tie
 
@@ -22,13 +25,16 @@ chosen-way-requires c κs =
       omega (arith, p .kept .1 .1 .1 .1 .1 .1 .1 .0, c .before .before .before .before .before .before .before .before .before .before .before .before .before .before .before .before .before .before .pre .3),
     )
 
+slice-aggregate-pairs : tie.Need-slice-aggregate-pairs
+slice-aggregate-pairs c = search needs
+
 pairs-requires : tie.Need-pairs-requires
 pairs-requires c κs =
-    let s = c .before .before .before .before .before .before .before .before .before .before .before .before .before .before .before .before .before .before .before .before .before .before .before .before .before .before in
-    let p = c .before .before .before .before .before .before .before .before .before .before .before .before .before .prepared in
-    let way = c .before .before .before .before .before .before .before .chosen-way in
+    let s = c .before .before .before .before .before .before .before .before .before .before .before .before .before .before .before .before .before .before .before .before .before .before .before .before .before .before .before in
+    let p = c .before .before .before .before .before .before .before .before .before .before .before .before .before .before .prepared in
+    let way = c .before .before .before .before .before .before .before .before .chosen-way in
     let by-columns = columns-chosen (λ h. p .ensures h .0) (way .ensures) in (
-      by-columns,
+      record { apart = λ h e. by-columns h; classed = λ h e. absurd (false≢true e) },
       λ h. p .ensures (omega (arith, way .ensures .by-columns h .0)) .1,
       turned-fits _ _ _ (λ h. by-columns h .ready .wide) (s .pre .2),
       rows-chosen (λ h. p .ensures h .0) (way .ensures)
@@ -36,22 +42,19 @@ pairs-requires c κs =
     )
 
 same-length : tie.Need-same-length
-same-length c = c .before .before .before .before .before .before .before .before .before .before .before .before .chosen-way .kept .1 .1 .1 .1 .1 .1 .0 ∙ c .before .before .before .before .before .before .before .before .before .before .before .before .before .before .before .before .before .before .prepared .kept .1 .1 .1 .1 .1 .1 .1 .0
+same-length c = c .before .before .before .before .before .before .before .before .before .before .before .before .before .chosen-way .kept .1 .1 .1 .1 .1 .1 .0 ∙ c .before .before .before .before .before .before .before .before .before .before .before .before .before .before .before .before .before .before .before .prepared .kept .1 .1 .1 .1 .1 .1 .1 .0
 
 same-length-2 : tie.Need-same-length-2
-same-length-2 c = c .before .before .before .before .before .before .before .before .before .before .before .before .before .before .before .before .before .before .prepared .kept .1 .1 .1 .1 .1 .1 .1 .1 .0
+same-length-2 c = c .before .before .before .before .before .before .before .before .before .before .before .before .before .before .before .before .before .before .before .prepared .kept .1 .1 .1 .1 .1 .1 .1 .1 .0
 
 same-length-3 : tie.Need-same-length-3
-same-length-3 c = c .before .before .before .before .pairs .kept .1 .1 .1 .1 .1 .1 .1 .1 .1 .1 .1 .1 .1 .1 .0
+same-length-3 c = c .before .before .before .before .pairs .kept .1 .1 .1 .1 .1 .1 .1 .1 .1 .1 .1 .1 .1 .1 .1 .1 .0
 
 same-length-4 : tie.Need-same-length-4
-same-length-4 c = c .before .before .before .before .pairs .kept .1 .1 .1 .1 .1 .1 .1 .1 .1 .1 .1 .1 .1 .1 .1 .0
+same-length-4 c = c .before .before .before .before .pairs .kept .1 .1 .1 .1 .1 .1 .1 .1 .1 .1 .1 .1 .1 .1 .1 .1 .1 .0
 
 returns : tie.Need-returns
-returns c = (
-  λ h. columns-chosen (λ k. c .before .before .before .before .before .before .before .before .before .before .before .before .before .before .before .before .before .before .prepared .ensures k .0) (c .before .before .before .before .before .before .before .before .before .before .before .before .chosen-way .ensures) h .ready .wide,
-  c .before .before .before .before .pairs .ensures,
-)
+returns c = told-search _ false _ (c .before .before .before .before .pairs .ensures)
 
 pub explore-in-spec : {M : Type 1} → statement M
 explore-in-spec =
@@ -59,6 +62,7 @@ explore-in-spec =
     (tie.spec
     prepared-requires
     chosen-way-requires
+    slice-aggregate-pairs
     pairs-requires
     same-length
     same-length-2

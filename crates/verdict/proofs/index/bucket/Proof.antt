@@ -1,4 +1,4 @@
--- The set is below the numbers of one word, of four, or of all sixteen.
+-- The set is below the numbers of one word, of four, of eight, or of all sixteen.
 use Prim.Native.Nat.{_*_}
 use Rattle.theory.specs.PlacesLaws.{wider}
 use Rattle.places.specs.Words.{numberOf}
@@ -25,12 +25,29 @@ returns-2 c = search needs
 
 remainder-requires-3 : tie.Need-remainder-requires-3
 remainder-requires-3 c κs =
-    let s = c .before .before in
-    (omega arith, wider (64 * s .args .used) 1024 (numberOf (s .args .cover .now)) (omega (arith, s .pre .0)) (s .pre .1))
+    let s = c .before .before .before in
+    (omega arith, wider (64 * s .args .used) 512 (numberOf (s .args .cover .now)) (omega (arith, c .if3 .taken)) (s .pre .1))
 
 returns-3 : tie.Need-returns-3
 returns-3 c = search needs
 
+remainder-requires-4 : tie.Need-remainder-requires-4
+remainder-requires-4 c κs =
+    let s = c .before .before .before in
+    (omega arith, wider (64 * s .args .used) 1024 (numberOf (s .args .cover .now)) (omega (arith, s .pre .0)) (s .pre .1))
+
+returns-4 : tie.Need-returns-4
+returns-4 c = search needs
+
 pub bucket-spec : {M : Type 1} → statement M
 bucket-spec =
-    tie.close (tie.spec remainder-requires returns remainder-requires-2 returns-2 remainder-requires-3 returns-3)
+    tie.close
+    (tie.spec
+    remainder-requires
+    returns
+    remainder-requires-2
+    returns-2
+    remainder-requires-3
+    returns-3
+    remainder-requires-4
+    returns-4)

@@ -22,7 +22,7 @@ returns-4 c = pairs-unfit _ _ _ _ (λ p few room. omega (arith, c .if4 .taken))
 
 sweep-requires : tie.Need-sweep-requires
 sweep-requires c κs =
-    let s = c .before .before .before .before .before .before .before .before .before .before .before .before .before .before .before in (
+    let s = c .before .before .before .before .before .before .before .before .before .before .before .before .before .before .before .before in (
       omega (arith, c .before .before .before .before .before .if1 .left),
       omega (arith, c .before .before .before .before .if2 .left),
       omega (arith, c .before .before .before .if3 .left),

@@ -1,10 +1,12 @@
 -- The loop's invariant: the labels that are left give what all labels give, the pairs found are indexed, and their sets stand in
 -- the words in use.
-use Prim.Native.Nat.{_+_, _*_, _-_, _<_}
+use Prim.Native.Nat.{suc, _+_, _*_, _-_, _<_}
 use mathlib.Core.Logic.{⊎-elim}
 use mathlib.Core.Path.{refl, sym, subst, subst₂}
 use lib.ListN.{getD}
 use Rattle.places.specs.Words.{numberOf}
+use Rattle.verdict.specs.Coded.{layoutOf}
+use Rattle.verdict.specs.NextCover.{way-places}
 use Rattle.verdict.specs.PairIndex.{Indexed, Short}
 use Rattle.verdict.specs.PairIndexLaws.{indexed-same, indexed-all, indexed-over, short-more, short-same, short-all, short-over}
 use Rattle.verdict.specs.PairRows.{not-true, not-false}
@@ -12,6 +14,7 @@ use Rattle.verdict.specs.PairRows.{RowLoop, Stepped, row-start, row-know
 use Rattle.verdict.specs.PairTable.{wordsAt}
 use Rattle.verdict.specs.PairsTold.{lent}
 use Rattle.verdict.specs.Prepared.{rows-kept}
+use Rattle.verdict.specs.Tables.{occupied}
 use Rattle.verdict.specs.Turned.{Stacked}
 use Rattle.verdict.specs.WideRows.{RowsLaid}
 use native.Mathlib.Omega.{arith}
@@ -20,34 +23,34 @@ use Rattle.verdict.proofs.pairs.row.Statement.{statement}
 use Rattle.verdict.proofs.pairs.row.Tie as tie
 
 abbrev Inv-loop : tie.InvT-loop
-Inv-loop states table follow enter sizes accepting lists labels limit i n w rows before ended laid used workspace₀ heads₀ nexts₀ from cover₀ after m₀ a₀ workspace heads nexts cover m a =
-    RowLoop (lent states labels lists follow enter sizes accepting table) w limit i n workspace₀ a m workspace
+Inv-loop states table follow enter sizes accepting lists labels limit i n w classed rows before ended classes laid used workspace₀ heads₀ nexts₀ from cover₀ after m₀ a₀ workspace heads nexts cover m a =
+    RowLoop (lent states labels lists follow enter sizes accepting table) (layoutOf (suc (occupied sizes 0 lists)) w classed classes) limit i n workspace₀ a m workspace
     × Indexed workspace m heads nexts × Short used workspace m
 
 abbrev μ-loop : tie.MeasureT-loop
-μ-loop states table follow enter sizes accepting lists labels limit i n w rows before ended laid used workspace₀ heads₀ nexts₀ from cover₀ after m₀ a₀ workspace heads nexts cover m a =
+μ-loop states table follow enter sizes accepting lists labels limit i n w classed rows before ended classes laid used workspace₀ heads₀ nexts₀ from cover₀ after m₀ a₀ workspace heads nexts cover m a =
     labels - a
 
 mul-from : tie.Need-mul-from Inv-loop μ-loop
-mul-from c = let s = c .before .before .before .before .before .before .before .before .before in omega (arith, s .pre .0, s .pre .1, s .pre .2)
+mul-from c = let s = c .before .before .before .before .before .before .before .before .before .before in omega (arith, s .pre .0, s .pre .1, s .pre .2)
 
 mul-from-2 : tie.Need-mul-from-2 Inv-loop μ-loop
 mul-from-2 c = search needs
 
 slice-read-from : tie.Need-slice-read-from Inv-loop μ-loop
-slice-read-from c = let s = c .before .before .before .before .before .before .before .before .before .before in omega (arith, s .pre .0, s .pre .1, s .pre .4)
+slice-read-from c = let s = c .before .before .before .before .before .before .before .before .before .before .before in omega (arith, s .pre .0, s .pre .1, s .pre .4)
 
 lay-requires : tie.Need-lay-requires Inv-loop μ-loop
 lay-requires c κs =
-    let s = c .before .before .before .before .before .before .before .before .before .before .before .before in
-    (λ h. let p = s .pre .8 h in (p .some, p .ready .few-places), omega (arith, s .pre .0, s .pre .1, s .pre .4), s .pre .9, λ h. let r = s .pre .10 h in (r .long, r .short, r .ready .few-places, r .before-room, r .laid-room))
+    let s = c .before .before .before .before .before .before .before .before .before .before .before .before .before in
+    (way-places (s .pre .8), omega (arith, s .pre .0, s .pre .1, s .pre .4), s .pre .9, λ h. let r = s .pre .10 h in (r .long, r .short, r .ready .few-places, r .before-room, r .laid-room))
 
 query-follows-requires : tie.Need-query-follows-requires Inv-loop μ-loop
 query-follows-requires c κs = search needs
 
 loop-holds : tie.Need-loop-holds Inv-loop μ-loop
 loop-holds c =
-    let s = c .before .before .before .before .before .before .before .before .before .before .before .before .before .before .before .before in
+    let s = c .before .before .before .before .before .before .before .before .before .before .before .before .before .before .before .before .before in
     (row-start _ _ _ _ _ _ (s .pre .1), s .pre .5, s .pre .7)
 
 query-step-requires : tie.Need-query-step-requires Inv-loop μ-loop
@@ -58,9 +61,11 @@ next-cover-requires c κs =
     let in-loop = c .before .before .before .before in
     let lay = in-loop .before .before .before .before .before .lay in
     let l = in-loop .before .loop in
-    let s = in-loop .before .before .before .before .before .before .before .before .before .before .before .before .before .before .before .before .before .before in (
+    let s = in-loop .before .before .before .before .before .before .before .before .before .before .before .before .before .before .before .before .before .before .before in (
       record {
-        prepared = s .pre .8;
+        labels = s .args .labels;
+        label = in-loop .loop-test .taken;
+        ready = s .pre .8;
         stacked = λ z h few. subst (λ z. Stacked (s .args .w) (s .args .states) (lay .last .1 .1 .1 .1 .1 .1 .0) (numberOf z)) (sym (l .inv .0 .words)) (lay .ensures .0 z h few);
         room = omega (arith, lay .kept .1 .1 .1 .1 .1 .1 .0, s .pre .9);
         by-rows = λ h. rows-kept (s .pre .10 h) (lay .kept .1 .1 .1 .1 .1 .1 .0);
@@ -72,12 +77,12 @@ next-cover-requires c κs =
 
 bucket-requires : tie.Need-bucket-requires Inv-loop μ-loop
 bucket-requires c κs =
-    let s = c .before .before .before .before .before .before .before .before .before .before .before .before .before .before .before .before .before .before .before .before .before .before .before .before in
+    let s = c .before .before .before .before .before .before .before .before .before .before .before .before .before .before .before .before .before .before .before .before .before .before .before .before .before in
     (s .pre .6 .within, c .before .next-cover .ensures .1 (s .args .used) (s .pre .6))
 
 seen-requires : tie.Need-seen-requires Inv-loop μ-loop
 seen-requires c κs =
-    let s = c .before .before .before .before .before .before .before .before .before .before .before .before .before .before .before .before .before .before .before .before .before .before .before .before .before .before .before .before .before in
+    let s = c .before .before .before .before .before .before .before .before .before .before .before .before .before .before .before .before .before .before .before .before .before .before .before .before .before .before .before .before .before .before in
     let l = c .before .before .before .before .before .before .before .before .before .before .before .before .loop in (
       omega (arith, l .inv .0 .within, l .inv .0 .size, s .pre .4),
       omega (arith, l .inv .0 .within, s .pre .2),
@@ -101,7 +106,7 @@ returns c =
     let q = c .before .before .before .before .before .before .before .before .before .before .before .before .before .query-step in
     let in-loop = c .before .before .before .before .before .before .before .before .before .before .before .before .before .before in
     let l = in-loop .before .loop in
-    let s = in-loop .before .before .before .before .before .before .before .before .before .before .before .before .before .before .before .before .before .before in (
+    let s = in-loop .before .before .before .before .before .before .before .before .before .before .before .before .before .before .before .before .before .before .before in (
       row-exceeds _ _ _ _ _ _ (l .a) (l .m) _ (l .inv .0) (in-loop .loop-test .taken) (s .pre .0) (q .result) _
           (record {
             from = getD (s .args .workspace .now) (18 * s .args .i) 0;
@@ -118,19 +123,19 @@ returns c =
 mul-link : tie.Need-mul-link Inv-loop μ-loop
 mul-link c =
     let in-loop = c .before .before .before .before .before .before .before .before .before .before .before .before .before .before in
-    let s = in-loop .before .before .before .before .before .before .before .before .before .before .before .before .before .before .before .before .before .before in
+    let s = in-loop .before .before .before .before .before .before .before .before .before .before .before .before .before .before .before .before .before .before .before in
     omega (arith, in-loop .loop-test .taken, s .pre .3)
 
 add-link : tie.Need-add-link Inv-loop μ-loop
 add-link c =
     let in-loop = c .before .before .before .before .before .before .before .before .before .before .before .before .before .before in
-    let s = in-loop .before .before .before .before .before .before .before .before .before .before .before .before .before .before .before .before .before .before in
+    let s = in-loop .before .before .before .before .before .before .before .before .before .before .before .before .before .before .before .before .before .before .before in
     omega (arith, in-loop .loop-test .taken, s .pre .0, s .pre .1, s .pre .2, s .pre .3)
 
 add-requires : tie.Need-add-requires Inv-loop μ-loop
 add-requires c κs =
     let in-loop = c .before .before .before .before .before .before .before .before .before .before .before .before .before .before .before .before .before .before in
-    let s = in-loop .before .before .before .before .before .before .before .before .before .before .before .before .before .before .before .before .before .before in
+    let s = in-loop .before .before .before .before .before .before .before .before .before .before .before .before .before .before .before .before .before .before .before in
     let l = in-loop .before .loop in
     let m : l .m < s .args .limit = omega (arith, l .inv .0 .within, c .before .before .before .before .if2 .left) in (
       omega (arith, m, l .inv .0 .size, s .pre .4),
@@ -143,13 +148,13 @@ add-requires c κs =
 add-m : tie.Need-add-m Inv-loop μ-loop
 add-m c =
     let in-loop = c .before .before .before .before .before .before .before .before .before .before .before .before .before .before .before .before .before .before .before .before .before in
-    let s = in-loop .before .before .before .before .before .before .before .before .before .before .before .before .before .before .before .before .before .before in
+    let s = in-loop .before .before .before .before .before .before .before .before .before .before .before .before .before .before .before .before .before .before .before in
     omega (arith, in-loop .before .loop .inv .0 .within, s .pre .2)
 
 add-a : tie.Need-add-a Inv-loop μ-loop
 add-a c =
     let in-loop = c .before .before .before .before .before .before .before .before .before .before .before .before .before in
-    let s = in-loop .before .before .before .before .before .before .before .before .before .before .before .before .before .before .before .before .before .before in
+    let s = in-loop .before .before .before .before .before .before .before .before .before .before .before .before .before .before .before .before .before .before .before in
     omega (arith, in-loop .loop-test .taken, s .pre .3)
 
 loop-less : tie.Need-loop-less Inv-loop μ-loop
@@ -159,15 +164,16 @@ loop-again : tie.Need-loop-again Inv-loop μ-loop
 loop-again c =
     let seen = c .before in
     let next = c .before .before .before .before .before .before .before .before .next-cover in
-    let cover = next .last .1 .1 .1 .1 .1 .1 .1 .1 .1 .1 .1 .1 .1 .1 .1 .0 in
+    let cover = next .last .1 .1 .1 .1 .1 .1 .1 .1 .1 .1 .1 .1 .1 .1 .1 .1 .1 .0 in
     let q = c .before .before .before .before .before .before .before .before .before .before .before .before .query-step in
     let in-loop = c .before .before .before .before .before .before .before .before .before .before .before .before .before in
     let l = in-loop .before .loop in
-    let s = in-loop .before .before .before .before .before .before .before .before .before .before .before .before .before .before .before .before .before .before in
+    let s = in-loop .before .before .before .before .before .before .before .before .before .before .before .before .before .before .before .before .before .before .before in
     let D =
     lent (s .args .states) (s .args .labels) (s .args .lists) (s .args .follow .now) (s .args .enter .now) (s .args .sizes .now)
     (s .args .accepting .now) (s .args .table .now) in
-    let step : Stepped D (s .args .w) (s .args .workspace .now) (s .args .i) (l .a) (q .result) cover =
+    let L = layoutOf (suc (occupied (s .args .sizes .now) 0 (s .args .lists))) (s .args .w) (s .args .classed) (s .args .classes .now) in
+    let step : Stepped D L (s .args .workspace .now) (s .args .i) (l .a) (q .result) cover =
     record {
       from = getD (s .args .workspace .now) (18 * s .args .i) 0;
       from-at = refl;
@@ -178,7 +184,7 @@ loop-again c =
     } in
     ⊎-elim
     (λ x. (
-      subst₂ (RowLoop D (s .args .w) (s .args .limit) (s .args .i) (s .args .n) (s .args .workspace .now) (l .a + 1)) (sym (x .12)) (sym (x .9))
+      subst₂ (RowLoop D L (s .args .limit) (s .args .i) (s .args .n) (s .args .workspace .now) (l .a + 1)) (sym (x .12)) (sym (x .9))
           (row-new D _ _ _ _ _ (l .a) (l .m) _ (l .inv .0) (in-loop .loop-test .taken) (s .pre .0) (q .result) cover step
           (seen .seen .result) (x .6 .last .0) (seen .seen .ensures) (not-true (seen .seen .result) (x .0 .taken))
           (omega (arith, l .inv .0 .within, x .1 .left)) (s .pre .2) (next .ensures .2) (x .6 .ensures .0)),
@@ -186,7 +192,7 @@ loop-again c =
       short-same (x .9) (x .12) (short-more (x .6 .ensures .0) (next .ensures .2) (next .ensures .1 (s .args .used) (s .pre .6)) (l .inv .2)),
     ))
     (λ x. (
-      subst₂ (RowLoop D (s .args .w) (s .args .limit) (s .args .i) (s .args .n) (s .args .workspace .now) (l .a + 1)) (sym (x .4)) (sym (x .1))
+      subst₂ (RowLoop D L (s .args .limit) (s .args .i) (s .args .n) (s .args .workspace .now) (l .a + 1)) (sym (x .4)) (sym (x .1))
           (row-known D _ _ _ _ _ (l .a) (l .m) _ (l .inv .0) (in-loop .loop-test .taken) (s .pre .0) (q .result) cover step
           (seen .seen .result) (seen .seen .ensures) (not-false (seen .seen .result) (x .0 .left))),
       indexed-same (x .1) (x .2) (x .3) (x .4) (l .inv .1),

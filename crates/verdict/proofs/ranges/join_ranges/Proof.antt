@@ -7,7 +7,7 @@ use lib.Count.{trailingZeros, trailing-le}
 use lib.ListN.{length}
 use Rattle.places.specs.Words.{numberOf}
 use Rattle.places.specs.NextPlace.{trailing-here}
-use Rattle.verdict.specs.WideRowsPrepared.{offsetFrom}
+use Rattle.verdict.specs.ColumnOffsets.{offsetFrom}
 use Rattle.verdict.specs.Ranges.{RangeAt, Adds}
 use Rattle.verdict.specs.RangesTurns.{AddsLeft, left-start, left-turn, left-end}
 use native.Mathlib.Omega.{arith}

@@ -21,7 +21,7 @@ yielding-requires : tie.Need-yielding-requires
 yielding-requires c κs =
     let s = c .before .before .before .before in
     let (least, few) = gap-fits (s .args .turned) (s .args .w) (s .args .states) (s .pre .0) (s .pre .1) in
-    (subst (λ z. 0 < z) (sym (c .gap .ensures)) least, subst (λ z. s .args .states * z ≤ 1024) (sym (c .gap .ensures)) few, s .pre .3)
+    (subst (λ z. 0 < z) (sym (c .gap .ensures)) least, subst (λ z. s .args .states * z ≤ 1024) (sym (c .gap .ensures)) few, s .pre .2)
 
 first-missed-requires : tie.Need-first-missed-requires
 first-missed-requires c κs = search needs
@@ -30,7 +30,7 @@ returns : tie.Need-returns
 returns c =
     let s = c .before .before .before .before .before .before .before in
     let y = c .before .before .yielding in
-    judged-none (s .args .states) (s .args .flags .now) (s .args .w) (s .args .turned) (s .args .ends) (s .args .n) (s .pre .2) (s .args .workspace .now)
+    judged-none (s .args .states) (s .args .flags .now) (s .args .w) (s .args .turned) (s .args .ends) (s .args .n) (s .args .workspace .now)
     (s .args .path .now) (y .result .words) (c .before .first-missed .result)
     (subst (λ z. Yields (s .args .flags .now) z (s .args .states) (y .result .words)) (c .before .before .before .gap .ensures) (y .ensures)) (c .before .first-missed .ensures)
     (c .if1 .taken)
@@ -48,7 +48,7 @@ returns-2 : tie.Need-returns-2
 returns-2 c =
     let s = c .before .before .before .before .before .before .before .before .before .before .before .before in
     let y = c .before .before .before .before .before .before .before .yielding in
-    judged-some (s .args .states) (s .args .flags .now) (s .args .w) (s .args .turned) (s .args .ends) (s .args .n) (s .pre .2) (s .args .workspace .now)
+    judged-some (s .args .states) (s .args .flags .now) (s .args .w) (s .args .turned) (s .args .ends) (s .args .n) (s .args .workspace .now)
     (s .args .path .now) (y .result .words) (c .before .before .before .before .before .before .first-missed .result)
     (subst (λ z. Yields (s .args .flags .now) z (s .args .states) (y .result .words)) (c .before .before .before .before .before .before .before .before .gap .ensures) (y .ensures)) (c .before .before .before .before .before .before .first-missed .ensures)
     (c .before .before .before .before .depth .result) (c .before .before .write-path .last .1 .1 .1 .0) (c .before .before .before .before .before .if1 .left) (c .before .before .before .before .depth .ensures) (c .before .before .write-path .ensures)

@@ -1,6 +1,6 @@
 -- The four ways through the definition.
 use Prim.Native.Nat.{_<_}
-use mathlib.Core.Path.{sym, _∙_, subst}
+use mathlib.Core.Path.{subst}
 use Rattle.verdict.specs.PairsTold.{lent}
 use Rattle.verdict.specs.VerdictTold.{Placed}
 use Rattle.verdict.specs.Judging.{told-places, told-unfit, told-pairs, told-judged}
@@ -46,7 +46,7 @@ returns-4 c =
     let p = c .before .before .before .before .before .before .before .before .before .placed in
     let r = c .before .before .before .before .explore in
     told-pairs (lent (s .args .states) (s .args .labels) (s .args .lists) (s .args .follow .now) (s .args .enter .now) (s .args .sizes .now) (s .args .accepting .now) (s .args .table .now)) (s .args .flags .now) (s .args .most) (s .args .allowance) (p .result) (p .ensures) (omega (arith, c .before .before .before .before .before .before .before .before .if1 .left))
-    (r .result .turned) (s .args .workspace .now) (s .args .path .now) (r .result .found) (r .last .1 .1 .1 .1 .1 .1 .1 .1 .1 .0) (r .ensures .1) (c .enum-told .given .1)
+    (r .result .turned) (s .args .workspace .now) (s .args .path .now) (r .result .found) (r .last .1 .1 .1 .1 .1 .1 .1 .1 .1 .0) (r .ensures) (c .enum-told .given .1)
 
 shared-slice-read-judged : tie.Need-shared-slice-read-judged
 shared-slice-read-judged c = search needs
@@ -55,10 +55,9 @@ judged-requires : tie.Need-judged-requires
 judged-requires c κs =
     let k : 0 < c .before .before .before .before .before .before .before .before .before .before .before .before .before .placed .result = omega (arith, c .before .before .before .before .before .before .before .before .before .before .before .before .if1 .left) in
     let p = c .before .before .before .before .before .before .before .before .before .before .before .before .before .placed .ensures in
-    let m = c .before .before .before .before .before .before .before .before .explore .ensures .1 .few _ (c .before .before .before .before .found .given .1) in (
+    let m = c .before .before .before .before .before .before .before .before .explore .ensures .told .few _ (c .before .before .before .before .found .given .1) in (
       k,
       omega (arith, p .few k .0, p .few k .1),
-      λ h. c .before .before .before .before .before .before .before .before .explore .ensures .0 h ∙ sym (p .wide k),
       c .before .before .before .before .before .before .before .before .before .before .before .if2 .left,
       omega (arith, m .0, m .2, c .before .before .before .before .before .before .before .before .explore .kept .1 .1 .1 .1 .1 .1 .1 .1 .1 .0),
     )
@@ -77,7 +76,7 @@ returns-5 c =
     let j = c .before .before .judged in
     told-judged (lent (s .args .states) (s .args .labels) (s .args .lists) (s .args .follow .now) (s .args .enter .now) (s .args .sizes .now) (s .args .accepting .now) (s .args .table .now)) (s .args .flags .now) (s .args .most) (s .args .allowance) (p .result) (p .ensures) (omega (arith, c .before .before .before .before .before .before .before .before .before .before .before .before .before .before .before .if1 .left))
     (r .result .turned) (s .args .workspace .now) (s .args .path .now) (r .result .found) (r .last .1 .1 .1 .1 .1 .1 .1 .1 .1 .0) _ (j .result) (j .last .1 .1 .1 .1 .1 .1 .1 .0)
-    (r .ensures .1) (c .before .before .before .before .before .before .before .found .given .1) (j .ensures)
+    (r .ensures) (c .before .before .before .before .before .before .before .found .given .1) (j .ensures)
 
 pub verdict-spec : {M : Type 1} → statement M
 verdict-spec =

@@ -3,7 +3,8 @@ use Prim.Native.Nat.{ℕ, _+_, _-_, _≤_}
 use mathlib.Core.Bool.{false≢true}
 use mathlib.Core.Path.{_≡_, refl, _∙_, subst}
 use lib.ListN.{length}
-use Rattle.verdict.specs.WideRowsPrepared.{ListSteps, steps-start, steps-turn, offset-small}
+use Rattle.verdict.specs.ColumnOffsets.{offset-small}
+use Rattle.verdict.specs.WideRowsPrepared.{ListSteps, steps-start, steps-turn}
 use Rattle.verdict.specs.WordBits.{first-none}
 use native.Mathlib.Omega.{arith}
 use Rattle.verdict.proofs.wide_rows.list_steps.Statement.{statement}

@@ -1,6 +1,6 @@
 -- The start has the offset 0, an occurrence comes after `base`.
 use mathlib.Core.Path.{sym}
-use Rattle.verdict.specs.WideRowsPrepared.{offset-none, offset-some}
+use Rattle.verdict.specs.ColumnOffsets.{offset-none, offset-some}
 use borrow.Author.Needs.{needs}
 use Rattle.verdict.proofs.wide_rows.offset_from.Statement.{statement}
 use Rattle.verdict.proofs.wide_rows.offset_from.Tie as tie
