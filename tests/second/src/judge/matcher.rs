@@ -46,6 +46,18 @@ pub fn offsets(job: &Job) -> usize {
     1 + job.lists.iter().map(|list| occurrences(&list.expr)).sum::<usize>()
 }
 
+/// How many beginnings the lists have that are sequences, those of several
+/// lists counted once.
+pub fn beginnings(job: &Job) -> usize {
+    let mut found = BTreeSet::new();
+    for list in &job.lists {
+        if let Expr::Seq(parts) = &list.expr {
+            found.extend((1..=parts.len()).map(|length| format!("{:?}", &parts[..length])));
+        }
+    }
+    found.len()
+}
+
 /// The occurrences that can be the last one read when `path`, not empty,
 /// begins a path of the expression. The first occurrence has the number
 /// `number`.

@@ -7,7 +7,7 @@ mod rewriting;
 mod verdict;
 mod words;
 
-pub use matcher::{is_path_of, lasts, longest, occurrences, offsets, sequences, standing};
+pub use matcher::{beginnings, is_path_of, lasts, longest, occurrences, offsets, sequences, standing};
 pub use rewriting::Rewriting;
 pub use verdict::Judged;
 pub use words::Words;

@@ -9,7 +9,7 @@ pub use near_limits::with_pairs;
 
 use crate::generate::{right_text, Random};
 use by_lists::{beside_lists, list_dropped, of_lists, small, wide};
-use near_limits::{at_limit_of_places, far, many_states};
+use near_limits::{at_limit_of_places, far, long_lists, many_states};
 use parts::drawn;
 
 #[derive(Clone, Copy, Debug, PartialEq, Eq)]
@@ -28,6 +28,8 @@ pub enum Kind {
     Places,
     /// Over 64 states, and no more cover places than may be.
     States,
+    /// Long lists that begin differently.
+    Long,
     /// Over 128 pairs.
     Pairs,
     /// Over 64 standings or over 256 states.
@@ -37,7 +39,7 @@ pub enum Kind {
 }
 
 impl Kind {
-    pub const ALL: [Kind; 10] = [
+    pub const ALL: [Kind; 11] = [
         Kind::Small,
         Kind::OfLists,
         Kind::BesideLists,
@@ -45,6 +47,7 @@ impl Kind {
         Kind::Wide,
         Kind::Places,
         Kind::States,
+        Kind::Long,
         Kind::Pairs,
         Kind::Far,
         Kind::Right,
@@ -59,6 +62,7 @@ impl Kind {
             Kind::Wide => "many labels and lists",
             Kind::Places => "about 1024 cover places",
             Kind::States => "over 64 states",
+            Kind::Long => "long lists that begin differently",
             Kind::Pairs => "over 128 pairs",
             Kind::Far => "over 64 standings or 256 states",
             Kind::Right => "any right job",
@@ -75,6 +79,7 @@ impl Kind {
             Kind::Wide => drawn(random, wide),
             Kind::Places => at_limit_of_places(random),
             Kind::States => many_states(random),
+            Kind::Long => long_lists(random),
             Kind::Pairs => with_pairs(random, 129, 700),
             Kind::Far => drawn(random, far),
             Kind::Right => right_text(random),

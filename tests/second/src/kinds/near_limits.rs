@@ -76,6 +76,31 @@ pub fn many_states(random: &mut Random) -> Vec<u8> {
     }
 }
 
+/// A job with long lists and no more cover places than there may be. The lists
+/// mostly begin differently, so that few of their occurrences are reached by
+/// the same paths.
+pub fn long_lists(random: &mut Random) -> Vec<u8> {
+    loop {
+        let count = random.between(2, 3);
+        let labels = labels(random, count);
+        let mut lists = Vec::new();
+        for _ in 0..random.between(4, 9) {
+            let length = random.between(10, 28);
+            lists.push(row(random, &labels, length, 3));
+        }
+        let query = match random.below(3) {
+            0 => format!("({})*", labels.join("|")),
+            1 => format!("({})*", lists[0]),
+            _ => format!("({}|{})*", lists[0], lists[1]),
+        };
+        let text = Parts { labels, query, lists }.text();
+        let Ok(job) = read(&text) else { continue };
+        if states(&job).is_some_and(|states| states * offsets(&job) <= MOST_PLACES) {
+            return text;
+        }
+    }
+}
+
 /// A job whose exact count of pairs lies from `low` to `high`; above 4,096 it
 /// need only be above `low`.
 pub fn with_pairs(random: &mut Random, low: usize, high: usize) -> Vec<u8> {

@@ -24,7 +24,8 @@ enum Made {
 
 fn made(number: usize) -> Made {
     match number % 100 {
-        0..=49 => Made::Of(Kind::Small),
+        0..=48 => Made::Of(Kind::Small),
+        49 => Made::Of(Kind::Long),
         50..=62 => Made::Of(Kind::OfLists),
         63..=76 => Made::Of(Kind::BesideLists),
         77..=86 => Made::Of(Kind::ListDropped),

@@ -1,7 +1,7 @@
 //! Counts of what a run met, and the least that a run must meet.
 
 use crate::comparison::Told;
-use second::judge::{is_path_of, offsets};
+use second::judge::{beginnings, is_path_of, offsets};
 use second::kinds::Kind;
 use second::operations::MOST_ALLOWANCE;
 use second::read::Job;
@@ -36,6 +36,8 @@ pub struct Tally {
     many_states: [usize; 2],
     /// Over 64 offsets with at most four lists, and with more.
     many_offsets: [usize; 2],
+    /// Over 64 beginnings of lists, at most four of them, or more.
+    many_beginnings: [usize; 2],
     /// Random jobs refused 13, by the allowance.
     pub over: [usize; ALLOWANCES.len() + 2],
     pub judged: usize,
@@ -92,6 +94,9 @@ impl Tally {
         if offsets(job) > 64 {
             self.many_offsets[usize::from(job.lists.len() > 4)] += 1;
         }
+        if beginnings(job) > 64 {
+            self.many_beginnings[usize::from(job.lists.len() > 4)] += 1;
+        }
     }
 
     /// Stops the run if too few of some kind were met.
@@ -123,6 +128,9 @@ impl Tally {
         }
         for count in self.many_offsets {
             floor("over 64 offsets, at most four lists or more", count, 20);
+        }
+        for count in self.many_beginnings {
+            floor("over 64 beginnings of lists, at most four or more", count, 10);
         }
         for number in 1..=13 {
             floor(&format!("refused {number}"), self.refused[number], 20);
@@ -174,6 +182,8 @@ impl Display for Tally {
         line(self.many_states[1], "over 64 states, with the empty path in a list")?;
         line(self.many_offsets[0], "over 64 offsets, at most four lists")?;
         line(self.many_offsets[1], "over 64 offsets, more lists")?;
+        line(self.many_beginnings[0], "over 64 beginnings of at most four lists")?;
+        line(self.many_beginnings[1], "over 64 beginnings of more lists")?;
         line(self.judged, "judged")?;
         line(self.judged_words, "judged list words")?;
         line(self.judged_whole, "judged counts of pairs")?;
