@@ -1,8 +1,9 @@
 -- An index of the pairs in a workspace (PairTable), by which a pair is found again (finding: Buckets): 4,093 buckets.
-use Prim.Native.Nat.{ℕ, _+_, _*_, _%_, _^_, _≤_, _<_}
+use Prim.Native.Nat.{ℕ, zero, suc, _+_, _*_, _/_, _%_, _^_, _<_}
 use mathlib.Core.List.{List}
 use mathlib.Core.Path.{_≡_}
-use lib.ListN.{drop}
+use lib.Bits.{bitXor}
+use Rattle.theory.specs.Places.{union}
 use Rattle.places.specs.Words.{numberOf}
 use Rattle.finding.specs.Buckets.{Chained}
 use Rattle.verdict.specs.Pairs.{Pair}
@@ -10,23 +11,21 @@ use Rattle.verdict.specs.PairTable.{wordsAt, pairAt}
 use Rattle.verdict.specs.declared.pairs.Explored.{Explored}
 use Rattle.verdict.specs.declared.pairs.Explored.the-variants.{All}
 
--- The bucket of a pair: the remainder of its seventeen words as one number. 4,093 is a prime of which 2 is a primitive root, so any 4,092
--- neighbouring places weigh differently.
+-- A word of 64 bits rotated by 23 places: what leaves it at the upper end comes in at the lower.
+abbrev pub rotated : ℕ → ℕ
+rotated m = union (m * 2 ^ 23 % 2 ^ 64) (m / 2 ^ 41)
+
+-- The k lowest words of a set mixed into one, from the last to the first: what was mixed before is rotated, then the word joins it. Words of
+-- zeros behind the others change nothing.
+unfoldable pub mixOf : ℕ → ℕ → ℕ
+mixOf zero s = 0
+mixOf (suc k) s = bitXor (rotated (mixOf k (s / 2 ^ 64))) (s % 2 ^ 64)
+
+-- The bucket of a pair. It is no number with a meaning; it only spreads the pairs. Its seventeen words, the standing as the lowest, are mixed
+-- into one, of which it is the remainder: the rotation by 23 keeps words at different places apart, as no two of the seventeen are rotated by
+-- the same number of places.
 unfoldable pub bucketOf : Pair → ℕ
-bucketOf x = (x .cover * 2 ^ 64 + x .standing) % 4093
-
--- With what the halves of the word j count for the bucket.
-
-abbrev pub lowWeight : ℕ → ℕ
-lowWeight j = 2 ^ (64 * (j + 1)) % 4093
-
-abbrev pub highWeight : ℕ → ℕ
-highWeight j = 2 ^ (64 * (j + 1) + 32) % 4093
-
--- The sum, with the words from j on, has the remainder of the standing and all words.
-pub record Summed (l : List ℕ) (standing j sum : ℕ) : Type 0 where
-  pub small : sum ≤ 4092 + 2 ^ 45 * j
-  pub left : (sum + numberOf (drop j l) * 2 ^ (64 * (j + 1))) % 4093 ≡ (numberOf l * 2 ^ 64 + standing) % 4093
+bucketOf x = bitXor (rotated (mixOf 16 (x .cover))) (x .standing) % 4093
 
 -- The first n pairs are indexed.
 pub record Indexed (space : List ℕ) (n : ℕ) (heads nexts : List ℕ) : Type 0 where

@@ -3,12 +3,10 @@
 use Prim.Native.Nat.{ℕ, zero, suc, _+_, _*_, _-_, _/_, _%_, _^_, _≤_, _<_}
 use mathlib.Core.Bool.{true, false, true≢false, false≢true}
 use mathlib.Core.List.{List, [], _∷_}
-use mathlib.Core.Path.{_≡_, refl, sym, ap, _∙_, subst, subst₂}
-use native.Mathlib.Nat.{mul-assoc, mul-comm, mul-add, add-mul, zero-mul, mul-le-mul, div-add-mod, mod-add-div', mul-add-mod-self-left}
-use native.Mathlib.Numerals.{add-one}
+use mathlib.Core.Path.{_≡_, refl, sym, ap, ap₂, _∙_, subst, subst₂}
 use native.Mathlib.Omega.{arith}
+use lib.Bits.{bitXor}
 use lib.ListN.{length, getD, drop, replicate}
-use lib.Pow.{pow-add}
 use borrow.Author.Count.{below-none, below-more}
 use Rattle.places.specs.Words.{numberOf}
 use Rattle.finding.specs.Buckets.{Noted, Walk}
@@ -18,14 +16,14 @@ use Rattle.verdict.specs.PairTable.{pairAt, Stored, Seen}
 use Rattle.verdict.specs.PairTableLaws.{stored-pair, other-pair}
 use Rattle.verdict.specs.Workspace.{pair}
 use Rattle.verdict.specs.WordBits.{number-past}
-use Rattle.verdict.specs.PairIndex.{bucketOf, lowWeight, highWeight, Summed, Indexed, IndexedAll, Short, ShortAll}
+use Rattle.verdict.specs.PairIndex.{rotated, mixOf, bucketOf, Indexed, IndexedAll, Short, ShortAll}
 use Rattle.verdict.specs.declared.pairs.Explored.the-variants.{All, Over}
 
 pub bucket-below : (x : Pair) → bucketOf x < 4093
 unfolding bucketOf
 bucket-below x = omega arith
 
--- The bucket, word by word from the lowest.
+-- The bucket, word by word from the last: the words from j on are mixed.
 
 number-from : (l : List ℕ) (j : ℕ) → numberOf (drop j l) ≡ numberOf (drop (suc j) l) * 2 ^ 64 + getD l j 0
 unfolding numberOf
@@ -34,85 +32,42 @@ number-from [] (suc j) = refl
 number-from (w ∷ l) zero = refl
 number-from (w ∷ l) (suc j) = number-from l j
 
-times-rest : (a p : ℕ) → (a * (p % 4093)) % 4093 ≡ (a * p) % 4093
-times-rest a p =
-    let swap : a * (4093 * (p / 4093)) ≡ 4093 * (a * (p / 4093)) =
-    sym (mul-assoc a 4093 (p / 4093)) ∙ ap (λ (z : ℕ). z * (p / 4093)) (mul-comm a 4093) ∙ mul-assoc 4093 a (p / 4093) in
-    let parts : a * p ≡ 4093 * (a * (p / 4093)) + a * (p % 4093) =
-    ap (λ (z : ℕ). a * z) (sym (div-add-mod p 4093)) ∙ mul-add a (4093 * (p / 4093)) (p % 4093)
-    ∙ ap (λ (z : ℕ). z + a * (p % 4093)) swap in
-    sym (ap (λ (z : ℕ). z % 4093) parts ∙ mul-add-mod-self-left 4093 (a * (p / 4093)) (a * (p % 4093)))
+-- A set without a place mixes to nothing.
+mix-none : (k : ℕ) → mixOf k 0 ≡ 0
+unfolding mixOf
+mix-none zero = refl
+mix-none (suc k) = ap (λ (z : ℕ). bitXor (rotated z) 0) (mix-none k)
 
--- What the halves of the word j count.
-module _ (word j : ℕ) where
-  abbrev weighed : ℕ
-  weighed = word % 2 ^ 32 * lowWeight j + word / 2 ^ 32 * highWeight j
+-- The word in front of the mixed ones joins them.
+mix-more : (l : List ℕ) (k i : ℕ) → getD l i 0 < 2 ^ 64
+    → bitXor (rotated (mixOf k (numberOf (drop (suc i) l)))) (getD l i 0) ≡ mixOf (suc k) (numberOf (drop i l))
+unfolding mixOf
+mix-more l k i fits =
+    let up : numberOf (drop (suc i) l) ≡ numberOf (drop i l) / 2 ^ 64 = omega (arith, number-from l i) in
+    let low : getD l i 0 ≡ numberOf (drop i l) % 2 ^ 64 = omega (arith, number-from l i) in
+    ap₂ (λ (x y : ℕ). bitXor (rotated (mixOf k x)) y) up low
 
-  halves : word % 2 ^ 32 * 2 ^ (64 * (j + 1)) + word / 2 ^ 32 * 2 ^ (64 * (j + 1) + 32) ≡ word * 2 ^ (64 * (j + 1))
-  halves =
-      let p = 2 ^ (64 * (j + 1)) in
-      ap (λ (z : ℕ). word % 2 ^ 32 * p + word / 2 ^ 32 * z) (pow-add 2 (64 * (j + 1)) 32 ∙ mul-comm p (2 ^ 32))
-      ∙ ap (λ (z : ℕ). word % 2 ^ 32 * p + z) (sym (mul-assoc (word / 2 ^ 32) (2 ^ 32) p))
-      ∙ sym (add-mul (word % 2 ^ 32) (word / 2 ^ 32 * 2 ^ 32) p)
-      ∙ ap (λ (z : ℕ). z * p) (mod-add-div' word (2 ^ 32))
+-- All places of the set are in the first j words.
+pub mixed-start : (l : List ℕ) (j : ℕ) → numberOf l < 2 ^ (64 * j) → 0 ≡ mixOf (16 - j) (numberOf (drop j l))
+mixed-start l j h = sym (ap (mixOf (16 - j)) (number-past l j h) ∙ mix-none (16 - j))
 
-  same-rest : weighed % 4093 ≡ (word * 2 ^ (64 * (j + 1))) % 4093
-  same-rest =
-      let low = times-rest (word % 2 ^ 32) (2 ^ (64 * (j + 1))) in
-      let high = times-rest (word / 2 ^ 32) (2 ^ (64 * (j + 1) + 32)) in
-      omega (arith, halves)
+pub mixed-turn : (l : List ℕ) (j mix : ℕ) → 0 < j → j ≤ 16 → getD l (j - 1) 0 < 2 ^ 64 → mix ≡ mixOf (16 - j) (numberOf (drop j l))
+    → bitXor (rotated mix) (getD l (j - 1) 0) ≡ mixOf (16 - (j - 1)) (numberOf (drop (j - 1) l))
+mixed-turn l j mix p h fits e =
+    let i = j - 1 in
+    let one : j ≡ suc i = omega arith in
+    let count : suc (16 - j) ≡ 16 - i = omega arith in
+    ap (λ (z : ℕ). bitXor (rotated z) (getD l i 0)) (e ∙ ap (λ (z : ℕ). mixOf (16 - j) (numberOf (drop z l))) one)
+    ∙ mix-more l (16 - j) i fits
+    ∙ ap (λ (z : ℕ). mixOf z (numberOf (drop i l))) count
 
--- What the halves of a word count is small.
-pub halves-small : (word j low high : ℕ) → word < 2 ^ 64 → low ≡ lowWeight j → high ≡ highWeight j
-    → (word % 2 ^ 32 * low < 2 ^ 44) × (word / 2 ^ 32 * high < 2 ^ 44)
-halves-small word j low high h e f =
-    (small (word % 2 ^ 32) low (omega arith) (omega arith), small (word / 2 ^ 32) high (omega arith) (omega arith))
-  where
-    small : (a b : ℕ) → a ≤ 2 ^ 32 → b ≤ 4092 → a * b < 2 ^ 44
-    small a b x y = omega (arith, mul-le-mul x y)
-
-pub summed-start : (l : List ℕ) (standing : ℕ) → Summed l standing 0 (standing % 4093)
-summed-start l standing =
-    record {
-      small = omega arith;
-      left = omega arith;
-    }
-
-pub summed-turn : (l : List ℕ) (standing j sum low high : ℕ) → getD l j 0 < 2 ^ 64 → low ≡ lowWeight j → high ≡ highWeight j
-    → Summed l standing j sum
-    → Summed l standing (j + 1) (sum + (getD l j 0 % 2 ^ 32 * low + getD l j 0 / 2 ^ 32 * high))
-summed-turn l standing j sum low high fits e f s =
-    record {
-      small = omega (arith, s .small, halves-small word j low high fits e f);
-      left =
-          let same : (word % 2 ^ 32 * low + word / 2 ^ 32 * high) % 4093 ≡ (word * p) % 4093 =
-          ap (λ (z : ℕ). (word % 2 ^ 32 * z + word / 2 ^ 32 * high) % 4093) e
-          ∙ ap (λ (z : ℕ). (word % 2 ^ 32 * lowWeight j + word / 2 ^ 32 * z) % 4093) f
-          ∙ same-rest word j in
-          omega (arith, s .left, next);
-    }
-  where
-    word : ℕ
-    word = getD l j 0
-
-    p : ℕ
-    p = 2 ^ (64 * (j + 1))
-
-    next : numberOf (drop j l) * p ≡ numberOf (drop (j + 1) l) * 2 ^ (64 * (j + 1 + 1)) + word * p
-    next =
-        let up : 64 + 64 * (j + 1) ≡ 64 * (j + 1 + 1) = omega arith in
-        ap (λ (z : ℕ). z * p) (number-from l j) ∙ add-mul (numberOf (drop (suc j) l) * 2 ^ 64) word p
-        ∙ ap (λ (z : ℕ). z + word * p) (mul-assoc (numberOf (drop (suc j) l)) (2 ^ 64) p
-        ∙ ap (λ (z : ℕ). numberOf (drop (suc j) l) * z) (sym (pow-add 2 64 (64 * (j + 1))) ∙ ap (λ (z : ℕ). 2 ^ z) up)
-        ∙ ap (λ (z : ℕ). numberOf (drop z l) * 2 ^ (64 * (j + 1 + 1))) (sym (add-one j)))
-
--- All places of the set are in the words summed.
-pub summed-end : (l : List ℕ) (standing j sum : ℕ) → numberOf l < 2 ^ (64 * j) → Summed l standing j sum → sum % 4093 ≡ bucketOf (pair standing l)
+-- All words are mixed.
+pub mixed-end : (l : List ℕ) (standing j mix : ℕ) → j ≤ 0 → mix ≡ mixOf (16 - j) (numberOf (drop j l))
+    → bitXor (rotated mix) standing % 4093 ≡ bucketOf (pair standing l)
 unfolding bucketOf
-summed-end l standing j sum h s =
-    let none : numberOf (drop j l) * 2 ^ (64 * (j + 1)) ≡ 0 =
-    ap (λ (z : ℕ). z * 2 ^ (64 * (j + 1))) (number-past l j h) ∙ zero-mul (2 ^ (64 * (j + 1))) in
-    omega (arith, s .left)
+mixed-end l standing j mix h e =
+    let z : j ≡ 0 = omega arith in
+    ap (λ (x : ℕ). bitXor (rotated x) standing % 4093) (e ∙ ap (λ (k : ℕ). mixOf (16 - k) (numberOf (drop k l))) z)
 
 -- No pair is indexed.
 pub indexed-none : (space : List ℕ) → Indexed space 0 (replicate 4093 0) (replicate 4096 0)

@@ -6,69 +6,33 @@ ghost use Rattle.places.specs.Words.{numberOf};
 ghost use Rattle.finding.specs.Buckets.{Noted};
 ghost use Rattle.verdict.specs.PairTable.{wordsAt, Compared, Seen};
 ghost use Rattle.verdict.specs.Workspace.{pair};
-ghost use Rattle.verdict.specs.PairIndex.{bucketOf, Indexed, Short};
+ghost use Rattle.verdict.specs.PairIndex.{rotated, bucketOf, Indexed, Short};
 
-// The remainders by 4,093 of 2 ^ (64 × (j + 1)), with which the lower half of the word j counts, and of 2 ^ (64 × (j + 1) + 32), with which
-// its upper half does.
-const LOWS: [u64; 16] = [
-    3888,
-    1095,
-    640,
-    3869,
-    897,
-    300,
-    3988,
-    1060,
-    3722,
-    2381,
-    3055,
-    4047,
-    1244,
-    2839,
-    3304,
-    2118,
-];
+// A word rotated by 23 places: what leaves it at the upper end comes in at the lower.
+fn rotate(word: u64) -> u64
+    ensures { λ r. ⌜ r ≡ rotated word ⌝ }
+{
+    (word << 23) | (word >> 41)
+}
 
-const HIGHS: [u64; 16] = [
-    2468,
-    1592,
-    1080,
-    3715,
-    3816,
-    3576,
-    3660,
-    2812,
-    653,
-    1204,
-    2853,
-    434,
-    1076,
-    442,
-    3529,
-    1016,
-];
-
-// The remainder of a pair whose cover set stands in the first `count` words: the halves of the words are summed, each with what it counts,
-// and divided once.
+// The bucket of a pair whose cover set stands in the first `count` words. The words are mixed from the last to the first, so that words of
+// zeros behind them would change nothing.
 fn remainder(standing: u64, cover: &[u64; 16], count: usize) -> usize
     requires { ⌜ (count ≤ 16) × (numberOf (now cover) < 2 ^ (64 * count)) ⌝ }
     ensures { λ r. ⌜ r ≡ bucketOf (pair standing (now (cover .entry))) ⌝ }
 {
     let words: &[u64] = cover;
-    let lows = LOWS;
-    let highs = HIGHS;
-    let mut sum: u64 = standing % 4093;
-    let mut j = 0;
-    while j < count {
-        let word = words[j];
-        sum += (word % 4294967296) * lows[j] + (word / 4294967296) * highs[j];
-        j += 1;
+    let mut mix: u64 = 0;
+    let mut j = count;
+    while 0 < j {
+        j -= 1;
+        mix = rotate(mix) ^ words[j];
     }
-    (sum % 4093) as usize
+    ((rotate(mix) ^ standing) % 4093) as usize
 }
 
 // The bucket of a pair whose cover set stands in the first `used` words. With a number of words that is known when the code is compiled,
-// what the words count is in the code.
+// the words are mixed without a loop.
 pub fn bucket(standing: u64, cover: &[u64; 16], used: usize) -> usize
     requires { ⌜ (used ≤ 16) × (numberOf (now cover) < 2 ^ (64 * used)) ⌝ }
     ensures { λ r. ⌜ r ≡ bucketOf (pair standing (now (cover .entry))) ⌝ }
