@@ -12,7 +12,7 @@ use lib.ListN.{length, getD, set, length-set}
 use lib.Pow.{shr-shr}
 use lib.Seq.{getD-set-same, getD-set-other}
 use Rattle.theory.specs.Places.{Member, union, unionOver}
-use Rattle.theory.specs.PlacesLaws.{member-none, member-one, one-below, member-below, members-below, member-union, member-unionOver}
+use Rattle.theory.specs.PlacesLaws.{member-none, member-below, members-below, member-union, member-unionOver}
 use Rattle.theory.specs.PlacesLaws.{equal-members, not-none}
 use Rattle.theory.specs.PlacesShift.{member-cut, member-down}
 use Rattle.places.specs.UnionLaws.{union-assoc}
@@ -212,21 +212,6 @@ split-four f s small = equal-members (union low high) (unionOver f 64 s) λ y. (
         inr (member-unionOver (λ q. f (4 + q)) 64 (s / 2 ^ 4) y .1
         (x - 4, omega arith, member-down 4 (x - 4) s .1 (subst (λ z. Member z s) e a), subst (λ z. Member y (f z)) e b))
 
--- The word of one place.
-over-one : (f : ℕ → ℕ) (n i : ℕ) → i < n → unionOver f n (2 ^ i) ≡ f i
-over-one f n i h = equal-members (unionOver f n (2 ^ i)) (f i) λ y. (
-  λ m. let (x, l, a, b) = member-unionOver f n (2 ^ i) y .0 m in subst (λ z. Member y (f z)) (member-one x i .0 a) b,
-  λ m. member-unionOver f n (2 ^ i) y .1 (i, h, member-one i i .1 refl, m),
-)
-
--- The sum of one state of four is its word.
-alone-summed : (word : ℕ → ℕ) (sums count q : ℕ) (ended : List ℕ) → SummedBy word sums count ended → q < 4 * count
-    → getD ended (sums + 16 * (q / 4) + 2 ^ (q % 4)) 0 ≡ word q
-alone-summed word sums count q ended s h =
-    s .summed (q / 4) (2 ^ (q % 4)) (omega arith) (one-below 4 (q % 4) (omega arith))
-    ∙ over-one (λ i. word (4 * (q / 4) + i)) 4 (q % 4) (omega arith)
-    ∙ (let e : 4 * (q / 4) + q % 4 ≡ q = omega arith in ap word e)
-
 -- Four states k times are joined, and `rest` are left, whose sums stand from `at` on.
 pub record SumsLeft (ended : List ℕ) (sums ends all rest at : ℕ) : Type 0 where
   pub k : ℕ
@@ -316,38 +301,6 @@ module _ (ended : List ℕ) (sums ends : ℕ) where
               sym (or-zero-r all) ∙ ap (union all) (sym (ap (unionOver f 64) z ∙ over-none f 64)) ∙ s .joined word count t below;
           inside = s .inside;
         }
-
-  -- No states, and one state alone.
-
-  pub joined-none : ends ≡ 0 → SumsJoined ended sums ends 0
-  joined-none z =
-      record { exact = λ word count t below. sym (ap (unionOver word 64) z ∙ over-none word 64); inside = λ t m. absurd (member-none t m) }
-
-  pub joined-one : (r : ℕ) → ends ≢ 0 → ends < 2 ^ 64 → bitAnd ends (ends - 1) ≡ 0
-      → r ≡ getD ended (sums + 16 * (trailingZeros 64 ends / 4) + 2 ^ (trailingZeros 64 ends % 4)) 0 → SumsJoined ended sums ends r
-  joined-one r d h z e =
-      record {
-        exact = λ word count t below.
-            e ∙ alone-summed word sums count q ended t (member-below (4 * count) ends q below here)
-            ∙ sym (or-zero-r (word q))
-            ∙ ap (union (word q)) (sym (ap (unionOver word 64) z ∙ over-none word 64))
-            ∙ least-first word ends d h;
-        inside = λ t m. (
-          q,
-          q / 4,
-          2 ^ (q % 4),
-          here,
-          omega arith,
-          one-below 4 (q % 4) (omega arith),
-          subst (Member t) e m,
-        );
-      }
-    where
-      q : ℕ
-      q = trailingZeros 64 ends
-
-      here : Member q ends
-      here = trailing-here 64 ends d h
 
 -- The sums of a list are those of its words.
 pub list-sums : (lists n v : ℕ) (ended : List ℕ) → v < lists → Sums lists n ended

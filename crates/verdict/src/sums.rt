@@ -1,7 +1,7 @@
 // Sums: the states that are reached where a path of a list ends, from each set of four neighbouring states. They stand behind what is reached
 // from each state alone, sixteen words for four states, so that a step joins one word for four states.
-ghost use Prim.Native.Nat.{ℕ, _+_, _-_, _*_, _/_, _%_, _^_, _≤_, _<_};
-ghost use Rattle.theory.specs.Places.{Member, intersection};
+ghost use Prim.Native.Nat.{ℕ, _+_, _*_, _/_, _≤_, _<_};
+ghost use Rattle.theory.specs.Places.{Member};
 ghost use mathlib.Core.Path.{_≡_};
 ghost use lib.ListN.{length, getD};
 ghost use Rattle.verdict.specs.Sums.{SumsRoom, FourSummed, ListSummed, Sums, SumsJoined};
@@ -48,7 +48,7 @@ pub fn sum_lists(ended: &mut [u64], lists: usize, n: usize)
 }
 
 // The union of the words of the states of a set: four states at a time, by the sums of the words, which stand from `sums` on.
-fn ended_from(ended: &[u64], sums: usize, ends: u64) -> u64
+pub fn ended_of(ended: &[u64], sums: usize, ends: u64) -> u64
     requires { ⌜ ((q : ℕ) → Member q ends → sums + 16 * (q / 4) + 16 ≤ length (now ended)) ⌝ }
     ensures { λ r. ⌜ SumsJoined (now (ended .entry)) sums ends r ⌝ }
 {
@@ -61,36 +61,4 @@ fn ended_from(ended: &[u64], sums: usize, ends: u64) -> u64
         at += 16;
     }
     all
-}
-
-// The states of a set but the least.
-fn others(set: u64) -> u64
-    ensures { λ r. ⌜ r ≡ intersection set (set - 1) ⌝ }
-{
-    if set == 0 {
-        return 0;
-    }
-    set & (set - 1)
-}
-
-// The word of a state is the sum of that state alone.
-fn ended_alone(ended: &[u64], sums: usize, q: usize) -> u64
-    requires { ⌜ (q < 64) × (sums + 16 * (q / 4) + 16 ≤ length (now ended)) ⌝ }
-    ensures { λ r. ⌜ r ≡ getD (now (ended .entry)) (sums + 16 * (q / 4) + 2 ^ (q % 4)) 0 ⌝ }
-{
-    ended[sums + 16 * (q / 4) + (1 << (q % 4))]
-}
-
-// The same: the word of one state alone is read off at once, of more states the sums are joined.
-pub fn ended_of(ended: &[u64], sums: usize, ends: u64) -> u64
-    requires { ⌜ ((q : ℕ) → Member q ends → sums + 16 * (q / 4) + 16 ≤ length (now ended)) ⌝ }
-    ensures { λ r. ⌜ SumsJoined (now (ended .entry)) sums ends r ⌝ }
-{
-    if ends == 0 {
-        return 0;
-    }
-    if others(ends) == 0 {
-        return ended_alone(ended, sums, u64::trailing_zeros(ends) as usize);
-    }
-    ended_from(ended, sums, ends)
 }

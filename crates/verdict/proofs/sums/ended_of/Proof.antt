@@ -1,41 +1,51 @@
--- `ended_of` meets its contract: from one state alone, or by sums.
-use mathlib.Core.Path.{sym, _∙_}
-use lib.Count.{trailing-le}
+-- The loop's invariant: what has been joined, with what is reached from the states left, is what is reached from all (SumsLeft). The measure
+-- is the states left.
+use Rattle.verdict.specs.SumsLaws.{SumsLeft, left-start, left-room, left-turn, left-end}
 use native.Mathlib.Omega.{arith}
-use borrow.Author.Needs.{needs}
-use Rattle.places.specs.NextPlace.{trailing-here}
-use Rattle.places.specs.Followed.{least-small}
-use Rattle.verdict.specs.SumsLaws.{joined-none, joined-one}
 use Rattle.verdict.proofs.sums.ended_of.Statement.{statement}
 use Rattle.verdict.proofs.sums.ended_of.Tie as tie
 
-returns : tie.Need-returns
-returns c = joined-none _ _ _ (c .if1 .taken)
+abbrev Inv-loop : tie.InvT-loop
+Inv-loop ended sums ends all₀ rest₀ at₀ all rest at = SumsLeft ended sums ends all rest at
 
-others-requires : tie.Need-others-requires
-others-requires c κs = search needs
+abbrev μ-loop : tie.MeasureT-loop
+μ-loop ended sums ends all₀ rest₀ at₀ all rest at = rest
 
-cast-ended-alone : tie.Need-cast-ended-alone
-cast-ended-alone c = omega (arith, trailing-le 64 (c .before .before .before .before .args .ends))
+loop-holds : tie.Need-loop-holds Inv-loop μ-loop
+loop-holds c = left-start _ _ (c .args .ends) (omega arith)
 
-ended-alone-requires : tie.Need-ended-alone-requires
-ended-alone-requires c κs =
-    let s = c .before .before .before .before in
-    let d = c .before .before .if1 .left in
-    (least-small (s .args .ends) d (omega arith), s .pre _ (trailing-here 64 (s .args .ends) d (omega arith)))
+add-all : tie.Need-add-all Inv-loop μ-loop
+add-all c = omega (arith, left-room _ _ _ _ _ _ (c .before .loop .inv) (c .loop-test .taken) (c .before .before .pre))
 
-returns-2 : tie.Need-returns-2
-returns-2 c =
-    let s = c .before .before .before .before .before in
-    joined-one (s .args .ended .now) (s .args .sums) (s .args .ends) (c .ended-alone .result) (c .before .before .before .if1 .left) (omega arith)
-    (sym (c .before .before .others .ensures) ∙ c .before .if2 .taken) (c .ended-alone .ensures)
+mul-all : tie.Need-mul-all Inv-loop μ-loop
+mul-all c = omega (arith, left-room _ _ _ _ _ _ (c .before .loop .inv) (c .loop-test .taken) (c .before .before .pre))
 
-ended-from-requires : tie.Need-ended-from-requires
-ended-from-requires c κs = c .before .before .before .before .pre
+shared-slice-read-all : tie.Need-shared-slice-read-all Inv-loop μ-loop
+shared-slice-read-all c = omega (arith, left-room _ _ _ _ _ _ (c .before .before .loop .inv) (c .before .loop-test .taken) (c .before .before .before .pre))
 
-returns-3 : tie.Need-returns-3
-returns-3 c = c .ended-from .ensures
+add-at : tie.Need-add-at Inv-loop μ-loop
+add-at c = omega (arith, left-room _ _ _ _ _ _ (c .before .before .loop .inv) (c .before .loop-test .taken) (c .before .before .before .pre))
+
+loop-less : tie.Need-loop-less Inv-loop μ-loop
+loop-less c = omega (arith, c .before .loop-test .taken)
+
+loop-again : tie.Need-loop-again Inv-loop μ-loop
+loop-again c = left-turn _ _ _ _ _ _ (c .before .before .loop .inv) (c .before .loop-test .taken)
+
+returns : tie.Need-returns Inv-loop μ-loop
+returns c = left-end _ _ _ _ _ _ (c .before .loop .inv) (c .loop-test .left)
 
 pub ended-of-spec : {M : Type 1} → statement M
 ended-of-spec =
-    tie.close (tie.spec returns others-requires cast-ended-alone ended-alone-requires returns-2 ended-from-requires returns-3)
+    tie.close
+    (tie.spec
+    Inv-loop
+    μ-loop
+    loop-holds
+    add-all
+    mul-all
+    shared-slice-read-all
+    add-at
+    loop-less
+    loop-again
+    returns)
