@@ -87,7 +87,7 @@ module _ (n a k : ℕ) (merged ended columns : List ℕ) where
 
   -- The sums of the states of an entered class have room.
   pub sums-inside : MergedWithin a k merged → StatesWithin k n columns → k ≤ 64 → SumsWithin n k ended → (c : ℕ) → Member c enteredBy
-      → 0 < getD ended c 0 → (q : ℕ) → Member q (classColumn c) → getD ended c 0 + 16 * (q / 4) + 16 ≤ length ended
+      → 0 < getD ended c 0 → (q : ℕ) → Member q (classColumn c) → getD ended c 0 + 32 * (q / 8) + 32 ≤ length ended
   sums-inside within states few sums c m some q x =
       let (i, j) = within .entered c m in
       omega (arith, sums .room c i j some, member-below n (classColumn c) q (class-small within states few c m) x)
@@ -150,7 +150,7 @@ module _ (n a k : ℕ) (merged ended columns : List ℕ) where
             sums .within b j i t low high some (omega (arith, member-below n y q small x)) p o
 
         joined-by : (word : ℕ → ℕ → ℕ) → SummedAll word → 0 < getD ended b 0 → z ≡ unionOver (word b) 64 y
-        joined-by word w some = ends .some some .exact (word b) (quarters n) (w b low high some) (quarters-below n y small)
+        joined-by word w some = ends .some some .exact (word b) (quarters n) (omega arith) (w b low high some) (quarters-below n y small)
 
         there : (word : ℕ → ℕ → ℕ) → SummedAll word → (t : ℕ) → Member t alone ⊎ Member t z
             → (c : ℕ) × Passed enteredBy (bitAnd rest (rest - 1)) c × ReachedAt word c t

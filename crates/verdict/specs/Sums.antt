@@ -1,14 +1,14 @@
 -- Sums of what is reached where a path of a list ends (Columns, Finishing): one word for each set of four neighbouring states. The words of
 -- the lists stand first, 64 for each; behind them stand the sums, sixteen for each four states of a list.
-use Prim.Native.Nat.{ℕ, _+_, _*_, _/_, _^_, _≤_, _<_}
+use Prim.Native.Nat.{ℕ, _+_, _*_, _/_, _%_, _^_, _≤_, _<_}
 use mathlib.Core.List.{List}
 use mathlib.Core.Path.{_≡_}
 use lib.ListN.{length, getD}
 use Rattle.theory.specs.Places.{Member, unionOver}
 
--- How many times four states there are, the last four perhaps not all.
+-- How many times four states there are, an even number, the last perhaps empty.
 abbrev pub quarters : ℕ → ℕ
-quarters n = (n + 3) / 4
+quarters n = 2 * ((n + 7) / 8)
 
 -- There is room for the sums of the lists, of n states.
 abbrev pub SumsRoom : ℕ → ℕ → List ℕ → Type 0
@@ -36,9 +36,14 @@ pub record Sums (lists n : ℕ) (ended : List ℕ) : Type 0 where
 pub record SummedBy (word : ℕ → ℕ) (from count : ℕ) (ended : List ℕ) : Type 0 where
   pub summed : (k m : ℕ) → k < count → m < 16 → getD ended (from + 16 * k + m) 0 ≡ unionOver (λ i. word (4 * k + i)) 4 m
 
--- The word r is joined from the words of the states of a set by their sums, which stand from `sums` on, whatever words they are the sums of;
--- it has nothing that is not in a sum of states up to one of the set.
+-- The state t is in a sum, which stands from `sums` on, of four states up to the eight of one of a set.
+abbrev pub SumHas : List ℕ → ℕ → ℕ → ℕ → Type 0
+SumHas ended sums ends t =
+    (q : ℕ) × (k : ℕ) × (m : ℕ) × Member q ends × (8 * (k / 2) ≤ q) × (m < 16) × Member t (getD ended (sums + 16 * k + m) 0)
+
+-- The word r is joined from the words of the states of a set by their sums, which stand from `sums` on, an even number of times four, whatever
+-- words they are the sums of; it has nothing that is not in a sum of states up to the eight of one of the set.
 pub record SumsJoined (ended : List ℕ) (sums ends r : ℕ) : Type 0 where
-  pub exact : (word : ℕ → ℕ) (count : ℕ) → SummedBy word sums count ended → ends < 2 ^ (4 * count) → r ≡ unionOver word 64 ends
-  pub inside : (t : ℕ) → Member t r
-      → (q : ℕ) × (k : ℕ) × (m : ℕ) × Member q ends × (4 * k ≤ q) × (m < 16) × Member t (getD ended (sums + 16 * k + m) 0)
+  pub exact : (word : ℕ → ℕ) (count : ℕ) → count % 2 ≡ 0 → SummedBy word sums count ended → ends < 2 ^ (4 * count)
+      → r ≡ unionOver word 64 ends
+  pub inside : (t : ℕ) → Member t r → SumHas ended sums ends t

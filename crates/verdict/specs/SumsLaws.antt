@@ -20,7 +20,7 @@ use Rattle.places.specs.NextPlace.{trailing-here}
 use Rattle.places.specs.Followed.{least-first, over-none}
 use Rattle.places.specs.Joined.{over-same}
 use Rattle.verdict.specs.Columns.{Finishing}
-use Rattle.verdict.specs.Sums.{quarters, SumsRoom, FourSummed, ListSummed, Sums, SummedBy, SumsJoined}
+use Rattle.verdict.specs.Sums.{quarters, SumsRoom, FourSummed, ListSummed, Sums, SummedBy, SumHas, SumsJoined}
 
 -- A set of four places has no others.
 over-four : (f : ℕ → ℕ) (s : ℕ) → s < 2 ^ 4 → unionOver f 64 s ≡ unionOver f 4 s
@@ -213,93 +213,114 @@ split-four f s small = equal-members (union low high) (unionOver f 64 s) λ y. (
         (x - 4, omega arith, member-down 4 (x - 4) s .1 (subst (λ z. Member z s) e a), subst (λ z. Member y (f z)) e b))
 
 -- Four states k times are joined, and `rest` are left, whose sums stand from `at` on.
-pub record SumsLeft (ended : List ℕ) (sums ends all rest at : ℕ) : Type 0 where
-  pub k : ℕ
+pub record FoursLeft (ended : List ℕ) (sums ends k all rest at : ℕ) : Type 0 where
   pub place : at ≡ sums + 16 * k
   pub left : rest ≡ ends / 2 ^ (4 * k)
   pub small : rest < 2 ^ 64
-  pub joined : (word : ℕ → ℕ) (count : ℕ) → SummedBy word sums count ended → ends < 2 ^ (4 * count)
+  pub joined : (word : ℕ → ℕ) (count : ℕ) → count % 2 ≡ 0 → SummedBy word sums count ended → ends < 2 ^ (4 * count)
       → union all (unionOver (λ q. word (4 * k + q)) 64 rest) ≡ unionOver word 64 ends
-  pub inside : (t : ℕ) → Member t all
-      → (q : ℕ) × (j : ℕ) × (m : ℕ) × Member q ends × (4 * j ≤ q) × (m < 16) × Member t (getD ended (sums + 16 * j + m) 0)
+  pub inside : (t : ℕ) → Member t all → SumHas ended sums ends t
+
+-- Twice four states at a time.
+pub record SumsLeft (ended : List ℕ) (sums ends all rest at : ℕ) : Type 0 where
+  pub k : ℕ
+  pub fours : FoursLeft ended sums ends (2 * k) all rest at
 
 module _ (ended : List ℕ) (sums ends : ℕ) where
   pub left-start : ends < 2 ^ 64 → SumsLeft ended sums ends 0 ends sums
   left-start h =
       record {
         k = 0;
-        place = omega arith;
-        left = sym (div-one ends);
-        small = h;
-        joined = λ word count s below.
-            or-zero-l (unionOver (λ q. word (4 * 0 + q)) 64 ends)
-            ∙ over-same (λ q. word (4 * 0 + q)) word 64 ends (λ x h. let z : 4 * 0 + x ≡ x = omega arith in ap word z);
-        inside = λ t m. absurd (member-none t m);
+        fours = record {
+          place = omega arith;
+          left = sym (div-one ends);
+          small = h;
+          joined = λ word count even s below.
+              or-zero-l (unionOver (λ q. word (4 * 0 + q)) 64 ends)
+              ∙ over-same (λ q. word (4 * 0 + q)) word 64 ends (λ x h. let z : 4 * 0 + x ≡ x = omega arith in ap word z);
+          inside = λ t m. absurd (member-none t m);
+        };
       }
+
+  -- The next four are joined, where the set has a state in their eight or after them.
+  four-joined : (k all rest at q : ℕ) → FoursLeft ended sums ends k all rest at → Member q ends → 8 * (k / 2) ≤ q
+      → FoursLeft ended sums ends (k + 1) (union all (getD ended (at + rest % 16) 0)) (rest / 16) (at + 16)
+  four-joined k all rest at q s i l =
+      record {
+        place = omega (arith, s .place);
+        left =
+            ap (λ (z : ℕ). z / 2 ^ 4) (s .left) ∙ shr-shr ends (4 * k) 4
+            ∙ (let e : 4 * k + 4 ≡ 4 * (k + 1) = omega arith in ap (λ (z : ℕ). ends / 2 ^ z) e);
+        small = omega (arith, s .small);
+        joined = λ word count even t below.
+            let inside : k < count = omega (arith, member-below (4 * count) ends q below i) in
+            turned word (t .summed k (rest % 16) inside (omega arith)) ∙ s .joined word count even t below;
+        inside = λ t m. side t (member-union t all (getD ended (at + rest % 16) 0) .0 m);
+      }
+    where
+      place : at + rest % 16 ≡ sums + 16 * k + rest % 16
+      place = omega (arith, s .place)
+
+      side : (t : ℕ) → Member t all ⊎ Member t (getD ended (at + rest % 16) 0) → SumHas ended sums ends t
+      side t (inl m) = s .inside t m
+      side t (inr m) = (q, k, rest % 16, i, l, omega arith, subst (λ (z : ℕ). Member t (getD ended z 0)) place m)
+
+      turned : (word : ℕ → ℕ) → getD ended (sums + 16 * k + rest % 16) 0 ≡ unionOver (λ i. word (4 * k + i)) 4 (rest % 16)
+          → union (union all (getD ended (at + rest % 16) 0)) (unionOver (λ q. word (4 * (k + 1) + q)) 64 (rest / 16))
+          ≡ union all (unionOver (λ q. word (4 * k + q)) 64 rest)
+      turned word sum =
+          let f : ℕ → ℕ = λ q. word (4 * k + q) in
+          let later : ℕ → ℕ = λ q. word (4 * (k + 1) + q) in
+          let four : getD ended (at + rest % 16) 0 ≡ unionOver f 4 (rest % 16) = ap (λ (z : ℕ). getD ended z 0) place ∙ sum in
+          let others : unionOver later 64 (rest / 16) ≡ unionOver (λ q. f (4 + q)) 64 (rest / 16) =
+          over-same later (λ q. f (4 + q)) 64 (rest / 16)
+          (λ x h. let z : 4 * (k + 1) + x ≡ 4 * k + (4 + x) = omega arith in ap word z) in
+          union-assoc all (getD ended (at + rest % 16) 0) (unionOver later 64 (rest / 16))
+          ∙ ap (λ x. union all (union x (unionOver later 64 (rest / 16)))) four
+          ∙ ap (λ x. union all (union (unionOver f 4 (rest % 16)) x)) others
+          ∙ ap (union all) (split-four f rest (s .small))
 
   module _ (all rest at : ℕ) (s : SumsLeft ended sums ends all rest at) where
     -- Some state is left, after those that are joined.
-    state-left : rest ≢ 0 → (i : ℕ) × Member (4 * s .k + i) ends
-    state-left d = let (i, m) = not-none rest d in (i, member-down (4 * s .k) i ends .0 (subst (Member i) (s .left) m))
+    state-left : rest ≢ 0 → (i : ℕ) × Member (4 * (2 * s .k) + i) ends
+    state-left d =
+        let (i, m) = not-none rest d in (i, member-down (4 * (2 * s .k)) i ends .0 (subst (Member i) (s .fours .left) m))
 
-    -- Where the sums of all states have room, so have those of the next four.
-    pub left-room : rest ≢ 0 → ((q : ℕ) → Member q ends → sums + 16 * (q / 4) + 16 ≤ length ended) → at + 16 ≤ length ended
-    left-room d room = let (i, m) = state-left d in omega (arith, s .place, room (4 * s .k + i) m)
+    -- Where the sums of all states have room, so have those of the next eight.
+    pub left-room : rest ≢ 0 → ((q : ℕ) → Member q ends → sums + 32 * (q / 8) + 32 ≤ length ended) → at + 32 ≤ length ended
+    left-room d room = let (i, m) = state-left d in omega (arith, s .fours .place, room (4 * (2 * s .k) + i) m)
 
-    pub left-turn : rest ≢ 0 → SumsLeft ended sums ends (union all (getD ended (at + rest % 16) 0)) (rest / 16) (at + 16)
-    left-turn d =
-        record {
-          k = s .k + 1;
-          place = omega (arith, s .place);
-          left =
-              ap (λ (z : ℕ). z / 2 ^ 4) (s .left) ∙ shr-shr ends (4 * s .k) 4
-              ∙ (let e : 4 * s .k + 4 ≡ 4 * (s .k + 1) = omega arith in ap (λ (z : ℕ). ends / 2 ^ z) e);
-          small = omega (arith, s .small);
-          joined = λ word count t below.
-              let (i, m) = state-left d in
-              let inside : s .k < count = omega (arith, member-below (4 * count) ends (4 * s .k + i) below m) in
-              turned word (t .summed (s .k) (rest % 16) inside (omega arith)) ∙ s .joined word count t below;
-          inside = λ t m. side t (member-union t all (getD ended (at + rest % 16) 0) .0 m);
-        }
+    pub left-turn : rest ≢ 0
+        → SumsLeft ended sums ends (union (union all (getD ended (at + rest % 16) 0)) (getD ended (at + 16 + rest / 16 % 16) 0)) (rest / 256) (at + 32)
+    left-turn d = record { k = s .k + 1; fours = moved }
       where
-        side : (t : ℕ) → Member t all ⊎ Member t (getD ended (at + rest % 16) 0)
-            → (q : ℕ) × (j : ℕ) × (m : ℕ) × Member q ends × (4 * j ≤ q) × (m < 16) × Member t (getD ended (sums + 16 * j + m) 0)
-        side t (inl m) = s .inside t m
-        side t (inr m) =
-            let (i, l) = state-left d in
-            let place : at + rest % 16 ≡ sums + 16 * s .k + rest % 16 = omega (arith, s .place) in (
-              4 * s .k + i,
-              s .k,
-              rest % 16,
-              l,
-              omega arith,
-              omega arith,
-              subst (λ (z : ℕ). Member t (getD ended z 0)) place m,
-            )
+        both : ℕ
+        both = union (union all (getD ended (at + rest % 16) 0)) (getD ended (at + 16 + rest / 16 % 16) 0)
 
-        turned : (word : ℕ → ℕ) → getD ended (sums + 16 * s .k + rest % 16) 0 ≡ unionOver (λ i. word (4 * s .k + i)) 4 (rest % 16)
-            → union (union all (getD ended (at + rest % 16) 0)) (unionOver (λ q. word (4 * (s .k + 1) + q)) 64 (rest / 16))
-            ≡ union all (unionOver (λ q. word (4 * s .k + q)) 64 rest)
-        turned word sum =
-            let f : ℕ → ℕ = λ q. word (4 * s .k + q) in
-            let later : ℕ → ℕ = λ q. word (4 * (s .k + 1) + q) in
-            let place : at + rest % 16 ≡ sums + 16 * s .k + rest % 16 = omega (arith, s .place) in
-            let four : getD ended (at + rest % 16) 0 ≡ unionOver f 4 (rest % 16) = ap (λ (z : ℕ). getD ended z 0) place ∙ sum in
-            let others : unionOver later 64 (rest / 16) ≡ unionOver (λ q. f (4 + q)) 64 (rest / 16) =
-            over-same later (λ q. f (4 + q)) 64 (rest / 16)
-            (λ x h. let z : 4 * (s .k + 1) + x ≡ 4 * s .k + (4 + x) = omega arith in ap word z) in
-            union-assoc all (getD ended (at + rest % 16) 0) (unionOver later 64 (rest / 16))
-            ∙ ap (λ x. union all (union x (unionOver later 64 (rest / 16)))) four
-            ∙ ap (λ x. union all (union (unionOver f 4 (rest % 16)) x)) others
-            ∙ ap (union all) (split-four f rest (s .small))
+        twice : FoursLeft ended sums ends (2 * s .k + 1 + 1) both (rest / 16 / 16) (at + 16 + 16)
+        twice =
+            let (i, m) = state-left d in
+            let q = 4 * (2 * s .k) + i in
+            four-joined (2 * s .k + 1) (union all (getD ended (at + rest % 16) 0)) (rest / 16) (at + 16) q
+            (four-joined (2 * s .k) all rest at q (s .fours) m (omega arith)) m (omega arith)
+
+        moved : FoursLeft ended sums ends (2 * (s .k + 1)) both (rest / 256) (at + 32)
+        moved =
+            let a : 2 * s .k + 1 + 1 ≡ 2 * (s .k + 1) = omega arith in
+            let b : rest / 16 / 16 ≡ rest / 256 = omega arith in
+            let e : at + 16 + 16 ≡ at + 32 = omega arith in
+            subst (λ (z : ℕ). FoursLeft ended sums ends z both (rest / 256) (at + 32)) a
+            (subst (λ (z : ℕ). FoursLeft ended sums ends (2 * s .k + 1 + 1) both z (at + 32)) b
+            (subst (λ (z : ℕ). FoursLeft ended sums ends (2 * s .k + 1 + 1) both (rest / 16 / 16) z) e twice))
 
     pub left-end : rest ≡ 0 → SumsJoined ended sums ends all
     left-end z =
         record {
-          exact = λ word count t below.
-              let f : ℕ → ℕ = λ q. word (4 * s .k + q) in
-              sym (or-zero-r all) ∙ ap (union all) (sym (ap (unionOver f 64) z ∙ over-none f 64)) ∙ s .joined word count t below;
-          inside = s .inside;
+          exact = λ word count even t below.
+              let f : ℕ → ℕ = λ q. word (4 * (2 * s .k) + q) in
+              sym (or-zero-r all) ∙ ap (union all) (sym (ap (unionOver f 64) z ∙ over-none f 64))
+              ∙ s .fours .joined word count even t below;
+          inside = s .fours .inside;
         }
 
 -- The sums of a list are those of its words.

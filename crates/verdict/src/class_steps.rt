@@ -15,7 +15,7 @@ use places::joined::join;
 
 // The states alone that are reached from the states of a class, whose sums stand from `sums` on; none where it has no sums.
 fn ended_class(ended: &[u64], sums: usize, states: u64) -> u64
-    requires { ⌜ (0 < sums → (q : ℕ) → Member q states → sums + 16 * (q / 4) + 16 ≤ length (now ended)) ⌝ }
+    requires { ⌜ (0 < sums → (q : ℕ) → Member q states → sums + 32 * (q / 8) + 32 ≤ length (now ended)) ⌝ }
     ensures { λ r. ⌜ EndedClass (now (ended .entry)) sums states r ⌝ }
 {
     if sums == 0 {

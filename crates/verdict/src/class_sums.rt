@@ -114,7 +114,7 @@ pub fn class_sums(
         → Passing 1 states lists accepting (now (table .entry)) (now (passes .entry))
         → ClassSums states lists k sizes accepting (now (table .entry)) classes (now (ended .exit))) ⌝ }
 {
-    let quarters = (states + 3) / 4;
+    let quarters = 2 * ((states + 7) / 8);
     clear_words(ended, 128);
     let mut at: usize = 128;
     let mut c = 1;

@@ -101,7 +101,7 @@ pub fn step_columns(
     ensures { λ _. ⌜ Stepped lists a (now (enter .entry)) (now (sizes .entry)) (now (accepting .entry)) (now (before .entry))
         (now (ended .entry)) (now (columns .entry)) (columnIn n (now (words .exit))) × (numberOf (now (words .exit)) < 2 ^ (n * w)) ⌝ }
 {
-    let each = 16 * ((n as usize + 3) / 4);
+    let each = 32 * ((n as usize + 7) / 8);
     let mut sums = 64 * lists;
     let mut base: usize = 0;
     let mut alone: u64 = 0;

@@ -281,7 +281,7 @@ fn explore_merged(
     ensures { λ r. ⌜ Searched (lent states labels lists (now (follow .entry)) (now (enter .entry)) (now (sizes .entry)) (now (accepting .entry)) (now (table .entry)))
         (r .turned) allowance (now (workspace .entry)) (r .found) (now (workspace .exit)) ⌝ }
 {
-    let words = 16 * ((states as usize + 3) / 4) * count_ending(ends, k);
+    let words = 32 * ((states as usize + 7) / 8) * count_ending(ends, k);
     if words <= 384 {
         let mut ended = [0; 512];
         explore_sums(

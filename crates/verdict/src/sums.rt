@@ -39,7 +39,7 @@ pub fn sum_lists(ended: &mut [u64], lists: usize, n: usize)
     ensures { λ _. ⌜ Sums lists n (now (ended .exit))
         × ((j : ℕ) → j < 64 * lists → getD (now (ended .exit)) j 0 ≡ getD (now (ended .entry)) j 0) ⌝ }
 {
-    let count = (n + 3) / 4;
+    let count = 2 * ((n + 7) / 8);
     let mut v = 0;
     while v < lists {
         sum_list(ended, 64 * v, 64 * lists + 16 * count * v, count);
@@ -47,18 +47,20 @@ pub fn sum_lists(ended: &mut [u64], lists: usize, n: usize)
     }
 }
 
-// The union of the words of the states of a set: four states at a time, by the sums of the words, which stand from `sums` on.
+// The union of the words of the states of a set: twice four states at a time, by the sums of the words, which stand from `sums` on.
 pub fn ended_of(ended: &[u64], sums: usize, ends: u64) -> u64
-    requires { ⌜ ((q : ℕ) → Member q ends → sums + 16 * (q / 4) + 16 ≤ length (now ended)) ⌝ }
+    requires { ⌜ ((q : ℕ) → Member q ends → sums + 32 * (q / 8) + 32 ≤ length (now ended)) ⌝ }
     ensures { λ r. ⌜ SumsJoined (now (ended .entry)) sums ends r ⌝ }
 {
     let mut all: u64 = 0;
     let mut rest = ends;
     let mut at = sums;
     while rest != 0 {
-        all = all | ended[at + ((rest % 16) as usize)];
-        rest = rest / 16;
-        at += 16;
+        all = all
+            | ended[at + ((rest % 16) as usize)]
+            | ended[at + 16 + ((rest / 16 % 16) as usize)];
+        rest = rest / 256;
+        at += 32;
     }
     all
 }

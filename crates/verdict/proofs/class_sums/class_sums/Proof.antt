@@ -23,6 +23,9 @@ abbrev μ-loop : tie.MeasureT-loop
 add-quarters : tie.Need-add-quarters Inv-loop μ-loop
 add-quarters c = omega (arith, c .before .before .before .pre .1)
 
+mul-quarters : tie.Need-mul-quarters Inv-loop μ-loop
+mul-quarters c = omega (arith, c .before .before .before .pre .1)
+
 clear-words-requires : tie.Need-clear-words-requires Inv-loop μ-loop
 clear-words-requires c κs = search needs
 
@@ -149,6 +152,7 @@ class-sums-spec =
     Inv-loop
     μ-loop
     add-quarters
+    mul-quarters
     clear-words-requires
     loop-holds
     mul-set

@@ -148,7 +148,7 @@ loop-again c =
       lists-turn (s .args .lists) (s .args .a) (s .args .enter .now) (s .args .sizes .now) (s .args .accepting .now) (s .args .before .now)
           (s .args .ended .now) (s .args .columns .now) (columnIn (s .args .n) (l .words)) _ (l .base) (l .alone) (l .v) (list .result) h
           (l .inv .1) (omega (arith, list .ok)) (list .ensures) (s .pre .0 .small (l .v) h) (c .ended-of .result)
-          (c .ended-of .ensures .exact (λ q. getD (s .args .ended .now) (64 * l .v + q) 0) (quarters (s .args .n))
+          (c .ended-of .ensures .exact (λ q. getD (s .args .ended .now) (64 * l .v + q) 0) (quarters (s .args .n)) (omega arith)
           (subst (λ z. SummedBy (λ q. getD (s .args .ended .now) (64 * l .v + q) 0) z (quarters (s .args .n)) (s .args .ended .now))
           (sym (l .inv .2)) (list-sums (s .args .lists) (s .args .n) (l .v) (s .args .ended .now) h (s .pre .15)))
           (quarters-below (s .args .n) (list .result) below)),

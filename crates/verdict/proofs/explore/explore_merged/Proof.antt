@@ -18,7 +18,7 @@ count-ending-requires c κs = omega (arith, c .before .before .before .before .b
 mul-words-2 : tie.Need-mul-words-2
 mul-words-2 c =
     let s = c .before .before .before .before .before .before .before .before .before in
-    omega (arith, s .pre .2, mul-le-mul-left (16 * ((s .args .states + 3) / 4)) (c .count-ending .ensures))
+    omega (arith, s .pre .2, mul-le-mul-left (32 * ((s .args .states + 7) / 8)) (c .count-ending .ensures))
 
 slice-aggregate-explore-sums : tie.Need-slice-aggregate-explore-sums
 slice-aggregate-explore-sums c = search needs

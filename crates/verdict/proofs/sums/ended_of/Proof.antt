@@ -23,14 +23,26 @@ mul-all c = omega (arith, left-room _ _ _ _ _ _ (c .before .loop .inv) (c .loop-
 shared-slice-read-all : tie.Need-shared-slice-read-all Inv-loop μ-loop
 shared-slice-read-all c = omega (arith, left-room _ _ _ _ _ _ (c .before .before .loop .inv) (c .before .loop-test .taken) (c .before .before .before .pre))
 
+add-all-2 : tie.Need-add-all-2 Inv-loop μ-loop
+add-all-2 c = omega (arith, left-room _ _ _ _ _ _ (c .before .before .loop .inv) (c .before .loop-test .taken) (c .before .before .before .pre))
+
+add-all-3 : tie.Need-add-all-3 Inv-loop μ-loop
+add-all-3 c = omega (arith, left-room _ _ _ _ _ _ (c .before .before .loop .inv) (c .before .loop-test .taken) (c .before .before .before .pre))
+
+mul-all-2 : tie.Need-mul-all-2 Inv-loop μ-loop
+mul-all-2 c = omega (arith, left-room _ _ _ _ _ _ (c .before .before .loop .inv) (c .before .loop-test .taken) (c .before .before .before .pre))
+
+shared-slice-read-all-2 : tie.Need-shared-slice-read-all-2 Inv-loop μ-loop
+shared-slice-read-all-2 c = omega (arith, left-room _ _ _ _ _ _ (c .before .before .before .loop .inv) (c .before .before .loop-test .taken) (c .before .before .before .before .pre))
+
 add-at : tie.Need-add-at Inv-loop μ-loop
-add-at c = omega (arith, left-room _ _ _ _ _ _ (c .before .before .loop .inv) (c .before .loop-test .taken) (c .before .before .before .pre))
+add-at c = omega (arith, left-room _ _ _ _ _ _ (c .before .before .before .loop .inv) (c .before .before .loop-test .taken) (c .before .before .before .before .pre))
 
 loop-less : tie.Need-loop-less Inv-loop μ-loop
-loop-less c = omega (arith, c .before .loop-test .taken)
+loop-less c = omega (arith, c .before .before .loop-test .taken)
 
 loop-again : tie.Need-loop-again Inv-loop μ-loop
-loop-again c = left-turn _ _ _ _ _ _ (c .before .before .loop .inv) (c .before .loop-test .taken)
+loop-again c = left-turn _ _ _ _ _ _ (c .before .before .before .loop .inv) (c .before .before .loop-test .taken)
 
 returns : tie.Need-returns Inv-loop μ-loop
 returns c = left-end _ _ _ _ _ _ (c .before .loop .inv) (c .loop-test .left)
@@ -45,6 +57,10 @@ ended-of-spec =
     add-all
     mul-all
     shared-slice-read-all
+    add-all-2
+    add-all-3
+    mul-all-2
+    shared-slice-read-all-2
     add-at
     loop-less
     loop-again

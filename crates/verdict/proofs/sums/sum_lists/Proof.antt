@@ -19,6 +19,9 @@ abbrev μ-loop : tie.MeasureT-loop
 add-count : tie.Need-add-count Inv-loop μ-loop
 add-count c = search needs
 
+mul-count : tie.Need-mul-count Inv-loop μ-loop
+mul-count c = search needs
+
 loop-holds : tie.Need-loop-holds Inv-loop μ-loop
 loop-holds c = (omega arith, refl, sums-start _ _ _)
 
@@ -89,6 +92,7 @@ sum-lists-spec =
     Inv-loop
     μ-loop
     add-count
+    mul-count
     loop-holds
     mul-sum-list
     mul-sum-list-2
