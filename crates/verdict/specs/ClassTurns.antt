@@ -5,7 +5,7 @@ use mathlib.Core.Logic.{_↔_, _≢_, _⊎_, inl, inr}
 use mathlib.Core.Path.{_≡_, refl, sym, ap, _∙_, subst}
 use native.Mathlib.Decide.{decLt}
 use native.Mathlib.Omega.{arith}
-use lib.Bits.{bitAnd, or-zero-l}
+use lib.Bits.{bitAnd, or-zero-l, or-zero-r}
 use lib.Count.{trailingZeros}
 use lib.ListN.{length, getD}
 use Rattle.theory.specs.Places.{Member, union, unionOver}
@@ -15,7 +15,7 @@ use Rattle.places.specs.Followed.{Passed, passed-none, passed-turn, passed-all,
 use Rattle.places.specs.Joined.{joined}
 use Rattle.verdict.specs.Columns.{StatesWithin}
 use Rattle.verdict.specs.Sums.{quarters, SummedBy, SumsJoined}
-use Rattle.verdict.specs.SumsLaws.{quarters-below}
+use Rattle.verdict.specs.SumsLaws.{left-start, left-end, quarters-below}
 use Rattle.verdict.specs.Classes.{MergedWithin, SumsWithin, ClassStepped}
 use Rattle.verdict.specs.TurnedColumns.{Puts}
 
@@ -23,6 +23,11 @@ use Rattle.verdict.specs.TurnedColumns.{Puts}
 pub record EndedClass (ended : List ℕ) (sums states r : ℕ) : Type 0 where
   pub none : sums ≡ 0 → r ≡ 0
   pub some : 0 < sums → SumsJoined ended sums states r
+
+-- From no states none is reached.
+ended-none : (ended : List ℕ) (sums : ℕ) → EndedClass ended sums 0 0
+ended-none ended sums =
+    record { none = λ e. refl; some = λ h. left-end ended sums 0 0 0 sums (left-start ended sums 0 (omega arith)) refl }
 
 module _ (n a k : ℕ) (merged ended columns : List ℕ) where
   -- The classes that the label enters, and the states of a class after a step that enters it.
@@ -170,6 +175,14 @@ module _ (n a k : ℕ) (merged ended columns : List ℕ) where
                 let i′ : Member q y = subst (Member q) (sym e) i in
                 subst (Member t) (sym (joined-by word w some))
                 (member-unionOver (word b) 64 y t .1 (q, omega (arith, member-below n y q small i′), i′, j))
+
+    -- A class without states is passed over.
+    pub classes-pass : n ≤ 64 → SumsWithin n k ended → (next : ℕ → ℕ) (alone rest : ℕ) → ClassesLeft next alone rest → rest ≢ 0
+        → rest < 2 ^ 64 → 0 ≡ classColumn (trailingZeros 64 rest) → ClassesLeft next alone (bitAnd rest (rest - 1))
+    classes-pass word-wide sums next alone rest s d h e =
+        subst (λ (z : ℕ). ClassesLeft next z (bitAnd rest (rest - 1))) (or-zero-r alone)
+        (classes-turn word-wide sums next next alone rest 0 0 s d h e (ended-none ended (getD ended (trailingZeros 64 rest) 0))
+        (record { here = sym (or-zero-r (next (trailingZeros 64 rest))); others = λ x f. refl }))
 
     pub classes-end : (next next′ : ℕ → ℕ) (alone rest : ℕ) → ClassesLeft next alone rest → rest ≡ 0 → Puts 0 alone next next′
         → ClassStepped n a k merged ended columns next′

@@ -46,8 +46,10 @@ pub fn step_classes(
     while rest != 0 {
         let c = u64::trailing_zeros(rest) as usize;
         let states = join(columns, 0, 1, merged[c]);
-        put_at(words, states, n * (c as u64), n);
-        alone = alone | ended_class(ended, ended[c] as usize, states);
+        if states != 0 {
+            put_at(words, states, n * (c as u64), n);
+            alone = alone | ended_class(ended, ended[c] as usize, states);
+        }
         rest = rest & (rest - 1);
     }
     put_at(words, alone, 0, n);
