@@ -52,7 +52,7 @@ pub mod RangesStep
 pub mod Sums
 pub mod SumsLaws
 pub mod Classes
-pub mod ClassTurns
+pub mod ClassStepTurns
 pub mod ClassesStep
 pub mod ClassSumsTurns
 pub mod Prepared

@@ -7,7 +7,7 @@ ghost use Rattle.theory.specs.Places.{Member};
 ghost use Rattle.places.specs.Words.{numberOf};
 ghost use Rattle.verdict.specs.Columns.{StatesWithin};
 ghost use Rattle.verdict.specs.Classes.{MergedWithin, SumsWithin, ClassStepped};
-ghost use Rattle.verdict.specs.ClassTurns.{EndedClass};
+ghost use Rattle.verdict.specs.ClassStepTurns.{EndedClass};
 ghost use Rattle.verdict.specs.TurnedColumns.{columnIn};
 use crate::columns::put_at;
 use crate::sums::ended_of;

@@ -10,8 +10,8 @@ use lib.Count.{trailingZeros, trailing-le}
 use lib.ListN.{length}
 use Rattle.theory.specs.Places.{Member}
 use Rattle.theory.specs.PlacesLaws.{members-below}
-use Rattle.verdict.specs.ClassTurns.{ClassesLeft, classes-start, class-small, least-entered, sums-inside, classes-turn, classes-pass}
-use Rattle.verdict.specs.ClassTurns.{classes-end, classes-none}
+use Rattle.verdict.specs.ClassStepTurns.{ClassesLeft, classes-start, class-small, least-entered, sums-inside, classes-turn, classes-pass}
+use Rattle.verdict.specs.ClassStepTurns.{classes-end, classes-none}
 use Rattle.verdict.specs.TurnedColumns.{columnIn, no-columns, Puts, put-column, columns-below}
 use Rattle.verdict.specs.TurnedTurns.{column-room}
 use Rattle.verdict.proofs.class_steps.step_classes.Statement.{statement}
