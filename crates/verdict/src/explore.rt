@@ -282,8 +282,8 @@ fn explore_merged(
         (r .turned) allowance (now (workspace .entry)) (r .found) (now (workspace .exit)) ⌝ }
 {
     let words = 32 * ((states as usize + 7) / 8) * count_ending(ends, k);
-    if words <= 384 {
-        let mut ended = [0; 512];
+    if words <= 512 {
+        let mut ended = [0; 640];
         explore_sums(
             states,
             table,
