@@ -1,9 +1,9 @@
 -- The search over the states of a machine that are kept (Ranks, StateSets, SetSearch) finds the recordings that the machine marks (Product):
--- a path that ends in an accepting state goes through such states only.
+-- a path that ends in an accepting state goes through such states only, and from states that are alike the same paths lead on.
 use Prim.Native.Nat.{ℕ, _*_, _≤_, _<_}
 use mathlib.Core.List.{List, [], _∷_, _++_}
 use mathlib.Core.Logic.{_↔_}
-use mathlib.Core.Path.{_≡_, sym, ap, _∙_, subst}
+use mathlib.Core.Path.{_≡_, refl, sym, ap, _∙_, subst}
 use native.Mathlib.Omega.{arith}
 use lib.ListN.{getD}
 use Rattle.theory.specs.Graph as G
@@ -20,7 +20,7 @@ use Rattle.answering.specs.LentMachine.{Runs, stays}
 use Rattle.answering.specs.SetSearch.{Steps, SetFound, begins, onward, SetSearchable, SetSearched}
 use Rattle.answering.specs.SetMarks.{AcceptedAt}
 use Rattle.answering.specs.Useful.{nextOf}
-use Rattle.answering.specs.Ranks.{Ranks, AcceptedRanks}
+use Rattle.answering.specs.Ranks.{Alike, Ranks, AcceptedRanks}
 use Rattle.answering.specs.StateSets.{RankedStep, StateSets}
 
 -- What the search over the ranks promises: words for each rank and list hold the steps, and the search goes by these.
@@ -41,28 +41,32 @@ module _ {M : Machine} {next : List ℕ} {lists states w : ℕ} {table : Table} 
   Kept : ℕ → Type 0
   Kept s = getD ranks s 0 < count
 
-  -- The start is the state with rank 0.
-  start-kept : getD kept 0 0 ≡ 0
-  start-kept =
-      let f = k .few in
-      let z = k .some in
-      let e = k .first in
-      ap (λ i. getD kept i 0) (sym e) ∙ k .back 0 (omega arith) (omega arith)
+  some : 0 < states
+  some = let f = k .few in let z = k .some in omega arith
 
-  -- What was found has a path ..
+  first : 0 < M .states
+  first = let e = r .same-states in let z = some in omega arith
+
+  -- A path ends in a state.
+  within : {p : List ℕ} {start y : ℕ} → Leads table p start y → endsAt M 0 p < states
+  within l = let e = r .same-states in let b = ends-within M table (stays r) first l in omega arith
+
+  -- What was found has a path, to a state that is alike to the one that is kept ..
   found-path : (start : ℕ) {y q : ℕ} → SetFound (Steps sets lists w) lists w count table N start y q
-      → (p : List ℕ) × (q < count) × Leads table p start y × (endsAt M 0 p ≡ getD kept q 0)
+      → (p : List ℕ) × (q < count) × Leads table p start y × Alike next lists flags (getD kept q 0) (endsAt M 0 p)
   unfolding endsAt
-  found-path start begins = ([], k .some, stay, sym start-kept)
+  found-path start begins = ([], k .some, stay, subst (λ s. Alike next lists flags s 0) (sym (k .start)) (refl, λ v h. refl))
   found-path start (onward {x = x} {s = s} {a = a} {y = y} {t = t} f h l b n o m) =
       let (p, i, leads, e) = found-path start f in
       let (d, g, c) = steps .exactly s a t h b o .0 m in
-      let u : nextOf next (getD kept s 0) a ≡ getD kept t 0 =
-      sym (k .back (nextOf next (getD kept s 0) a) d (subst (λ q. q < count) g c)) ∙ ap (λ q. getD kept q 0) (sym g) in (
+      let u = nextOf next (getD kept s 0) a in
+      let ends : endsAt M 0 (p ++ (a ∷ [])) ≡ u = ends-more M 0 p a ∙ r .same-next (endsAt M 0 p) a (within leads) b ∙ sym (e .1 a b) in
+      let alike : Alike next lists flags (getD kept t 0) u =
+      subst (λ q. Alike next lists flags (getD kept q 0) u) (sym g) (k .back u d (subst (λ q. q < count) g c)) in (
         p ++ (a ∷ []),
         c,
         leads-append leads (G.along l stay),
-        ends-more M 0 p a ∙ ap (λ s. M .next s a) e ∙ r .same-next (getD kept s 0) a (k .inside s h) b ∙ u,
+        subst (Alike next lists flags (getD kept t 0)) (sym ends) alike,
       )
 
   -- .. and a path to a state that is kept goes through such states ..
@@ -89,7 +93,7 @@ module _ {M : Machine} {next : List ℕ} {lists states w : ℕ} {table : Table} 
       let t : M .next s a < states = subst (λ t. t < states) (sym e) n in
       let c = kept-back more t m in
       let i : getD ranks s 0 < count = k .closed s a h b n (subst (λ t. getD ranks t 0 < count) e c) in
-      let o : nextOf next (getD kept (getD ranks s 0) 0) a ≡ M .next s a = ap (λ s. nextOf next s a) (k .back s h i) ∙ sym e in
+      let o : nextOf next (getD kept (getD ranks s 0) 0) a ≡ M .next s a = k .back s h i .1 a b ∙ sym e in
       path-found start more t m
       (onward f i l b (table-ends is x a y l .1) (omega arith)
       (steps .exactly (getD ranks s 0) a (getD ranks (M .next s a) 0) i b (omega arith) .1
@@ -106,24 +110,15 @@ module _ {M : Machine} {next : List ℕ} {lists states w : ℕ} {table : Table} 
       most : count ≤ 256
       most = let c = fit .few-words in omega arith
 
-      some : 0 < states
-      some = let f = k .few in let z = k .some in omega arith
-
-      first : 0 < M .states
-      first = let e = r .same-states in let z = some in omega arith
-
       exact : (getD (marks M N table start) y 0 ≡ 1) ↔ ((p : List ℕ) × Leads table p start y × Member (endsAt M 0 p) (M .accepting))
       exact = mark-exactly M table (stays r) N (table-ends is) first start y (fit .begins) h
-
-      within : {p : List ℕ} → Leads table p start y → endsAt M 0 p < states
-      within l = let e = r .same-states in let b = ends-within M table (stays r) first l in omega arith
 
       there : AcceptedAt w after accepts y → (p : List ℕ) × Leads table p start y × Member (endsAt M 0 p) (M .accepting)
       there (t, b, m, i) =
           let (p, c, l, e) = found-path start (q .sound fit y t h b m) in
           let n = most in
           let f : getD flags (getD kept t 0) 0 ≡ 1 = a .exactly t (omega arith) .0 i .1 in
-          (p, l, flagged (endsAt M 0 p) (within l) .0 (ap (λ s. getD flags s 0) e ∙ f))
+          (p, l, flagged (endsAt M 0 p) (within l) .0 (sym (e .0) ∙ f))
 
       back : ((p : List ℕ) × Leads table p start y × Member (endsAt M 0 p) (M .accepting)) → AcceptedAt w after accepts y
       back (p, l, m) =
@@ -131,6 +126,6 @@ module _ {M : Machine} {next : List ℕ} {lists states w : ℕ} {table : Table} 
           let f = flagged (endsAt M 0 p) b .1 m in
           let c = k .accepting (endsAt M 0 p) b f in
           let n = most in
-          let i = a .exactly (getD ranks (endsAt M 0 p) 0) (omega arith) .1 (c, ap (λ s. getD flags s 0) (k .back (endsAt M 0 p) b c) ∙ f) in
+          let i = a .exactly (getD ranks (endsAt M 0 p) 0) (omega arith) .1 (c, k .back (endsAt M 0 p) b c .0 ∙ f) in
           let g = path-found start l some c (subst (SetFound (Steps sets lists w) lists w count table N start start) (sym (k .first)) begins) in
           (getD ranks (endsAt M 0 p) 0, omega arith, q .complete fit (table-sorted is) y (getD ranks (endsAt M 0 p) 0) g, i)

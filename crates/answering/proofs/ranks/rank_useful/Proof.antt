@@ -35,7 +35,8 @@ rank-states-requires : tie.Need-rank-states-requires
 rank-states-requires c κs =
     let earlier = c .before .before .before .before .before .before .before .before .before .before in
     let at-start = earlier .before .before in
-    (at-start .pre .0, omega (arith, at-start .pre .0 .few))
+    let p = at-start .pre in
+    (p .0, record { few-lists = p .2; rows = p .3 }, omega (arith, p .0 .few))
 
 same-length : tie.Need-same-length
 same-length c = search needs
