@@ -38,6 +38,7 @@ pub mod Marks
 pub mod MarksSteps
 pub mod SetMarks
 pub mod PlaceSearch
+pub mod FewPlaces
 pub mod Useful
 pub mod Ranks
 pub mod StateSets

@@ -5,14 +5,11 @@ use mathlib.Core.Path.{_≡_, refl, sym, ap, ap₂, _∙_, subst}
 use native.Mathlib.Omega.{arith}
 use lib.ListN.{getD, drop, replicate, take-append-drop}
 use Rattle.theory.specs.Graph.{Table}
-use Rattle.theory.specs.Automaton.{Automaton, step}
+use Rattle.theory.specs.Automaton.{Automaton}
 use Rattle.theory.specs.Exploration.{Entry, Exploration, all, over}
-use Rattle.finding.specs.declared.standings.Explored.{Explored}
-use Rattle.finding.specs.declared.standings.Explored.the-variants.{All}
 use Rattle.finding.specs.Standings.{standings, values}
 use Rattle.finding.specs.Plain.{plain}
 use Rattle.finding.specs.Cleared.{Cleared}
-use Rattle.finding.specs.StandingsTold.{StandingsTold}
 use Rattle.answering.specs.declared.links_core.Links.the-variants.{Marked, Over}
 use Rattle.answering.specs.Table.{IsTable}
 use Rattle.answering.specs.TableLaws.{is-table-exactly}
@@ -27,11 +24,6 @@ use Rattle.answering.specs.LinksCore.{Lent, StandingsMarked, LinksGiven,
 module _ (follow enter : List ℕ) (accepting labels : ℕ) where
   abbrev A : Automaton
   A = plain follow enter accepting
-
-  -- The accepting places play no role in the exploration.
-  same-standings : standings A labels 64 ≡ standings (plain follow enter 0) labels 64
-  unfolding standings step
-  same-standings = refl
 
   module _ {N : ℕ} {table : Table} (g : LinksGiven enter labels table N) where
     is : IsTable N labels table
@@ -70,34 +62,26 @@ module _ (follow enter : List ℕ) (accepting labels : ℕ) where
         one-row : 1 * N ≡ N
         one-row = omega arith
 
-    pub links-marked : {start : ℕ} {before workspace after workspace′ found moves : List ℕ} {states r : ℕ}
-        → StandingsTold follow enter labels 64 (All states) found moves
+    pub links-marked : {start : ℕ} {before workspace after workspace′ : List ℕ} {r : ℕ} → ¬ (standings A labels 64 ≡ over)
         → StandingsMarked A labels N table start before workspace after workspace′ r
         → LinksTold A labels N table start before workspace (Marked r) after workspace′
-    links-marked {start} {before} {workspace} {after} {workspace′} {found} {moves} {states} {r} t m =
+    links-marked {workspace = workspace} {workspace′ = workspace′} few m =
         record {
           told = λ l e. ap Marked (m l e .told);
           marked = λ l e. m l e .marked;
-          isOver = λ e. absurd (not-over e);
-          unmarked = λ e. absurd (not-over e);
+          isOver = λ e. absurd (few e);
+          unmarked = λ e. absurd (few e);
           cleared = some-cleared (standings A labels 64) refl;
         }
       where
-        not-over : standings A labels 64 ≡ over → ⊥
-        not-over e =
-            let p : All states ≡ Explored.Over = t .isOver .1 (sym same-standings ∙ e) in
-            let z : _≡_ {A = ℕ} 0 1 = cc in omega arith
-
         some-cleared : (o : Exploration ℕ) → standings A labels 64 ≡ o → workspace′ ≡ replicate N 0 ++ drop N workspace
         some-cleared (all l) e = m l e .cleared
-        some-cleared over e = absurd (not-over e)
+        some-cleared over e = absurd (few e)
 
-    pub links-over : {start : ℕ} {before workspace after workspace′ found moves : List ℕ}
-        → StandingsTold follow enter labels 64 Explored.Over found moves → Lent N start before workspace
-        → Cleared N before after → Cleared N workspace workspace′
+    pub links-over : {start : ℕ} {before workspace after workspace′ : List ℕ} → standings A labels 64 ≡ over
+        → Lent N start before workspace → Cleared N before after → Cleared N workspace workspace′
         → LinksTold A labels N table start before workspace Over after workspace′
-    links-over {start} {before} {workspace} {after} {workspace′} {found} {moves} t l c d =
-        let o = same-standings ∙ t .isOver .0 refl in
+    links-over o l c d =
         record {
           told = λ l e. absurd (not-all l e o);
           marked = λ l e. absurd (not-all l e o);

@@ -7,6 +7,7 @@ mod lists_core;
 mod lists_operation;
 mod marks;
 mod pairs;
+mod place_rows;
 mod place_search;
 mod ranks;
 mod rows;

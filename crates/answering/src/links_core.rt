@@ -1,13 +1,17 @@
 // Marks by the standings of one expression, on plain data: its automaton, a table of links and a start.
 use super::marks::mark;
+use super::place_rows::few_places;
 use super::place_search::search_places;
 use finding::clear::clear_bytes;
 use finding::clear::clear_words;
 use finding::standings::Explored;
 use finding::standings::standings;
+ghost use Prim.Native.Nat.{_≤_};
+ghost use lib.ListN.{length};
 ghost use Rattle.finding.specs.Plain.{plain};
 ghost use Rattle.answering.specs.Links.{InRange};
 ghost use Rattle.answering.specs.LinkBegins.{LinkBegins};
+ghost use Rattle.answering.specs.FewPlaces.{FewStandings};
 ghost use Rattle.answering.specs.LinksCore.{Lent, StandingsMarked, LinksGiven, LinksTold};
 
 pub(super) enum Links {
@@ -15,6 +19,21 @@ pub(super) enum Links {
     Marked(u64),
     // There are more than 64 standings.
     Over,
+}
+
+// Whether there are at most 64 standings: few places have no more, and those of others are explored.
+fn few_standings(follow: &[u64], enter: &[u64], labels: u64) -> bool
+    ensures { λ r. ⌜ (labels ≤ 32 → labels ≤ length (now (enter .entry)) → FewStandings (now (follow .entry)) (now (enter .entry)) labels r) ⌝ }
+{
+    if few_places(follow) {
+        return true;
+    }
+    let mut found: [u64; 64] = [0; 64];
+    let mut moves: [u8; 2048] = [0; 2048];
+    match standings(follow, enter, labels, 64, &mut found, &mut moves) {
+        Explored::All(_) => true,
+        Explored::Over => false,
+    }
 }
 
 // The marks by the places of an automaton, over a table of its labels: a recording is marked where some accepting place is reached; the
@@ -73,29 +92,21 @@ pub(super) fn mark_links(
         → LinksTold (plain (now (follow .entry)) (now (enter .entry)) accepting) labels recordings (now (table .entry)) start
         (now (marks .entry)) (now (workspace .entry)) r (now (marks .exit)) (now (workspace .exit))) ⌝ }
 {
-    let mut found: [u64; 64] = [0; 64];
-    let mut moves: [u8; 2048] = [0; 2048];
-    let told = standings(follow, enter, labels, 64, &mut found, &mut moves);
-    match told {
-        Explored::All(_) => {
-            let ones = mark_places(
-                follow,
-                enter,
-                accepting,
-                labels,
-                table,
-                begins,
-                recordings,
-                start,
-                marks,
-                workspace,
-            );
-            Links::Marked(ones)
-        }
-        Explored::Over => {
-            clear_bytes(marks, recordings as usize);
-            clear_words(workspace, recordings as usize);
-            Links::Over
-        }
+    if few_standings(follow, enter, labels) {
+        return Links::Marked(mark_places(
+            follow,
+            enter,
+            accepting,
+            labels,
+            table,
+            begins,
+            recordings,
+            start,
+            marks,
+            workspace,
+        ));
     }
+    clear_bytes(marks, recordings as usize);
+    clear_words(workspace, recordings as usize);
+    Links::Over
 }
