@@ -19,9 +19,9 @@ use Rattle.answering.specs.TableLaws.{is-table-exactly, table-length}
 abbrev pub tripleNumber : ℕ → ℕ → ℕ → ℕ
 tripleNumber x a y = 4294967296 * x + 65536 * a + y + 1
 
--- Past the numbers of all of them.
-abbrev pub pastTriples : ℕ
-pastTriples = 281474976710657
+-- The least number of those that leave no recording below N.
+abbrev pub pastTriples : ℕ → ℕ
+pastTriples N = tripleNumber N 0 0
 
 -- The numbers are triples within range, each with a greater number than the one before, whose number was n.
 unfoldable pub numbersRise : ℕ → ℕ → ℕ → Table → Bool
@@ -119,17 +119,17 @@ table-uneven N k t h = go (isTable N k t) refl
 
 -- The triples are tested from the last to the first. From the place i on, they are in range and rise ..
 
--- .. from those numbers of triples, and from 0, that come before `after` ..
+-- .. from those numbers of triples that leave recordings below N, and from 0, that come before `after` ..
 abbrev pub RiseBefore : ℕ → ℕ → Table → ℕ → ℕ → Type 0
-RiseBefore N k t i after = (n : ℕ) → n < pastTriples → risesFrom N k n t i ≡ ltb n after
+RiseBefore N k t i after = (n : ℕ) → n < pastTriples N → risesFrom N k n t i ≡ ltb n after
 
 -- .. or from no number.
 abbrev pub RiseNever : ℕ → ℕ → Table → ℕ → Type 0
 RiseNever N k t i = (n : ℕ) → risesFrom N k n t i ≡ false
 
-pub rise-end : (N k : ℕ) (t : Table) (i : ℕ) → length t ≤ i → RiseBefore N k t i pastTriples
+pub rise-end : (N k : ℕ) (t : Table) (i : ℕ) → length t ≤ i → RiseBefore N k t i (pastTriples N)
 unfolding risesFrom numbersRise
-rise-end N k t i h n l = rw (drop-of-length-le t h) (sym (lt-ltb n pastTriples l))
+rise-end N k t i h n l = rw (drop-of-length-le t h) (sym (lt-ltb n (pastTriples N) l))
 
 module _ (N k : ℕ) (t : Table) (i : ℕ) (h : i + 2 < length t) where
   abbrev numberAt : ℕ
@@ -143,38 +143,47 @@ module _ (N k : ℕ) (t : Table) (i : ℕ) (h : i + 2 < length t) where
   triple-tested n = ap (numbersRise N k n) (triple-at t i h)
 
   -- The triple is out of range ..
-  pub first-out : N ≤ getD t i 0 → RiseNever N k t i
+  first-out : N ≤ getD t i 0 → RiseNever N k t i
   first-out f n = triple-tested n ∙ rw (le-ltb (getD t i 0) N f)
 
-  pub label-out : getD t i 0 < N → k ≤ getD t (i + 1) 0 → RiseNever N k t i
-  label-out f g n = triple-tested n ∙ rw (lt-ltb (getD t i 0) N f, le-ltb (getD t (i + 1) 0) k g)
+  pub label-out : k ≤ getD t (i + 1) 0 → RiseNever N k t i
+  label-out g n = triple-tested n ∙ rw (le-ltb (getD t (i + 1) 0) k g, and-false (ltb (getD t i 0) N))
 
-  pub last-out : getD t i 0 < N → getD t (i + 1) 0 < k → N ≤ getD t (i + 2) 0 → RiseNever N k t i
-  last-out f g l n = triple-tested n ∙ rw (lt-ltb (getD t i 0) N f, lt-ltb (getD t (i + 1) 0) k g, le-ltb (getD t (i + 2) 0) N l)
+  pub last-out : N ≤ getD t (i + 2) 0 → RiseNever N k t i
+  last-out l n =
+      triple-tested n ∙ rw (le-ltb (getD t (i + 2) 0) N l, and-false (ltb (getD t (i + 1) 0) k), and-false (ltb (getD t i 0) N))
 
   -- .. or the triples behind it rise from no number ..
   never-before : RiseNever N k t (i + 3) → RiseNever N k t i
   never-before f n = triple-tested n ∙ rw (f numberAt, and-false (ltb n numberAt)) (and-false inRange)
 
-  module _ (f : getD t i 0 < N) (g : getD t (i + 1) 0 < k) (l : getD t (i + 2) 0 < N) (narrow : (j : ℕ) → getD t j 0 < 65536) (after : ℕ)
-      (rest : RiseBefore N k t (i + 3) after) where
-    triple-in : (n : ℕ) → risesFrom N k n t i ≡ (ltb n numberAt && ltb numberAt after)
-    triple-in n =
+  module _ (g : getD t (i + 1) 0 < k) (l : getD t (i + 2) 0 < N) (narrow : (j : ℕ) → getD t j 0 < 65536) (after : ℕ)
+      (below : after ≤ pastTriples N) (rest : RiseBefore N k t (i + 3) after) where
+    triple-in : getD t i 0 < N → (n : ℕ) → risesFrom N k n t i ≡ (ltb n numberAt && ltb numberAt after)
+    triple-in f n =
         triple-tested n
         ∙ rw (
           lt-ltb (getD t i 0) N f,
           lt-ltb (getD t (i + 1) 0) k g,
           lt-ltb (getD t (i + 2) 0) N l,
-          rest numberAt (omega (arith, narrow i, narrow (i + 1), narrow (i + 2))),
+          rest numberAt (omega (arith, narrow (i + 1), narrow (i + 2))),
         )
 
-    -- .. or not from its own ..
+    -- .. or not from its own, or it leaves no recording below N ..
     pub unordered : after ≤ numberAt → RiseNever N k t i
-    unordered o n = triple-in n ∙ rw (le-ltb numberAt after o) (and-false (ltb n numberAt))
+    unordered o = go (decLt (getD t i 0) N)
+      where
+        go : Dec (getD t i 0 < N) → RiseNever N k t i
+        go (yes f) n = triple-in f n ∙ rw (le-ltb numberAt after o) (and-false (ltb n numberAt))
+        go (no f) n = first-out (omega arith) n
 
-    -- .. or all of them rise.
-    pub rise-more : numberAt < after → RiseBefore N k t i numberAt
-    rise-more o n m = triple-in n ∙ rw (lt-ltb numberAt after o) (and-true (ltb n numberAt))
+    module _ (o : numberAt < after) where
+      -- .. or it leaves one, and all of them rise.
+      pub first-in : getD t i 0 < N
+      first-in = omega (arith, narrow (i + 1), narrow (i + 2))
+
+      pub rise-more : RiseBefore N k t i numberAt
+      rise-more n m = triple-in first-in n ∙ rw (lt-ltb numberAt after o) (and-true (ltb n numberAt))
 
 -- What the whole test says.
 

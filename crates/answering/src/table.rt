@@ -1,16 +1,13 @@
 // Whether lent numbers are a table of links or of lists, and where the links of each recording begin in it.
 ghost use mathlib.Core.Bool.{true};
 ghost use mathlib.Core.Path.{_≡_};
-ghost use Prim.Native.Nat.{_<_};
+ghost use Prim.Native.Nat.{_≤_, _<_};
 ghost use Rattle.answering.specs.Table.{isTable};
 ghost use Rattle.answering.specs.TableSteps.{tripleNumber};
 ghost use Rattle.answering.specs.LinkBegins.{Unlisted, LinkBegins};
 
 // The most links or lists of a table.
 const MOST_LINKS: usize = 16384;
-
-// A number past those of all triples.
-const PAST_TRIPLES: u64 = 281474976710657;
 
 // A lent number at 64 bits.
 pub(super) fn wide(number: u16) -> u64
@@ -36,9 +33,10 @@ fn number_of(x: u64, a: u64, y: u64) -> u64
 
 // Whether the numbers are a table: each triple is in range and comes before the one behind it, whose number is `after`. They are tested from
 // the last to the first, so that each takes the place of those behind it that leave the same recording: of a table, the first triple that
-// leaves each recording is listed at the end, where one does. Nothing is listed before.
+// leaves each recording is listed at the end, where one does. Nothing is listed before. The last triple has to come before all that leave a
+// recording out of range, so that no triple leaves one.
 pub(super) fn index_table(table: &[u16], recordings: u64, symbols: u64, begins: &mut [u16]) -> bool
-    requires { ⌜ Unlisted recordings (now begins) ⌝ }
+    requires { ⌜ (recordings ≤ 4096) × Unlisted recordings (now begins) ⌝ }
     ensures { λ r. ⌜ r ≡ isTable recordings symbols (now (table .entry)) ⌝ }
     ensures listed { λ r. ⌜ (r ≡ true → LinkBegins (now (table .entry)) recordings (now (begins .exit))) ⌝ }
 {
@@ -48,7 +46,7 @@ pub(super) fn index_table(table: &[u16], recordings: u64, symbols: u64, begins: 
     if table.len() % 3 != 0 {
         return false;
     }
-    let mut after = PAST_TRIPLES;
+    let mut after = number_of(recordings, 0, 0);
     let mut at = table.len() / 3;
     while 0 < at {
         at -= 1;
@@ -56,9 +54,6 @@ pub(super) fn index_table(table: &[u16], recordings: u64, symbols: u64, begins: 
         let a = wide(table[3 * at + 1]);
         let y = wide(table[3 * at + 2]);
         let number = number_of(x, a, y);
-        if recordings <= x {
-            return false;
-        }
         if symbols <= a {
             return false;
         }

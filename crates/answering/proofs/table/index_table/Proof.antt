@@ -1,5 +1,5 @@
 -- `index_table` meets its contract. The loop's invariant: from the triple number `at` on, the triples are in range and rise from the numbers
--- before `after`, and the first of each recording is listed.
+-- before `after`, which is at most that of a triple that leaves no recording, and the first of each recording is listed.
 use Prim.Native.Nat.{ℕ, _+_, _*_, _-_, _/_, _≤_, _<_}
 use mathlib.Core.Bool.{true, false, false≢true}
 use mathlib.Core.List.{List}
@@ -7,8 +7,8 @@ use mathlib.Core.Path.{_≡_, refl, sym, subst}
 use lib.ListN.{length, getD, length-set}
 use Rattle.theory.specs.Graph.{Table}
 use Rattle.answering.specs.Table.{mostLinks, isTable}
-use Rattle.answering.specs.TableSteps.{tripleNumber, RiseBefore, RiseNever, table-too-long, table-uneven, rise-end, rise-more}
-use Rattle.answering.specs.TableSteps.{first-out, label-out, last-out, unordered, table-rises, table-fails}
+use Rattle.answering.specs.TableSteps.{tripleNumber, pastTriples, RiseBefore, RiseNever, table-too-long, table-uneven}
+use Rattle.answering.specs.TableSteps.{rise-end, label-out, last-out, unordered, first-in, rise-more, table-rises, table-fails}
 use Rattle.answering.specs.LinkBegins.{LinkBegins, Begun, begun-none, begun-more, begun-all}
 use native.Mathlib.Omega.{arith}
 use borrow.Author.Needs.{needs}
@@ -18,6 +18,7 @@ use Rattle.answering.proofs.table.index_table.Tie as tie
 record Indexed (N k : ℕ) (t : Table) (begins₀ begins : List ℕ) (after at : ℕ) : Type 0 where
   within : at ≤ length t / 3
   above : 0 < after
+  below : after ≤ pastTriples N
   rest : RiseBefore N k t (3 * at) after
   long : length begins ≡ length begins₀
   begun : Begun t N at begins
@@ -46,16 +47,26 @@ returns-2 c =
     let a = c .before .before .before .before .args in
     (sym (table-uneven (a .recordings) (a .symbols) (a .table .now) (c .if2 .taken)), λ e. absurd (false≢true e))
 
+number-of-requires : tie.Need-number-of-requires Inv-loop μ-loop
+number-of-requires c κs =
+    let at-start = c .before .before .before .before in
+    (omega (arith, at-start .pre .0), omega arith, omega arith)
+
 loop-holds : tie.Need-loop-holds Inv-loop μ-loop
 loop-holds c =
-    let at-start = c .before .before .before .before in
+    let at-start = c .before .before .before .before .before in
     let a = at-start .args in
+    let t = a .table .now in
+    let e = c .number-of .ensures in
     record {
       within = omega arith;
       above = omega arith;
-      rest = rise-end (a .recordings) (a .symbols) (a .table .now) (3 * (length (a .table .now) / 3)) (omega arith);
+      below = omega arith;
+      rest =
+          subst (RiseBefore (a .recordings) (a .symbols) t (3 * (length t / 3))) (sym e)
+          (rise-end (a .recordings) (a .symbols) t (3 * (length t / 3)) (omega arith));
       long = refl;
-      begun = begun-none (at-start .pre);
+      begun = begun-none (at-start .pre .1);
     }
 
 sub-at : tie.Need-sub-at Inv-loop μ-loop
@@ -103,8 +114,8 @@ shared-slice-read-wide-3 c = search needs
 wide-requires-3 : tie.Need-wide-requires-3 Inv-loop μ-loop
 wide-requires-3 c κs = search needs
 
-number-of-requires : tie.Need-number-of-requires Inv-loop μ-loop
-number-of-requires c κs =
+number-of-requires-2 : tie.Need-number-of-requires-2 Inv-loop μ-loop
+number-of-requires-2 c κs =
     let at-table = c .before in
     let at-loop = at-table .before .before .before .before .before .before in
     let m = at-loop .loop .at - 1 in
@@ -117,13 +128,13 @@ same-length c = search needs
 returns-3 : tie.Need-returns-3 Inv-loop μ-loop
 returns-3 c =
     let at-loop = c .before .before .before .before .before .before .before .before .before in
-    let at-table = at-loop .before .before .before .before in
+    let at-table = at-loop .before .before .before .before .before in
     let at-start = at-table .before in
     let a = at-start .args in
     let m = at-loop .loop .at - 1 in
     let narrow : (i : ℕ) → getD (a .table .now) i 0 < 65536 = λ i. omega (arith, at-table .shared-slice-known .given i) in
     refused (a .recordings) (a .symbols) (a .table .now) _ (omega arith) narrow m (omega arith)
-    (first-out (a .recordings) (a .symbols) (a .table .now) (3 * m) (omega arith) (omega arith))
+    (label-out (a .recordings) (a .symbols) (a .table .now) (3 * m) (omega arith) (omega arith))
 
 same-length-2 : tie.Need-same-length-2 Inv-loop μ-loop
 same-length-2 c = search needs
@@ -131,13 +142,13 @@ same-length-2 c = search needs
 returns-4 : tie.Need-returns-4 Inv-loop μ-loop
 returns-4 c =
     let at-loop = c .before .before .before .before .before .before .before .before .before .before in
-    let at-table = at-loop .before .before .before .before in
+    let at-table = at-loop .before .before .before .before .before in
     let at-start = at-table .before in
     let a = at-start .args in
     let m = at-loop .loop .at - 1 in
     let narrow : (i : ℕ) → getD (a .table .now) i 0 < 65536 = λ i. omega (arith, at-table .shared-slice-known .given i) in
     refused (a .recordings) (a .symbols) (a .table .now) _ (omega arith) narrow m (omega arith)
-    (label-out (a .recordings) (a .symbols) (a .table .now) (3 * m) (omega arith) (omega arith) (omega arith))
+    (last-out (a .recordings) (a .symbols) (a .table .now) (3 * m) (omega arith) (omega arith))
 
 same-length-3 : tie.Need-same-length-3 Inv-loop μ-loop
 same-length-3 c = search needs
@@ -145,21 +156,7 @@ same-length-3 c = search needs
 returns-5 : tie.Need-returns-5 Inv-loop μ-loop
 returns-5 c =
     let at-loop = c .before .before .before .before .before .before .before .before .before .before .before in
-    let at-table = at-loop .before .before .before .before in
-    let at-start = at-table .before in
-    let a = at-start .args in
-    let m = at-loop .loop .at - 1 in
-    let narrow : (i : ℕ) → getD (a .table .now) i 0 < 65536 = λ i. omega (arith, at-table .shared-slice-known .given i) in
-    refused (a .recordings) (a .symbols) (a .table .now) _ (omega arith) narrow m (omega arith)
-    (last-out (a .recordings) (a .symbols) (a .table .now) (3 * m) (omega arith) (omega arith) (omega arith) (omega arith))
-
-same-length-4 : tie.Need-same-length-4 Inv-loop μ-loop
-same-length-4 c = search needs
-
-returns-6 : tie.Need-returns-6 Inv-loop μ-loop
-returns-6 c =
-    let at-loop = c .before .before .before .before .before .before .before .before .before .before .before .before in
-    let at-table = at-loop .before .before .before .before in
+    let at-table = at-loop .before .before .before .before .before in
     let at-start = at-table .before in
     let a = at-start .args in
     let l = at-loop .loop in
@@ -168,7 +165,7 @@ returns-6 c =
     let e : 3 * l .at ≡ 3 * m + 3 = omega arith in
     let narrow : (i : ℕ) → getD t i 0 < 65536 = λ i. omega (arith, at-table .shared-slice-known .given i) in
     refused (a .recordings) (a .symbols) t _ (omega arith) narrow m (omega arith)
-    (unordered (a .recordings) (a .symbols) t (3 * m) (omega arith) (omega arith) (omega arith) (omega arith) narrow (l .after)
+    (unordered (a .recordings) (a .symbols) t (3 * m) (omega arith) (omega arith) (omega arith) narrow (l .after) (l .inv .below)
     (subst (λ i. RiseBefore (a .recordings) (a .symbols) t i (l .after)) e (l .inv .rest)) (omega arith))
 
 cast-begins : tie.Need-cast-begins Inv-loop μ-loop
@@ -179,19 +176,19 @@ mul-begins c = search needs
 
 slice-write-begins : tie.Need-slice-write-begins Inv-loop μ-loop
 slice-write-begins c =
-    let at-loop = c .before .before .before .before .before .before .before .before .before .before .before .before in
-    let at-start = at-loop .before .before .before .before .before in
-    omega (arith, at-start .pre .fits, at-loop .loop .inv .long)
+    let at-loop = c .before .before .before .before .before .before .before .before .before .before .before in
+    let at-start = at-loop .before .before .before .before .before .before in
+    omega (arith, at-start .pre .1 .fits, at-loop .loop .inv .long, at-loop .loop .inv .below)
 
 loop-less : tie.Need-loop-less Inv-loop μ-loop
 loop-less c = search needs
 
 loop-again : tie.Need-loop-again Inv-loop μ-loop
 loop-again c =
-    let at-number-of = c .before .before .before .before in
+    let at-number-of = c .before .before .before in
     let at-wide = at-number-of .before .before .before .before .before in
     let at-loop = at-wide .before .before .before in
-    let at-table = at-loop .before .before .before .before in
+    let at-table = at-loop .before .before .before .before .before in
     let at-start = at-table .before in
     let a = at-start .args in
     let l = at-loop .loop in
@@ -200,28 +197,33 @@ loop-again c =
     let e : 3 * l .at ≡ 3 * m + 3 = omega arith in
     let f : m + 1 ≡ l .at = omega arith in
     let narrow : (i : ℕ) → getD t i 0 < 65536 = λ i. omega (arith, at-table .shared-slice-known .given i) in
-    let n = at-number-of .number-of .result in
+    let n = at-number-of .number-of2 .result in
     let number : tripleNumber (getD t (3 * m) 0) (getD t (3 * m + 1) 0) (getD t (3 * m + 2) 0) ≡ n = omega arith in
+    let below = l .inv .below in
+    let rest = subst (λ i. RiseBefore (a .recordings) (a .symbols) t i (l .after)) e (l .inv .rest) in
+    let leaves : getD t (3 * m) 0 < a .recordings =
+    first-in (a .recordings) (a .symbols) t (3 * m) (omega arith) (omega arith) (omega arith) narrow (l .after) below rest (omega arith) in
     record {
       within = omega arith;
       above = omega arith;
+      below = omega arith;
       rest =
           subst (λ n. RiseBefore (a .recordings) (a .symbols) t (3 * m) n) number
-          (rise-more (a .recordings) (a .symbols) t (3 * m) (omega arith) (omega arith) (omega arith) (omega arith) narrow (l .after)
-          (subst (λ i. RiseBefore (a .recordings) (a .symbols) t i (l .after)) e (l .inv .rest)) (omega arith));
+          (rise-more (a .recordings) (a .symbols) t (3 * m) (omega arith) (omega arith) (omega arith) narrow (l .after) below rest
+          (omega arith));
       long = simp length-set (l .inv .long);
       begun =
-          begun-more {begins = l .begins} (omega arith) (omega (arith, at-start .pre .fits, l .inv .long)) (at-wide .wide .ensures)
+          begun-more {begins = l .begins} (omega arith) (omega (arith, at-start .pre .1 .fits, l .inv .long)) (at-wide .wide .ensures)
           (rw f (l .inv .begun));
     }
 
-same-length-5 : tie.Need-same-length-5 Inv-loop μ-loop
-same-length-5 c = search needs
+same-length-4 : tie.Need-same-length-4 Inv-loop μ-loop
+same-length-4 c = search needs
 
-returns-7 : tie.Need-returns-7 Inv-loop μ-loop
-returns-7 c =
+returns-6 : tie.Need-returns-6 Inv-loop μ-loop
+returns-6 c =
     let at-loop = c .before in
-    let at-table = at-loop .before .before .before .before in
+    let at-table = at-loop .before .before .before .before .before in
     let at-start = at-table .before in
     let a = at-start .args in
     let l = at-loop .loop in
@@ -230,7 +232,7 @@ returns-7 c =
       sym (table-rises (a .recordings) (a .symbols) (a .table .now) (omega arith)
           (λ i. omega (arith, at-table .shared-slice-known .given i)) (l .after) (l .inv .above)
           (subst (λ i. RiseBefore (a .recordings) (a .symbols) (a .table .now) i (l .after)) f (l .inv .rest))),
-      λ z. begun-all (omega (arith, at-start .pre .fits, l .inv .long)) (rw e at (l .inv .begun)),
+      λ z. begun-all (omega (arith, at-start .pre .1 .fits, l .inv .long)) (rw e at (l .inv .begun)),
     )
 
 pub index-table-spec : {M : Type 1} → statement M
@@ -242,6 +244,7 @@ index-table-spec =
     mul-if1
     returns
     returns-2
+    number-of-requires
     loop-holds
     sub-at
     mul-wide
@@ -258,19 +261,17 @@ index-table-spec =
     mul-wide-6
     shared-slice-read-wide-3
     wide-requires-3
-    number-of-requires
+    number-of-requires-2
     same-length
     returns-3
     same-length-2
     returns-4
     same-length-3
     returns-5
-    same-length-4
-    returns-6
     cast-begins
     mul-begins
     slice-write-begins
     loop-less
     loop-again
-    same-length-5
-    returns-7)
+    same-length-4
+    returns-6)
