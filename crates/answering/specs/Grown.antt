@@ -150,18 +150,22 @@ grown-then {w} {N} {Source} {Others} {R} {P} {R'} {P'} {S'} {R''} {P''} {S''} f 
     back z s l (inl m) = behind z s (f .told z s l m)
     back z s l (inr m) = inr m
 
-pub grown-wider : {w N : ℕ} {Source Others : ℕ → ℕ → Type 0} {R P R' P' S' : List ℕ} {h h' : ℕ}
-    → Grown w N Others R P h R' P' S' h' → ((z s : ℕ) → Others z s → Source z s) → Grown w N Source R P h R' P' S' h'
-grown-wider {w} {N} {Source} {Others} {R} {P} {R'} {P'} {S'} g wider = record {
+pub grown-below : {w N : ℕ} {Source Others : ℕ → ℕ → Type 0} {R P R' P' S' : List ℕ} {h h' : ℕ}
+    → Grown w N Others R P h R' P' S' h' → ((z s : ℕ) → s < 64 * w → Others z s → Source z s) → Grown w N Source R P h R' P' S' h'
+grown-below {w} {N} {Source} {Others} {R} {P} {R'} {P'} {S'} g wider = record {
   ready = g .ready;
   kept = g .kept;
   still = g .still;
-  new = λ z s l m. new' z s (g .new z s l m);
+  new = λ z s l m. new' z s l (g .new z s l m);
   told = g .told;
   beyond = g .beyond;
   less = g .less;
 }
   where
-    new' : (z s : ℕ) → Has w R z s ⊎ (Others z s × Has w P' z s) → Has w R z s ⊎ (Source z s × Has w P' z s)
-    new' z s (inl m) = inl m
-    new' z s (inr m) = inr (wider z s (m .0), m .1)
+    new' : (z s : ℕ) → s < 64 * w → Has w R z s ⊎ (Others z s × Has w P' z s) → Has w R z s ⊎ (Source z s × Has w P' z s)
+    new' z s l (inl m) = inl m
+    new' z s l (inr m) = inr (wider z s l (m .0), m .1)
+
+pub grown-wider : {w N : ℕ} {Source Others : ℕ → ℕ → Type 0} {R P R' P' S' : List ℕ} {h h' : ℕ}
+    → Grown w N Others R P h R' P' S' h' → ((z s : ℕ) → Others z s → Source z s) → Grown w N Source R P h R' P' S' h'
+grown-wider g wider = grown-below g (λ z s l m. wider z s m)

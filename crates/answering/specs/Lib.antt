@@ -34,6 +34,7 @@ pub mod SetSteps
 pub mod SetSearchRun
 pub mod PlaceSteps
 pub mod WordSteps
+pub mod WordsPending
 pub mod Marks
 pub mod MarksSteps
 pub mod SetMarks

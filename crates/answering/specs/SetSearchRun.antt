@@ -134,33 +134,40 @@ module _ {k w states N start : ℕ} {reached images : List ℕ} (f : SetSizes k 
       go (inl n) = absurd (b .blank s l n)
       go (inr (e, f)) = f
 
--- The first pair is found: state 0 alone is added at the start.
-pub set-going-first : {w : ℕ} {Step : ℕ → ℕ → ℕ → Type 0} {k states : ℕ} {table : Table} {N start : ℕ} {reached pending stack : List ℕ}
-    {First : ℕ → Type 0} {R' P' S' : List ℕ} {h : ℕ} → SetBeginning w k states N start reached pending stack → First 0
+-- The first pair is found: state 0 alone is added at the start. What is pending before is reached.
+pub set-going-begin : {w : ℕ} {Step : ℕ → ℕ → ℕ → Type 0} {k states : ℕ} {table : Table} {N start : ℕ} {reached pending : List ℕ}
+    {First : ℕ → Type 0} {R' P' S' : List ℕ} {h : ℕ} → SetStarting w k states N start reached
+    → ((y s : ℕ) → s < 64 * w → Has w pending y s → Has w reached y s) → First 0
     → ((s : ℕ) → s < 64 * w → First s → s ≡ 0) → StatesAdded w N First start reached pending 0 R' P' S' h
     → SetGoing w Step k states table N start R' R' P' S' h
-set-going-first {w} {Step} {k} {states} {table} {N} {start} {reached} {pending} {stack} {First} {R'} {P'} {S'} {h} b first only f = record {
+set-going-begin {w} {Step} {k} {states} {table} {N} {start} {reached} {pending} {First} {R'} {P'} {S'} {h} b idle first only f = record {
   ready = f .grown .ready;
   within = λ y s l m. within' y s l (f .grown .told y s l m);
   sound = λ y s l m h. sound' y s h l (f .grown .new y s l m);
-  first = f .there 0 (let s = b .starting .fits .some-words in omega arith) first;
+  first = f .there 0 (let s = b .fits .some-words in omega arith) first;
   closed = λ sorted x s h l m. closed' x s h l (f .grown .new x s l m);
   beyond = refl;
 }
   where
     within' : (y s : ℕ) → s < 64 * w → Has w pending y s ⊎ Has w R' y s → Has w R' y s
-    within' y s l (inl m) = absurd (b .idle y s l m)
+    within' y s l (inl m) = f .grown .kept y s (idle y s l m)
     within' y s l (inr m) = m
 
     sound' : (y s : ℕ) → y < N → s < 64 * w → Has w reached y s ⊎ (OfRow First start y s × Has w P' y s)
         → SetFound Step k w states table N start y s
-    sound' y s h l (inl m) = absurd (b .starting .unreached y s h l m)
+    sound' y s h l (inl m) = absurd (b .unreached y s h l m)
     sound' y s h l (inr ((e, n), m)) = subst₂ (SetFound Step k w states table N start) (sym e) (sym (only s l n)) begins
 
     closed' : (x s : ℕ) → x < N → s < 64 * w → Has w reached x s ⊎ (OfRow First start x s × Has w P' x s)
         → Has w P' x s ⊎ SetClosedAt w Step k states table N R' x s
-    closed' x s h l (inl m) = absurd (b .starting .unreached x s h l m)
+    closed' x s h l (inl m) = absurd (b .unreached x s h l m)
     closed' x s h l (inr m) = inl (m .1)
+
+pub set-going-first : {w : ℕ} {Step : ℕ → ℕ → ℕ → Type 0} {k states : ℕ} {table : Table} {N start : ℕ} {reached pending stack : List ℕ}
+    {First : ℕ → Type 0} {R' P' S' : List ℕ} {h : ℕ} → SetBeginning w k states N start reached pending stack → First 0
+    → ((s : ℕ) → s < 64 * w → First s → s ≡ 0) → StatesAdded w N First start reached pending 0 R' P' S' h
+    → SetGoing w Step k states table N start R' R' P' S' h
+set-going-first b first only f = set-going-begin (b .starting) (λ y s l m. absurd (b .idle y s l m)) first only f
 
 module _ {w : ℕ} {Step : ℕ → ℕ → ℕ → Type 0} {k states : ℕ} {table : Table} {N start : ℕ} {before R P S : List ℕ} {h : ℕ}
     (g : SetGoing w Step k states table N start before R P S h) where

@@ -23,7 +23,7 @@ use Rattle.answering.specs.SetSearch.{Steps}
 use Rattle.answering.specs.Pairs.{place, Has, row-below, room, room-less}
 use Rattle.answering.specs.WordsFrom.{SomeFrom, Zeroed}
 use Rattle.answering.specs.Waiting.{Waiting, waiting-free, row-stays, row-push}
-use Rattle.answering.specs.Grown.{Ready, Grown, grown-none, grown-then, grown-wider, row-reached}
+use Rattle.answering.specs.Grown.{Ready, Grown, grown-none, grown-then, grown-below, grown-wider, row-reached}
 use Rattle.answering.specs.SetRows.{wordOf, newOf, United, SomeNew, united-has, united-kept, united-new, united-there}
 use Rattle.answering.specs.SetRows.{united-some, united-back, united-beyond}
 
@@ -346,3 +346,12 @@ module _ {w N k : ℕ} {table : Table} {x : ℕ} {Image : ℕ → ℕ → Type 0
           let u = sorted (link .at) j c m in
           omega arith
           ))
+
+-- The images may be told in another way.
+pub rows-same : {w N k : ℕ} {table : Table} {x : ℕ} {Image Other : ℕ → ℕ → Type 0} {R P : List ℕ} {h : ℕ} {R' P' S' : List ℕ} {h' : ℕ}
+    → ((a t : ℕ) → a < k → t < 64 * w → Image a t ↔ Other a t) → RowsFollowed w N k table x Image R P h R' P' S' h'
+    → RowsFollowed w N k table x Other R P h R' P' S' h'
+rows-same same f = record {
+  grown = grown-below (f .grown) (λ z t l (a, link, c, d, m). (a, link, c, d, same a t c l .0 m));
+  all = λ sorted a y link c d t l m. f .all sorted a y link c d t l (same a t c l .1 m);
+}

@@ -32,7 +32,7 @@ use Rattle.answering.specs.PlaceSteps.{PlaceStep}
 word-place : (y : ℕ) → 1 * y + 0 ≡ y
 word-place y = let e = one-mul y in omega arith
 
-has-word : (l : List ℕ) (y t : ℕ) → t < 64 → Has 1 l y t ↔ Member t (getD l y 0)
+pub has-word : (l : List ℕ) (y t : ℕ) → t < 64 → Has 1 l y t ↔ Member t (getD l y 0)
 unfolding Has
 has-word l y t h =
     let e : t % 64 ≡ t = omega arith in
@@ -54,6 +54,10 @@ rowsOf false k n = 1 * (k * n)
 abbrev pub WordImage : List ℕ → ℕ → ℕ → ℕ → Type 0
 WordImage images next a t = Member t (getD images a 0) × Member t next
 
+-- The next states of the states of a set.
+abbrev pub NextOf : Bool → List ℕ → ℕ → List ℕ → ℕ → ℕ → ℕ → Type 0
+NextOf cut rows k images states a t = (s : ℕ) × Member s states × WordStep cut rows k images s a t
+
 -- The states have their words, and the symbols their images.
 pub record NextRoom (cut : Bool) (k : ℕ) (rows : List ℕ) (states : ℕ) (images : List ℕ) : Type 0 where
   pub inside : (s : ℕ) → Member s states → rowsOf cut k (s + 1) ≤ length rows
@@ -61,7 +65,7 @@ pub record NextRoom (cut : Bool) (k : ℕ) (rows : List ℕ) (states : ℕ) (ima
 
 -- The images have the next states of a set.
 pub record NextImages (cut : Bool) (k : ℕ) (rows : List ℕ) (states : ℕ) (images images' : List ℕ) (next : ℕ) : Type 0 where
-  pub exactly : (a t : ℕ) → a < k → t < 64 → WordImage images' next a t ↔ ((s : ℕ) × Member s states × WordStep cut rows k images s a t)
+  pub exactly : (a t : ℕ) → a < k → t < 64 → WordImage images' next a t ↔ NextOf cut rows k images states a t
   pub same : cut ≡ true → images' ≡ images
 
 -- The images stay as they are where the rows are cut ..
@@ -146,18 +150,17 @@ step-kept true rows k s a t same =
     (subst (λ l. PlaceStep rows l s a t) (same refl), subst (λ l. PlaceStep rows l s a t) (sym (same refl)))
 step-kept false rows k s a t same = (λ m. m, λ m. m)
 
-pub words-spread : {cut : Bool} {k n : ℕ} {rows : List ℕ} {x : ℕ} {pending images images' enter : List ℕ} {next : ℕ} → n ≤ 64
-    → (cut ≡ true → images ≡ enter) → NextImages cut k rows (bitAnd (getD pending x 0) (2 ^ n - 1)) images images' next
-    → Spread 1 k (WordStep cut rows k enter) x n pending (WordImage images' next)
-words-spread {cut} {k} {n} {rows} {x} {pending} {images} {images'} {enter} {next} h same made = record {
+pub words-spread : (cut : Bool) (k n : ℕ) (rows : List ℕ) {x : ℕ} {pending images enter : List ℕ} {states : ℕ} → n ≤ 64
+    → (cut ≡ true → images ≡ enter) → states ≡ bitAnd (getD pending x 0) (2 ^ n - 1)
+    → Spread 1 k (WordStep cut rows k enter) x n pending (NextOf cut rows k images states)
+words-spread cut k n rows {x} {pending} {images} {enter} {states} h same e = record {
   exactly = λ a t l b. (
-    λ m.
-        let (s, p, q) = made .exactly a t l (omega arith) .0 m in
-        let (d, i) = states-cut n (getD pending x 0) s .0 p in
+    λ (s, p, q).
+        let (d, i) = states-cut n (getD pending x 0) s .0 (subst (Member s) e p) in
         (s, d, has-word pending x s (omega arith) .1 i, step-kept cut rows k s a t same .0 q),
     λ (s, d, p, q).
         let i = states-cut n (getD pending x 0) s .1 (d, has-word pending x s (omega arith) .0 p) in
-        made .exactly a t l (omega arith) .1 (s, i, step-kept cut rows k s a t same .1 q),
+        (s, subst (Member s) (sym e) i, step-kept cut rows k s a t same .1 q),
   );
 }
 

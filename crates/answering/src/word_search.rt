@@ -14,10 +14,10 @@ ghost use Rattle.theory.specs.Places.{Member};
 ghost use Rattle.places.specs.Joined.{joined};
 ghost use Rattle.answering.specs.Links.{FirstLink, InRange};
 ghost use Rattle.answering.specs.LinkBegins.{LinkBegins};
-ghost use Rattle.answering.specs.Grown.{Ready};
 ghost use Rattle.answering.specs.SetSteps.{StatesAdded, RowFollowed, RowsFollowed};
 ghost use Rattle.answering.specs.SetSearchRun.{SetBeginning, SetAllFound};
 ghost use Rattle.answering.specs.WordSteps.{rowsOf, WordStep, WordImage, NextRoom, NextImages, WordRoom, Raised};
+ghost use Rattle.answering.specs.WordsPending.{pendingOf, WordsReady, LinksFollowed};
 
 // The states below n.
 fn states_below(n: usize) -> u64
@@ -66,29 +66,27 @@ fn raised(height: usize, waited: u64, new: u64) -> usize
     }
 }
 
-// The recording y gets the states of the image; those that are new are pending, and y is on the stack. It is stored behind the stack in any
-// case. The height of the stack is returned.
+// The recording y gets the states of the image. Pending are those states of a recording that are reached and not in `done`, and y is on the
+// stack where it has some. It is stored behind the stack in any case. The height of the stack is returned.
 fn add_word(
     image: u64,
     y: usize,
     reached: &mut [u64],
-    pending: &mut [u64],
+    done: &[u64],
     stack: &mut [u16],
     height: usize,
 ) -> usize
-    requires { ⌜ WordRoom y (now reached) (now pending) (now stack) height ⌝ }
-    ensures { λ r. ⌜ ((N : ℕ) → Ready 1 N (now (reached .entry)) (now (pending .entry)) (now (stack .entry)) height → y < N
-        → StatesAdded 1 N (λ t. Member t image) y (now (reached .entry)) (now (pending .entry)) height
-        (now (reached .exit)) (now (pending .exit)) (now (stack .exit)) r) ⌝ }
+    requires { ⌜ WordRoom y (now reached) (now done) (now stack) height ⌝ }
+    ensures { λ r. ⌜ ((N : ℕ) → WordsReady N (now (reached .entry)) (now (done .entry)) (now (stack .entry)) height → y < N
+        → StatesAdded 1 N (λ t. Member t image) y
+        (now (reached .entry)) (pendingOf (now (reached .entry)) (now (done .entry))) height
+        (now (reached .exit)) (pendingOf (now (reached .exit)) (now (done .entry))) (now (stack .exit)) r) ⌝ }
 {
     let old = reached[y];
     let all = old | image;
-    let new = all ^ old;
-    let waited = pending[y];
     reached[y] = all;
-    pending[y] = waited | new;
     stack[height] = y as u16;
-    raised(height, waited, new)
+    raised(height, old ^ done[y], all ^ old)
 }
 
 // The link to y over the symbol a is followed. The height of the stack is returned.
@@ -99,16 +97,17 @@ fn follow_word(
     a: usize,
     y: usize,
     reached: &mut [u64],
-    pending: &mut [u64],
+    done: &[u64],
     stack: &mut [u16],
     height: usize,
 ) -> usize
-    requires { ⌜ Ready 1 (sizes .recordings) (now reached) (now pending) (now stack) height × (sizes .symbols ≤ length (now images))
+    requires { ⌜ WordsReady (sizes .recordings) (now reached) (now done) (now stack) height × (sizes .symbols ≤ length (now images))
         × (a < sizes .symbols) × (y < sizes .recordings) ⌝ }
     ensures { λ r. ⌜ RowFollowed 1 (sizes .recordings) (sizes .symbols) (WordImage (now (images .entry)) next) a y
-        (now (reached .entry)) (now (pending .entry)) height (now (reached .exit)) (now (pending .exit)) (now (stack .exit)) r ⌝ }
+        (now (reached .entry)) (pendingOf (now (reached .entry)) (now (done .entry))) height
+        (now (reached .exit)) (pendingOf (now (reached .exit)) (now (done .entry))) (now (stack .exit)) r ⌝ }
 {
-    add_word(images[a] & next, y, reached, pending, stack, height)
+    add_word(images[a] & next, y, reached, done, stack, height)
 }
 
 // All links that leave x are followed, `images` and `next` having the next states over each symbol, and `first` being the first triple that
@@ -121,15 +120,16 @@ fn follow_word_links(
     first: usize,
     x: usize,
     reached: &mut [u64],
-    pending: &mut [u64],
+    done: &[u64],
     stack: &mut [u16],
     height: usize,
 ) -> usize
-    requires { ⌜ Ready 1 (sizes .recordings) (now reached) (now pending) (now stack) height
+    requires { ⌜ WordsReady (sizes .recordings) (now reached) (now done) (now stack) height
         × (sizes .symbols ≤ length (now images)) × FirstLink (now table) x first
         × InRange (sizes .symbols) (sizes .recordings) (now table) ⌝ }
     ensures { λ r. ⌜ RowsFollowed 1 (sizes .recordings) (sizes .symbols) (now (table .entry)) x (WordImage (now (images .entry)) next)
-        (now (reached .entry)) (now (pending .entry)) height (now (reached .exit)) (now (pending .exit)) (now (stack .exit)) r ⌝ }
+        (now (reached .entry)) (pendingOf (now (reached .entry)) (now (done .entry))) height
+        (now (reached .exit)) (pendingOf (now (reached .exit)) (now (done .entry))) (now (stack .exit)) r ⌝ }
 {
     let from = x as u64;
     let mut top = height;
@@ -142,13 +142,51 @@ fn follow_word_links(
             link.label,
             link.end,
             reached,
-            pending,
+            done,
             stack,
             top,
         );
         link = next_leaving(table, link.at, from);
     }
     top
+}
+
+// All links that leave x are followed from the states. Where the rows are cut, `images` has the words of the symbols, and keeps them. The
+// height of the stack is returned.
+fn follow_states(
+    rows: &[u64],
+    cut: bool,
+    states: u64,
+    sizes: Sizes,
+    table: &[u16],
+    first: usize,
+    x: usize,
+    images: &mut [u64],
+    reached: &mut [u64],
+    done: &[u64],
+    stack: &mut [u16],
+    height: usize,
+) -> usize
+    requires { ⌜ NextRoom cut (sizes .symbols) (now rows) states (now images)
+        × WordsReady (sizes .recordings) (now reached) (now done) (now stack) height × FirstLink (now table) x first
+        × InRange (sizes .symbols) (sizes .recordings) (now table) ⌝ }
+    ensures { λ r. ⌜ LinksFollowed cut (sizes .recordings) (sizes .symbols) (now (table .entry)) x
+        (now (rows .entry)) states (now (images .entry)) (now (images .exit))
+        (now (reached .entry)) (now (done .entry)) height (now (reached .exit)) (now (stack .exit)) r ⌝ }
+{
+    let next = next_images(rows, cut, sizes.symbols, states, images);
+    follow_word_links(
+        images,
+        next,
+        sizes,
+        table,
+        first,
+        x,
+        reached,
+        done,
+        stack,
+        height,
+    )
 }
 
 // The numbers from the place `head` on, `count` of them, come to the front.
@@ -176,10 +214,10 @@ pub(super) fn follow_all_words(
     start: usize,
     reached: &mut [u64],
     images: &mut [u64],
-    pending: &mut [u64],
+    done: &mut [u64],
     stack: &mut [u16],
 )
-    requires { ⌜ SetBeginning 1 (sizes .symbols) (sizes .states) (sizes .recordings) start (now reached) (now pending) (now stack)
+    requires { ⌜ SetBeginning 1 (sizes .symbols) (sizes .states) (sizes .recordings) start (now reached) (now done) (now stack)
         × (rowsOf cut (sizes .symbols) (sizes .states) ≤ length (now rows)) × (sizes .symbols ≤ length (now images))
         × LinkBegins (now table) (sizes .recordings) (now begins) × (2 * sizes .recordings < length (now stack))
         × InRange (sizes .symbols) (sizes .recordings) (now table) ⌝ }
@@ -187,24 +225,27 @@ pub(super) fn follow_all_words(
         (now (table .entry)) (sizes .recordings) start (now (reached .entry)) (now (reached .exit)) ⌝ }
 {
     let known = states_below(sizes.states);
-    let mut top = add_word(1, start, reached, pending, stack, 0);
+    let mut top = add_word(1, start, reached, done, stack, 0);
     let mut head: usize = 0;
     while 0 < top {
         let x = index(stack[head]);
         top -= 1;
         head += 1;
-        let next = next_images(rows, cut, sizes.symbols, pending[x] & known, images);
-        pending[x] = 0;
+        let all = reached[x];
+        let states = (all ^ done[x]) & known;
+        done[x] = all;
         let first = index(begins[x]);
-        top = follow_word_links(
-            images,
-            next,
+        top = follow_states(
+            rows,
+            cut,
+            states,
             sizes,
             table,
             first,
             x,
+            images,
             reached,
-            pending,
+            done,
             &mut stack[head..],
             top,
         );
