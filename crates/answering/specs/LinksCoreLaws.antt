@@ -35,7 +35,7 @@ module _ (follow enter : List ℕ) (accepting labels : ℕ) where
     -- What the search and the marks promise together.
     pub places-marked : {start : ℕ} {before workspace reached after workspace′ : List ℕ} {r : ℕ}
         → ((i : ℕ) → getD enter i 0 < 2 ^ 64) → ((i : ℕ) → getD reached i 0 < 2 ^ 64)
-        → Lent N start before workspace → PlacesSearched follow enter labels table N start workspace reached
+        → Lent N start before workspace → PlacesSearched follow enter accepting labels table N start workspace reached
         → MarksSet 1 reached (accepting ∷ (0 ∷ (0 ∷ (0 ∷ [])))) N before after r → Cleared N reached workspace′
         → StandingsMarked A labels N table start before workspace after workspace′ r
     places-marked {start} {before} {workspace} {reached} {after} {workspace′} {r} enters bits l s m d found e =

@@ -27,7 +27,7 @@ use Rattle.answering.specs.LinkAnswers.{standings-marked}
 use Rattle.answering.specs.Pairs.{Has}
 use Rattle.answering.specs.SetSearch.{SetFound, begins, onward}
 use Rattle.answering.specs.SetMarks.{AcceptedAt}
-use Rattle.answering.specs.PlaceSteps.{PlaceStep, PlaceCount, PlacesSearchable}
+use Rattle.answering.specs.PlaceSteps.{PlaceStep, PlaceCount, PlacesSearchable, AcceptedAlike}
 
 -- The step of a standing, place by place.
 member-step : (follow enter : List ℕ) (accepting s a t : ℕ)
@@ -88,8 +88,10 @@ module _ (follow enter : List ℕ) (accepting labels : ℕ) (bits : (i : ℕ) �
 
   -- After the search, the recordings with an accepting place are those that the standings mark.
   pub accepted-marked : {start : ℕ} {before : List ℕ} (after : List ℕ) → PlacesSearchable enter labels N start before
-      → ((y t : ℕ) → y < N → t < 64 * 1 → Has 1 after y t → SetFound (PlaceStep follow enter) labels 1 places table N start y t)
-      → ((y t : ℕ) → SetFound (PlaceStep follow enter) labels 1 places table N start y t → Has 1 after y t)
+      → ((y t : ℕ) → y < N → t < 64 * 1 → Has 1 after y t
+      → (p : ℕ) × SetFound (PlaceStep follow enter) labels 1 places table N start y p × AcceptedAlike accepting p t)
+      → ((y p : ℕ) → SetFound (PlaceStep follow enter) labels 1 places table N start y p
+      → (t : ℕ) × (t < 64 * 1) × Has 1 after y t × AcceptedAlike accepting p t)
       → (limit : ℕ) (l : List (Entry ℕ)) → standings A labels limit ≡ all l → (y : ℕ) → y < N
       → AcceptedAt 1 after (accepting ∷ (0 ∷ (0 ∷ (0 ∷ [])))) y ↔ (getD (marks (linkMachine A (values l)) N table start) y 0 ≡ 1)
   accepted-marked {start} {before} after fit sound complete limit l e y h =
@@ -109,12 +111,13 @@ module _ (follow enter : List ℕ) (accepting labels : ℕ) (bits : (i : ℕ) �
       there : AcceptedAt 1 after (accepting ∷ (0 ∷ (0 ∷ (0 ∷ [])))) y
           → (p : Path) × Leads table p start y × (accepts A (standing A p) ≡ true)
       there (t, b, m, i) =
-          let (p, leads, n) = found-path (sound y t h b m) in
-          (p, leads, accepts-exactly A (standing A p) .1 (t, n, word t (omega arith) .0 i))
+          let (s, f, alike) = sound y t h b m in
+          let (p, leads, n) = found-path f in
+          (p, leads, accepts-exactly A (standing A p) .1 (s, n, alike .1 (word t (omega arith) .0 i)))
 
       back : ((p : Path) × Leads table p start y × (accepts A (standing A p) ≡ true))
           → AcceptedAt 1 after (accepting ∷ (0 ∷ (0 ∷ (0 ∷ [])))) y
       back (p, leads, a) =
-          let (t, n, i) = accepts-exactly A (standing A p) .0 a in
-          let (b, f) = path-found leads t n in
-          (t, omega arith, complete y t f, word t b .1 i)
+          let (s, n, i) = accepts-exactly A (standing A p) .0 a in
+          let (t, b, m, alike) = complete y s (path-found leads s n .1) in
+          (t, b, m, word t (omega arith) .1 (alike .0 i))

@@ -2,6 +2,7 @@
 -- and that the label enters. What this search promises.
 use Prim.Native.Nat.{ℕ, _*_, _≤_, _<_}
 use mathlib.Core.List.{List}
+use mathlib.Core.Logic.{_↔_}
 use mathlib.Core.Path.{_≡_, refl, sym, _∙_, subst}
 use native.Mathlib.Decide.{decLe}
 use native.Mathlib.Nat.{one-mul}
@@ -34,14 +35,19 @@ pub record PlacesSearchable (enter : List ℕ) (labels N start : ℕ) (reached :
   pub begins : start < N
   pub room : N ≤ length reached
 
--- What the search promises: the words hold exactly the pairs found, where the table is sorted.
-pub record PlacesSearched (follow enter : List ℕ) (labels : ℕ) (table : Table) (N start : ℕ) (before after : List ℕ) : Type 0 where
+-- Two places are accepted alike: both, or neither.
+abbrev pub AcceptedAlike : ℕ → ℕ → ℕ → Type 0
+AcceptedAlike accepting p t = Member p accepting ↔ Member t accepting
+
+-- What the search promises: where the table is sorted, the words hold exactly the pairs found, up to places that are accepted alike.
+pub record PlacesSearched (follow enter : List ℕ) (accepting labels : ℕ) (table : Table) (N start : ℕ) (before after : List ℕ) : Type 0 where
   pub places : ℕ
   pub count : PlaceCount follow places
   pub sound : PlacesSearchable enter labels N start before → (y t : ℕ) → y < N → t < 64 * 1 → Has 1 after y t
-      → SetFound (PlaceStep follow enter) labels 1 places table N start y t
-  pub complete : PlacesSearchable enter labels N start before → SortedByFrom table → (y t : ℕ)
-      → SetFound (PlaceStep follow enter) labels 1 places table N start y t → Has 1 after y t
+      → (p : ℕ) × SetFound (PlaceStep follow enter) labels 1 places table N start y p × AcceptedAlike accepting p t
+  pub complete : PlacesSearchable enter labels N start before → SortedByFrom table → (y p : ℕ)
+      → SetFound (PlaceStep follow enter) labels 1 places table N start y p
+      → (t : ℕ) × (t < 64 * 1) × Has 1 after y t × AcceptedAlike accepting p t
   pub beyond : PlacesSearchable enter labels N start before → drop (1 * N) after ≡ drop (1 * N) before
   pub same-length : length after ≡ length before
 
@@ -73,21 +79,32 @@ found-alike : {Step Other : ℕ → ℕ → ℕ → Type 0} {k w states : ℕ} {
 found-alike same begins = begins
 found-alike same (onward {s = s} {a = a} {t = t} f h l b d i m) = onward (found-alike same f) h l b d i (same s a t b m)
 
+-- What is found is a place below 64.
+found-below : {Step : ℕ → ℕ → ℕ → Type 0} {k states : ℕ} {table : Table} {N start : ℕ} {y t : ℕ} → SetFound Step k 1 states table N start y t
+    → t < 64 * 1
+found-below begins = omega arith
+found-below (onward f h l b d i m) = i
+
 -- The search went by copied words.
-pub places-searched : {follow enter : List ℕ} (images : List ℕ) {labels : ℕ} {table : Table} {N start places : ℕ}
+pub places-searched : {follow enter : List ℕ} (images : List ℕ) {accepting labels : ℕ} {table : Table} {N start places : ℕ}
     {before cleared after : List ℕ} → PlaceCount follow places → PlacesSearchable enter labels N start before
     → ((a : ℕ) → a < labels → getD images a 0 ≡ getD enter a 0) → Cleared N before cleared → length after ≡ length before
     → SetAllFound 1 (PlaceStep follow images) labels places table N start cleared after
-    → PlacesSearched follow enter labels table N start before after
-places-searched {follow} {enter} images {places = places} c fit copied d long all = record {
+    → PlacesSearched follow enter accepting labels table N start before after
+places-searched {follow} {enter} images {labels = labels} {places = places} c fit copied d long all = record {
   places = places;
   count = c;
-  sound = λ f y t h l m. found-alike (λ s a t b n. (n .0, subst (Member t) (copied a b) (n .1))) (all .sound y t h l m);
-  complete = λ f sorted y t m.
-      all .complete sorted y t (found-alike (λ s a t b n. (n .0, subst (Member t) (sym (copied a b)) (n .1))) m);
+  sound = λ f y t h l m. (t, found-alike there (all .sound y t h l m), (λ i. i, λ i. i));
+  complete = λ f sorted y t m. (t, found-below m, all .complete sorted y t (found-alike back m), (λ i. i, λ i. i));
   beyond = λ f. all .beyond ∙ cleared-beyond (one-row d) (place-sizes c fit .room);
   same-length = long;
 }
+  where
+    there : (s a t : ℕ) → a < labels → PlaceStep follow images s a t → PlaceStep follow enter s a t
+    there s a t b (n, e) = (n, subst (Member t) (copied a b) e)
+
+    back : (s a t : ℕ) → a < labels → PlaceStep follow enter s a t → PlaceStep follow images s a t
+    back s a t b (n, e) = (n, subst (Member t) (sym (copied a b)) e)
 
 -- The places can be counted in any case.
 count-places : (follow : List ℕ) → (n : ℕ) × PlaceCount follow n
@@ -97,8 +114,8 @@ count-places follow = go (decLe (length follow) 64)
     go (yes h) = (length follow, record { most = h; fits = omega arith; all = λ p l b. l })
     go (no h) = (64, record { most = omega arith; fits = omega arith; all = λ p l b. b })
 
-pub places-unsearched : {follow enter : List ℕ} {labels : ℕ} {table : Table} {N start : ℕ} {before : List ℕ}
-    → ¬ PlacesSearchable enter labels N start before → PlacesSearched follow enter labels table N start before before
+pub places-unsearched : {follow enter : List ℕ} {accepting labels : ℕ} {table : Table} {N start : ℕ} {before : List ℕ}
+    → ¬ PlacesSearchable enter labels N start before → PlacesSearched follow enter accepting labels table N start before before
 places-unsearched {follow} n =
     let (places, c) = count-places follow in
     record {

@@ -11,7 +11,8 @@ ghost use lib.ListN.{length, getD};
 ghost use Rattle.answering.specs.Links.{InRange};
 ghost use Rattle.answering.specs.LinkBegins.{LinkBegins};
 ghost use Rattle.answering.specs.SetSearchRun.{SetStarting, SetAllFound};
-ghost use Rattle.answering.specs.PlaceSteps.{PlaceStep, PlaceCount, PlacesSearchable, PlacesSearched};
+ghost use Rattle.answering.specs.PlaceSteps.{PlaceCount, PlacesSearchable, PlacesSearched};
+ghost use Rattle.answering.specs.WordSteps.{rowsOf, WordStep};
 
 // How many places are searched: all of them, of at most 64.
 fn place_count(follow: &[u64]) -> usize
@@ -38,7 +39,8 @@ fn load_enter(enter: &[u64], labels: usize, images: &mut [u64])
 
 // The search with room for a few recordings.
 fn search_few(
-    follow: &[u64],
+    rows: &[u64],
+    cut: bool,
     sizes: Sizes,
     table: &[u16],
     begins: &[u16],
@@ -47,17 +49,17 @@ fn search_few(
     images: &mut [u64],
 )
     requires { ⌜ SetStarting 1 (sizes .symbols) (sizes .states) (sizes .recordings) start (now reached)
-        × (sizes .states ≤ length (now follow)) × (sizes .symbols ≤ length (now images)) × (sizes .recordings ≤ 256)
-        × InRange (sizes .symbols) (sizes .recordings) (now table)
+        × (rowsOf cut (sizes .symbols) (sizes .states) ≤ length (now rows)) × (sizes .symbols ≤ length (now images))
+        × (sizes .recordings ≤ 256) × InRange (sizes .symbols) (sizes .recordings) (now table)
         × LinkBegins (now table) (sizes .recordings) (now begins) ⌝ }
-    ensures { λ _. ⌜ SetAllFound 1 (PlaceStep (now (follow .entry)) (now (images .entry))) (sizes .symbols) (sizes .states)
-        (now (table .entry)) (sizes .recordings) start (now (reached .entry)) (now (reached .exit)) ⌝ }
+    ensures { λ _. ⌜ SetAllFound 1 (WordStep cut (now (rows .entry)) (sizes .symbols) (now (images .entry))) (sizes .symbols)
+        (sizes .states) (now (table .entry)) (sizes .recordings) start (now (reached .entry)) (now (reached .exit)) ⌝ }
 {
     let mut pending: [u64; 256] = [0; 256];
     let mut stack: [u16; 513] = [0; 513];
     follow_all_words(
-        follow,
-        true,
+        rows,
+        cut,
         sizes,
         table,
         begins,
@@ -71,7 +73,8 @@ fn search_few(
 
 // The search with room for as many recordings as there may be.
 fn search_many(
-    follow: &[u64],
+    rows: &[u64],
+    cut: bool,
     sizes: Sizes,
     table: &[u16],
     begins: &[u16],
@@ -80,17 +83,17 @@ fn search_many(
     images: &mut [u64],
 )
     requires { ⌜ SetStarting 1 (sizes .symbols) (sizes .states) (sizes .recordings) start (now reached)
-        × (sizes .states ≤ length (now follow)) × (sizes .symbols ≤ length (now images))
+        × (rowsOf cut (sizes .symbols) (sizes .states) ≤ length (now rows)) × (sizes .symbols ≤ length (now images))
         × InRange (sizes .symbols) (sizes .recordings) (now table)
         × LinkBegins (now table) (sizes .recordings) (now begins) ⌝ }
-    ensures { λ _. ⌜ SetAllFound 1 (PlaceStep (now (follow .entry)) (now (images .entry))) (sizes .symbols) (sizes .states)
-        (now (table .entry)) (sizes .recordings) start (now (reached .entry)) (now (reached .exit)) ⌝ }
+    ensures { λ _. ⌜ SetAllFound 1 (WordStep cut (now (rows .entry)) (sizes .symbols) (now (images .entry))) (sizes .symbols)
+        (sizes .states) (now (table .entry)) (sizes .recordings) start (now (reached .entry)) (now (reached .exit)) ⌝ }
 {
     let mut pending: [u64; 4096] = [0; 4096];
     let mut stack: [u16; 8193] = [0; 8193];
     follow_all_words(
-        follow,
-        true,
+        rows,
+        cut,
         sizes,
         table,
         begins,
@@ -100,6 +103,31 @@ fn search_many(
         &mut pending,
         &mut stack,
     );
+}
+
+// The search with as much room as the recordings need: to zero room for many takes longer than to search a table of few.
+fn search_words(
+    rows: &[u64],
+    cut: bool,
+    sizes: Sizes,
+    table: &[u16],
+    begins: &[u16],
+    start: usize,
+    reached: &mut [u64],
+    images: &mut [u64],
+)
+    requires { ⌜ SetStarting 1 (sizes .symbols) (sizes .states) (sizes .recordings) start (now reached)
+        × (rowsOf cut (sizes .symbols) (sizes .states) ≤ length (now rows)) × (sizes .symbols ≤ length (now images))
+        × InRange (sizes .symbols) (sizes .recordings) (now table)
+        × LinkBegins (now table) (sizes .recordings) (now begins) ⌝ }
+    ensures { λ _. ⌜ SetAllFound 1 (WordStep cut (now (rows .entry)) (sizes .symbols) (now (images .entry))) (sizes .symbols)
+        (sizes .states) (now (table .entry)) (sizes .recordings) start (now (reached .entry)) (now (reached .exit)) ⌝ }
+{
+    if sizes.recordings <= 256 {
+        search_few(rows, cut, sizes, table, begins, start, reached, images);
+    } else {
+        search_many(rows, cut, sizes, table, begins, start, reached, images);
+    }
 }
 
 // Whether the sizes fit the search and what is lent.
@@ -134,8 +162,8 @@ pub(super) fn search_places(
     reached: &mut [u64],
 )
     requires { ⌜ InRange labels recordings (now table) × LinkBegins (now table) recordings (now begins) ⌝ }
-    ensures { λ _. ⌜ PlacesSearched (now (follow .entry)) (now (enter .entry)) labels (now (table .entry)) recordings start
-        (now (reached .entry)) (now (reached .exit)) ⌝ }
+    ensures { λ _. ⌜ ((accepting : ℕ) → PlacesSearched (now (follow .entry)) (now (enter .entry)) accepting labels (now (table .entry))
+        recordings start (now (reached .entry)) (now (reached .exit))) ⌝ }
 {
     if !fitting(enter, labels, recordings, start, reached) {
         return;
@@ -149,25 +177,14 @@ pub(super) fn search_places(
     };
     let mut images: [u64; 32] = [0; 32];
     load_enter(enter, sizes.symbols, &mut images);
-    if recordings <= 256 {
-        search_few(
-            follow,
-            sizes,
-            table,
-            begins,
-            start as usize,
-            reached,
-            &mut images,
-        );
-    } else {
-        search_many(
-            follow,
-            sizes,
-            table,
-            begins,
-            start as usize,
-            reached,
-            &mut images,
-        );
-    }
+    search_words(
+        follow,
+        true,
+        sizes,
+        table,
+        begins,
+        start as usize,
+        reached,
+        &mut images,
+    );
 }

@@ -29,7 +29,7 @@ returns c =
     let a = at-enter .before .before .args in
     λ g l.
     places-marked (a .follow .now) (a .enter .now) (a .accepting) (a .labels) g (λ i. at-enter .shared-slice-known2 .given i .fits)
-    (λ i. at-reached .slice-known3 .given i .fits) l (at-search-places .search-places .ensures) (at-mark .mark .ensures)
+    (λ i. at-reached .slice-known3 .given i .fits) l (at-search-places .search-places .ensures (a .accepting)) (at-mark .mark .ensures)
     (at-clear-words .clear-words .ensures)
 
 pub mark-places-spec : {M : Type 1} → statement M

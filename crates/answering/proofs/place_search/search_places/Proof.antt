@@ -17,7 +17,7 @@ same-length c = search needs
 returns : tie.Need-returns
 returns c =
     let at-fitting = c .before in
-    places-unsearched (λ f. false≢true (sym (not-true _ (c .if1 .taken)) ∙ at-fitting .fitting .ensures .1 f))
+    λ accepting. places-unsearched (λ f. false≢true (sym (not-true _ (c .if1 .taken)) ∙ at-fitting .fitting .ensures .1 f))
 
 clear-words-requires : tie.Need-clear-words-requires
 clear-words-requires c κs = search needs
@@ -35,29 +35,12 @@ load-enter-requires c κs =
     let f = at-fitting .fitting .ensures .0 (not-false _ (at-if1 .if1 .left)) in
     (f .enters, omega (arith, f .few-labels))
 
-slice-aggregate-search-few : tie.Need-slice-aggregate-search-few
-slice-aggregate-search-few c = search needs
+slice-aggregate-search-words : tie.Need-slice-aggregate-search-words
+slice-aggregate-search-words c = search needs
 
-search-few-requires : tie.Need-search-few-requires
-search-few-requires c κs =
-    let at-if2 = c .before .before in
-    let at-load-enter = at-if2 .before .before in
-    let at-place-count = at-load-enter .before .before in
-    let at-clear-words = at-place-count .before .before .before in
-    let at-if1 = at-clear-words .before .before in
-    let at-fitting = at-if1 .before in
-    let f = at-fitting .fitting .ensures .0 (not-false _ (at-if1 .if1 .left)) in
-    let d = at-clear-words .clear-words in
-    let n = at-place-count .place-count .ensures in
-    let p = at-fitting .before .before .before .before .before .before .before .pre in
-    (places-starting n f (d .ensures) (d .kept .0), n .fits, omega (arith, f .few-labels), at-if2 .if2 .taken, p .0, p .1)
-
-slice-aggregate-search-many : tie.Need-slice-aggregate-search-many
-slice-aggregate-search-many c = search needs
-
-search-many-requires : tie.Need-search-many-requires
-search-many-requires c κs =
-    let at-load-enter = c .before .before .before .before in
+search-words-requires : tie.Need-search-words-requires
+search-words-requires c κs =
+    let at-load-enter = c .before .before .before in
     let at-place-count = at-load-enter .before .before in
     let at-clear-words = at-place-count .before .before .before in
     let at-if1 = at-clear-words .before .before in
@@ -73,36 +56,19 @@ same-length-2 c = search needs
 
 returns-2 : tie.Need-returns-2
 returns-2 c =
-    let at-search-few = c .before .before .before in
-    let at-load-enter = at-search-few .before .before .before .before .before in
+    let at-search-words = c .before .before .before in
+    let at-load-enter = at-search-words .before .before .before .before in
     let at-place-count = at-load-enter .before .before in
     let at-clear-words = at-place-count .before .before .before in
     let at-if1 = at-clear-words .before .before in
     let at-fitting = at-if1 .before in
     let f = at-fitting .fitting .ensures .0 (not-false _ (at-if1 .if1 .left)) in
     let d = at-clear-words .clear-words in
-    let r = at-search-few .search-few in
+    let r = at-search-words .search-words in
     let e = at-load-enter .load-enter in
+    λ accepting.
     places-searched (e .last .1 .1 .0) (at-place-count .place-count .ensures) f (e .ensures) (d .ensures)
-    (r .kept .1 .1 .1 .1 .1 .0 ∙ d .kept .0) (r .ensures)
-
-same-length-3 : tie.Need-same-length-3
-same-length-3 c = search needs
-
-returns-3 : tie.Need-returns-3
-returns-3 c =
-    let at-search-many = c .before .before .before in
-    let at-load-enter = at-search-many .before .before .before .before .before in
-    let at-place-count = at-load-enter .before .before in
-    let at-clear-words = at-place-count .before .before .before in
-    let at-if1 = at-clear-words .before .before in
-    let at-fitting = at-if1 .before in
-    let f = at-fitting .fitting .ensures .0 (not-false _ (at-if1 .if1 .left)) in
-    let d = at-clear-words .clear-words in
-    let r = at-search-many .search-many in
-    let e = at-load-enter .load-enter in
-    places-searched (e .last .1 .1 .0) (at-place-count .place-count .ensures) f (e .ensures) (d .ensures)
-    (r .kept .1 .1 .1 .1 .1 .0 ∙ d .kept .0) (r .ensures)
+    (r .kept .1 .1 .1 .1 .1 .1 .0 ∙ d .kept .0) (r .ensures)
 
 pub search-places-spec : {M : Type 1} → statement M
 search-places-spec =
@@ -115,11 +81,7 @@ search-places-spec =
     place-count-requires
     slice-aggregate-load-enter
     load-enter-requires
-    slice-aggregate-search-few
-    search-few-requires
-    slice-aggregate-search-many
-    search-many-requires
+    slice-aggregate-search-words
+    search-words-requires
     same-length-2
-    returns-2
-    same-length-3
-    returns-3)
+    returns-2)
