@@ -90,7 +90,7 @@ cut-images {cut} k rows {states} images {next} c small e =
 
 -- .. and are made anew where they are not.
 
-ones : (t : ℕ) → t < 64 → Member t 18446744073709551615
+pub ones : (t : ℕ) → t < 64 → Member t 18446744073709551615
 ones t h =
     let e : bitAnd (2 ^ t) 18446744073709551615 ≡ 2 ^ t = and-mask (2 ^ t) 64 ∙ mod-eq-of-lt (pow-lt h) in
     member-intersection t (2 ^ t) 18446744073709551615 .0 (subst (Member t) (sym e) (member-one t t .1 refl)) .1

@@ -1,27 +1,30 @@
 -- What is pending where each set of states is one word (WordSteps), told by two lists: what is reached, and what has been followed of it.
 use Prim.Native.Nat.{ℕ, zero, suc, _+_, _*_, _-_, _^_, _≤_, _<_}
-use mathlib.Core.Bool.{Bool, true}
+use mathlib.Core.Bool.{Bool, true, false}
 use mathlib.Core.List.{List, [], _∷_}
-use mathlib.Core.Logic.{_⊎_, inl, inr}
+use mathlib.Core.Logic.{_↔_, _⊎_, inl, inr}
 use mathlib.Core.Path.{_≡_, refl, sym, ap, _∙_, subst}
 use native.Mathlib.Decide.{ℕ-discrete}
-use native.Mathlib.Nat.{one-mul}
+use native.Mathlib.Nat.{one-mul, mul-one, mul-add}
 use native.Mathlib.Omega.{arith}
 use lib.Bits.{bitAnd, bitXor, xor-self, xor-zero-r}
+use lib.Count.{trailingZeros}
 use lib.ListN.{length, getD, set, drop, length-set}
-use lib.Seq.{getD-set-same, getD-set-other}
+use lib.Seq.{getD-set-same, getD-set-other, getD-drop}
 use Rattle.theory.specs.Graph.{Table}
 use Rattle.theory.specs.Places.{Member, union}
 use Rattle.theory.specs.PlacesLaws.{decMember, member-none, member-below, member-union, member-intersection, equal-members, no-members}
 use Rattle.theory.specs.PlacesWithin.{member-without}
-use Rattle.answering.specs.Rest.{restOf}
+use Rattle.places.specs.NextPlace.{trailing-here}
+use Rattle.places.specs.Followed.{least-left}
+use Rattle.answering.specs.Rest.{restOf, rest-all}
 use Rattle.answering.specs.Pairs.{Has}
 use Rattle.answering.specs.WordsFrom.{Zeroed}
 use Rattle.answering.specs.Grown.{Ready, Grown, front-below, ready-front}
 use Rattle.answering.specs.SetSteps.{StatesAdded, RowsFollowed, rows-same}
 use Rattle.answering.specs.SetSearchRun.{SetBeginning}
-use Rattle.answering.specs.WordSteps.{WordImage, NextOf, WordRoom, NextImages, Raised, newWord, has-word, word-room, word-added}
-use Rattle.answering.specs.WordSteps.{zeroed-one}
+use Rattle.answering.specs.WordSteps.{rowsOf, WordImage, NextOf, NextRoom, NextImages, WordRoom, Raised, newWord, has-word}
+use Rattle.answering.specs.WordSteps.{ones, word-room, word-added, zeroed-one}
 
 -- Of each word that is reached what has not been followed, for as many words as there are in both.
 pub pendingOf : List ℕ → List ℕ → List ℕ
@@ -115,7 +118,8 @@ left-more old done image h =
     kept : (s : ℕ) → Member s old → Member s all
     kept s m = member-union s old image .1 (inl m)
 
-    there : (s : ℕ) → Member s (bitXor old (bitAnd old done)) ⊎ Member s (bitXor all (bitAnd all old)) → Member s (bitXor all (bitAnd all done))
+    there : (s : ℕ) → Member s (bitXor old (bitAnd old done)) ⊎ Member s (bitXor all (bitAnd all old))
+        → Member s (bitXor all (bitAnd all done))
     there s (inl m) = let (a, d) = member-without old done s .0 m in member-without all done s .1 (kept s a, d)
     there s (inr m) = let (a, d) = member-without all old s .0 m in member-without all done s .1 (a, λ n. d (h s n))
 
@@ -171,7 +175,8 @@ none-word l y small n =
     no-members (getD l y 0) (λ s m. let b = member-below 64 (getD l y 0) s small m in n s b (has-word l y s b .1 m))
 
 -- Where nothing has been followed, all that is reached is pending.
-pending-all : (R D : List ℕ) → ((i : ℕ) → getD D i 0 ≡ 0) → (i : ℕ) → (getD (pendingOf R D) i 0 ≡ getD R i 0) ⊎ (getD (pendingOf R D) i 0 ≡ 0)
+pending-all : (R D : List ℕ) → ((i : ℕ) → getD D i 0 ≡ 0) → (i : ℕ)
+    → (getD (pendingOf R D) i 0 ≡ getD R i 0) ⊎ (getD (pendingOf R D) i 0 ≡ 0)
 unfolding pendingOf
 pending-all [] D z i = inr refl
 pending-all (r ∷ R) [] z i = inr refl
@@ -202,7 +207,8 @@ module _ {k states N start : ℕ} {R D S : List ℕ} (b : SetBeginning 1 k state
     within = λ y s l m. absurd (b .idle y s l m);
   }
     where
-      zero-word : (y : ℕ) → y < N → (getD (pendingOf R D) y 0 ≡ getD R y 0) ⊎ (getD (pendingOf R D) y 0 ≡ 0) → getD (pendingOf R D) y 0 ≡ 0
+      zero-word : (y : ℕ) → y < N → (getD (pendingOf R D) y 0 ≡ getD R y 0) ⊎ (getD (pendingOf R D) y 0 ≡ 0)
+          → getD (pendingOf R D) y 0 ≡ 0
       zero-word y l (inl e) = e ∙ none-word R y (small y) (λ s c. b .starting .unreached y s l c)
       zero-word y l (inr e) = e
 
@@ -234,8 +240,8 @@ done-taken R D x h w y s l m = has-word R y s l .1 (go (ℕ-discrete y x) (has-w
         subst (Member s) f n
     go (no e) n = has-word R y s l .0 (w y s l (has-word D y s l .1 (subst (Member s) (getD-set-other D x y word 0 e) n)))
 
-pub words-front : (at : ℕ) (S : List ℕ) {N x : ℕ} {R D : List ℕ} {h : ℕ} → WordsReady N R D (drop at S) h → 0 < h → N + (at + 1) < length S
-    → x ≡ getD S at 0 → WordsReady N R (set D x (getD R x 0)) (restOf (at + 1) S) (h - 1)
+pub words-front : (at : ℕ) (S : List ℕ) {N x : ℕ} {R D : List ℕ} {h : ℕ} → WordsReady N R D (drop at S) h → 0 < h
+    → N + (at + 1) < length S → x ≡ getD S at 0 → WordsReady N R (set D x (getD R x 0)) (restOf (at + 1) S) (h - 1)
 words-front at S {N} {x} {R} {D} {h} w l long e = record {
   ready = ready-front at S (w .ready) l long e (ap length (taken R D x) ∙ length-set (pendingOf R D) x 0) (done-zeroed R D x);
   within = done-taken R D x below (w .within);
@@ -268,3 +274,51 @@ pub links-joined : {cut : Bool} {N k : ℕ} {table : Table} {x : ℕ} {rows : Li
     → RowsFollowed 1 N k table x (WordImage images' next) R (pendingOf R D) h R' (pendingOf R' D) S' h'
     → LinksFollowed cut N k table x rows states images images' R D h R' S' h'
 links-joined made f = record { followed = rows-same (λ a t c l. made .exactly a t c (omega arith)) f; same = made .same }
+
+-- The row of a state that is alone has its next states.
+
+-- Whether a set has one state alone, its least.
+pub record Alone (states : ℕ) (r : Bool) : Type 0 where
+  pub only : r ≡ true → (s : ℕ) → Member s states ↔ (s ≡ trailingZeros 64 states)
+
+pub alone-least : (states : ℕ) → ¬ (states ≡ 0) → states < 2 ^ 64 → bitAnd states (states - 1) ≡ 0
+    → (s : ℕ) → Member s states ↔ (s ≡ trailingZeros 64 states)
+alone-least states d h e s = (
+  λ m. go m (ℕ-discrete s (trailingZeros 64 states)),
+  λ q. subst (λ s. Member s states) (sym q) (trailing-here 64 states d h),
+)
+  where
+    go : Member s states → Dec (s ≡ trailingZeros 64 states) → s ≡ trailingZeros 64 states
+    go m (yes q) = q
+    go m (no q) = absurd (member-none s (subst (Member s) e (least-left 64 states d h s .1 (m, q))))
+
+-- The row lies within the rows.
+pub row-long : {cut : Bool} {k : ℕ} {rows : List ℕ} {states : ℕ} {images : List ℕ} (s : ℕ) → NextRoom cut k rows states images
+    → cut ≡ false → Member s states → k * s + k ≤ length rows
+row-long {cut} {k} {rows} s room c m =
+    let h = subst (λ cut. rowsOf cut k (s + 1) ≤ length rows) c (room .inside s m) in
+    let e = one-mul (k * (s + 1)) in
+    let f = mul-add k s 1 in
+    let g = mul-one k in
+    omega arith
+
+pub links-alone : {cut : Bool} {N k : ℕ} {table : Table} {x : ℕ} {rows : List ℕ} {states : ℕ} (images : List ℕ) (s : ℕ)
+    {R D : List ℕ} {h : ℕ} {R' S' : List ℕ} {h' : ℕ} → cut ≡ false → ((t : ℕ) → Member t states ↔ (t ≡ s))
+    → RowsFollowed 1 N k table x (WordImage (restOf (k * s) rows) 18446744073709551615) R (pendingOf R D) h R' (pendingOf R' D) S' h'
+    → LinksFollowed cut N k table x rows states images images R D h R' S' h'
+links-alone {cut} {N} {k} {table} {x} {rows} {states} images s {R} {D} {h} {R'} {S'} {h'} c only f =
+    subst (λ cut. LinksFollowed cut N k table x rows states images images R D h R' S' h') (sym c) (record {
+      followed = rows-same same f;
+      same = λ d. refl;
+    })
+  where
+    word : (a : ℕ) → getD (restOf (k * s) rows) a 0 ≡ getD rows (k * s + a) 0
+    word a = ap (λ l. getD l a 0) (rest-all (k * s) rows) ∙ getD-drop (k * s) rows a 0
+
+    same : (a t : ℕ) → a < k → t < 64 * 1 → WordImage (restOf (k * s) rows) 18446744073709551615 a t ↔ NextOf false rows k images states a t
+    same a t b l = (
+      λ (m, i). (s, only s .1 refl, has-word rows (k * s + a) t (omega arith) .1 (subst (Member t) (word a) m)),
+      λ (u, p, q).
+          let m = has-word rows (k * s + a) t (omega arith) .0 (subst (λ u. Has 1 rows (k * u + a) t) (only u .0 p) q) in
+          (subst (Member t) (sym (word a)) m, ones t (omega arith)),
+    )

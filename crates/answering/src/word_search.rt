@@ -17,7 +17,7 @@ ghost use Rattle.answering.specs.LinkBegins.{LinkBegins};
 ghost use Rattle.answering.specs.SetSteps.{StatesAdded, RowFollowed, RowsFollowed};
 ghost use Rattle.answering.specs.SetSearchRun.{SetBeginning, SetAllFound};
 ghost use Rattle.answering.specs.WordSteps.{rowsOf, WordStep, WordImage, NextRoom, NextImages, WordRoom, Raised};
-ghost use Rattle.answering.specs.WordsPending.{pendingOf, WordsReady, LinksFollowed};
+ghost use Rattle.answering.specs.WordsPending.{pendingOf, WordsReady, LinksFollowed, Alone};
 
 // The states below n.
 fn states_below(n: usize) -> u64
@@ -151,8 +151,18 @@ fn follow_word_links(
     top
 }
 
-// All links that leave x are followed from the states. Where the rows are cut, `images` has the words of the symbols, and keeps them. The
-// height of the stack is returned.
+// Whether the set has one state alone.
+fn alone(states: u64) -> bool
+    ensures { λ r. ⌜ Alone states r ⌝ }
+{
+    if states == 0 {
+        return false;
+    }
+    states & (states - 1) == 0
+}
+
+// All links that leave x are followed from the states. The row of one state alone serves as its images at once, where the rows are not cut.
+// Where they are, `images` has the words of the symbols, and keeps them. The height of the stack is returned.
 fn follow_states(
     rows: &[u64],
     cut: bool,
@@ -174,6 +184,21 @@ fn follow_states(
         (now (rows .entry)) states (now (images .entry)) (now (images .exit))
         (now (reached .entry)) (now (done .entry)) height (now (reached .exit)) (now (stack .exit)) r ⌝ }
 {
+    if !cut && alone(states) {
+        let from = sizes.symbols * (u64::trailing_zeros(states) as usize);
+        return follow_word_links(
+            &rows[from..],
+            18446744073709551615,
+            sizes,
+            table,
+            first,
+            x,
+            reached,
+            done,
+            stack,
+            height,
+        );
+    }
     let next = next_images(rows, cut, sizes.symbols, states, images);
     follow_word_links(
         images,
