@@ -228,8 +228,8 @@ fn move_front(stack: &mut [u16], head: usize, count: usize)
 
 // All that is reached from the start in state 0: while something is pending, the recording that waits longest, at `head`, is taken with its
 // pending states, and its links are followed from these; so a recording gathers more states before its turn than if the latest came first.
-// Those that wait come to the front when the head has gone on by as many places as there are recordings. Where the rows are cut, `images`
-// has the words of the symbols.
+// Those that wait come to the front when the head has gone on by as many places as there are recordings. What has been followed of each
+// recording is kept in `done`, nothing to begin with. Where the rows are cut, `images` has the words of the symbols.
 pub(super) fn follow_all_words(
     rows: &[u64],
     cut: bool,
