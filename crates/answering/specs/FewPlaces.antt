@@ -1,5 +1,5 @@
--- Automata of few places: of at most six, with next places among the first six. They have at most 64 standings.
-use Prim.Native.Nat.{ℕ, suc, _^_, _≤_, _<_}
+-- Automata of few places: of at most six, with next places among these. They have at most 64 standings.
+use Prim.Native.Nat.{ℕ, _^_, _≤_, _<_}
 use mathlib.Core.Bool.{Bool, true, false, false≢true}
 use mathlib.Core.List.{List, [], _∷_}
 use mathlib.Core.Option.{Option·some-injective}
@@ -7,9 +7,10 @@ use mathlib.Core.Path.{_≡_, refl, sym, _∙_, subst}
 use native.Mathlib.Decide.{decLt}
 use native.Mathlib.Omega.{arith}
 use lib.ListN.{length, getD, List·getD-eq-default}
+use lib.Pow.{pow-pos}
 use Rattle.theory.specs.Path.{Path}
 use Rattle.theory.specs.Places.{one}
-use Rattle.theory.specs.PlacesLaws.{member-intersection, member-below, members-below, one-below}
+use Rattle.theory.specs.PlacesLaws.{member-intersection, member-below, members-below, one-below, wider}
 use Rattle.theory.specs.Counting.{pigeonhole}
 use Rattle.theory.specs.Automaton.{Automaton, nexts, step, standingFrom, standing}
 use Rattle.theory.specs.AutomatonLaws.{member-nexts}
@@ -25,24 +26,31 @@ use Rattle.finding.specs.StandingsTold.{StandingsTold}
 
 pub record FewPlaces (follow : List ℕ) : Type 0 where
   pub few : length follow ≤ 6
-  pub below : (p : ℕ) → getD follow p 0 < 64
+  pub below : (p : ℕ) → getD follow p 0 < 2 ^ length follow
 
 -- Beyond the last place nothing is next.
-pub few-told : {follow : List ℕ} → length follow ≤ 6 → ((p : ℕ) → p < length follow → getD follow p 0 < 64) → FewPlaces follow
+pub few-told : {follow : List ℕ} → length follow ≤ 6 → ((p : ℕ) → p < length follow → getD follow p 0 < 2 ^ length follow)
+    → FewPlaces follow
 few-told {follow} h below = record { few = h; below = λ p. go p (decLt p (length follow)) }
   where
-    go : (p : ℕ) → Dec (p < length follow) → getD follow p 0 < 64
+    go : (p : ℕ) → Dec (p < length follow) → getD follow p 0 < 2 ^ length follow
     go p (yes l) = below p l
-    go p (no l) = let e = List·getD-eq-default follow 0 {n = p} (omega arith) in omega arith
+    go p (no l) =
+        let e = List·getD-eq-default follow 0 {n = p} (omega arith) in
+        let k = pow-pos (length follow) in
+        omega arith
 
-module _ (A : Automaton) (below : (p : ℕ) → getD (A .follow) p 0 < 64) where
+pub below-64 : {follow : List ℕ} → FewPlaces follow → (p : ℕ) → getD follow p 0 < 64
+below-64 {follow} f p = wider (length follow) 6 (getD follow p 0) (f .few) (f .below p)
+
+module _ (A : Automaton) (f : FewPlaces (A .follow)) where
   -- A step leads to next places alone.
   step-few : (s a : ℕ) → step A s a < 64
   unfolding step
   step-few s a = members-below 6 (step A s a) λ t m.
       let n = member-intersection t (nexts s (A .follow)) (A .enter a) .0 m .0 in
-      let (x, h, i, f) = member-nexts s (A .follow) t .0 n in
-      member-below 6 (getD (A .follow) x 0) t (below x) f
+      let (x, h, i, e) = member-nexts s (A .follow) t .0 n in
+      member-below 6 (getD (A .follow) x 0) t (below-64 f x) e
 
   standing-few-from : (s : ℕ) (p : Path) → s < 64 → standingFrom A s p < 64
   unfolding standingFrom
@@ -90,7 +98,7 @@ same-standings follow enter labels accepting = refl
 
 pub few-places : {follow enter : List ℕ} {labels : ℕ} → FewPlaces follow → FewStandings follow enter labels true
 few-places {follow} {enter} {labels} f = record {
-  few = λ e accepting. few-standings (plain follow enter accepting) (f .below) labels;
+  few = λ e accepting. few-standings (plain follow enter accepting) f labels;
   many = λ e. absurd (false≢true (sym e));
 }
 

@@ -40,6 +40,7 @@ pub mod MarksSteps
 pub mod SetMarks
 pub mod PlaceSearch
 pub mod FewPlaces
+pub mod PlaceRows
 pub mod Useful
 pub mod Ranks
 pub mod StateSets

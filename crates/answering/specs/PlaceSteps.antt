@@ -72,6 +72,10 @@ pub places-starting : {follow enter : List ℕ} {labels N start places : ℕ} {b
     → SetStarting 1 labels places N start cleared
 places-starting c f d e = set-starting (place-sizes c f) (one-row d) e
 
+pub places-beyond : {follow enter : List ℕ} {labels N start places : ℕ} {before cleared : List ℕ} → PlaceCount follow places
+    → PlacesSearchable enter labels N start before → Cleared N before cleared → drop (1 * N) cleared ≡ drop (1 * N) before
+places-beyond c f d = cleared-beyond (one-row d) (place-sizes c f .room)
+
 -- Steps over the symbols below k alone play a role.
 found-alike : {Step Other : ℕ → ℕ → ℕ → Type 0} {k w states : ℕ} {table : Table} {N start : ℕ}
     → ((s a t : ℕ) → a < k → Step s a t → Other s a t) → {y t : ℕ} → SetFound Step k w states table N start y t
@@ -80,8 +84,8 @@ found-alike same begins = begins
 found-alike same (onward {s = s} {a = a} {t = t} f h l b d i m) = onward (found-alike same f) h l b d i (same s a t b m)
 
 -- What is found is a place below 64.
-found-below : {Step : ℕ → ℕ → ℕ → Type 0} {k states : ℕ} {table : Table} {N start : ℕ} {y t : ℕ} → SetFound Step k 1 states table N start y t
-    → t < 64 * 1
+pub found-below : {Step : ℕ → ℕ → ℕ → Type 0} {k states : ℕ} {table : Table} {N start y t : ℕ}
+    → SetFound Step k 1 states table N start y t → t < 64 * 1
 found-below begins = omega arith
 found-below (onward f h l b d i m) = i
 
@@ -96,7 +100,7 @@ places-searched {follow} {enter} images {labels = labels} {places = places} c fi
   count = c;
   sound = λ f y t h l m. (t, found-alike there (all .sound y t h l m), (λ i. i, λ i. i));
   complete = λ f sorted y t m. (t, found-below m, all .complete sorted y t (found-alike back m), (λ i. i, λ i. i));
-  beyond = λ f. all .beyond ∙ cleared-beyond (one-row d) (place-sizes c fit .room);
+  beyond = λ f. all .beyond ∙ places-beyond c fit d;
   same-length = long;
 }
   where

@@ -1,7 +1,7 @@
 // Marks by the standings of one expression, on plain data: its automaton, a table of links and a start.
 use super::marks::mark;
 use super::place_rows::few_places;
-use super::place_search::search_places;
+use super::place_search::search_any;
 use finding::clear::clear_bytes;
 use finding::clear::clear_words;
 use finding::standings::Explored;
@@ -23,7 +23,8 @@ pub(super) enum Links {
 
 // Whether there are at most 64 standings: few places have no more, and those of others are explored.
 fn few_standings(follow: &[u64], enter: &[u64], labels: u64) -> bool
-    ensures { λ r. ⌜ (labels ≤ 32 → labels ≤ length (now (enter .entry)) → FewStandings (now (follow .entry)) (now (enter .entry)) labels r) ⌝ }
+    ensures { λ r. ⌜ (labels ≤ 32 → labels ≤ length (now (enter .entry))
+        → FewStandings (now (follow .entry)) (now (enter .entry)) labels r) ⌝ }
 {
     if few_places(follow) {
         return true;
@@ -56,9 +57,10 @@ fn mark_places(
         → StandingsMarked (plain (now (follow .entry)) (now (enter .entry)) accepting) labels recordings (now (table .entry)) start
         (now (marks .entry)) (now (workspace .entry)) (now (marks .exit)) (now (workspace .exit)) r) ⌝ }
 {
-    search_places(
+    search_any(
         follow,
         enter,
+        accepting,
         labels,
         table,
         begins,

@@ -1,17 +1,20 @@
 // The places of an automaton that are reached over a table from one recording: the search of one word for each set (word_search), by the next
-// places of each place, which each label cuts to those that it enters.
+// places of each place, which each label cuts to those that it enters; or, of few places, by rows of merged ones (place_rows).
+use super::place_rows::few_rows;
+use super::place_rows::place_rows;
 use super::sizes::Sizes;
 use super::word_search::follow_all_words;
 use finding::clear::clear_words;
 ghost use mathlib.Core.Bool.{true};
 ghost use mathlib.Core.Logic.{_↔_};
 ghost use mathlib.Core.Path.{_≡_};
-ghost use Prim.Native.Nat.{ℕ, _≤_, _<_};
+ghost use Prim.Native.Nat.{ℕ, _*_, _≤_, _<_};
 ghost use lib.ListN.{length, getD};
 ghost use Rattle.answering.specs.Links.{InRange};
 ghost use Rattle.answering.specs.LinkBegins.{LinkBegins};
 ghost use Rattle.answering.specs.SetSearchRun.{SetStarting, SetAllFound};
 ghost use Rattle.answering.specs.PlaceSteps.{PlaceCount, PlacesSearchable, PlacesSearched};
+ghost use Rattle.answering.specs.FewPlaces.{FewPlaces};
 ghost use Rattle.answering.specs.WordSteps.{rowsOf, WordStep};
 
 // How many places are searched: all of them, of at most 64.
@@ -151,7 +154,7 @@ fn fitting(enter: &[u64], labels: u64, recordings: u64, start: u64, reached: &[u
 
 // All pairs of a recording and a place that are reached from the start in place 0, as bits of a word for each recording; where the sizes do
 // not fit, nothing is changed.
-pub(super) fn search_places(
+fn search_places(
     follow: &[u64],
     enter: &[u64],
     labels: u64,
@@ -187,4 +190,89 @@ pub(super) fn search_places(
         reached,
         &mut images,
     );
+}
+
+// The same by rows of merged places: each place that is reached is there, or one that stands for it.
+fn search_merged(
+    follow: &[u64],
+    enter: &[u64],
+    accepting: u64,
+    labels: u64,
+    table: &[u16],
+    begins: &[u16],
+    recordings: u64,
+    start: u64,
+    reached: &mut [u64],
+)
+    requires { ⌜ InRange labels recordings (now table) × LinkBegins (now table) recordings (now begins) × FewPlaces (now follow)
+        × (labels * length (now follow) ≤ 48) ⌝ }
+    ensures { λ _. ⌜ PlacesSearched (now (follow .entry)) (now (enter .entry)) accepting labels (now (table .entry)) recordings start
+        (now (reached .entry)) (now (reached .exit)) ⌝ }
+{
+    if !fitting(enter, labels, recordings, start, reached) {
+        return;
+    }
+    clear_words(reached, recordings as usize);
+    let sizes = Sizes {
+        symbols: labels as usize,
+        states: follow.len(),
+        words: 1,
+        recordings: recordings as usize,
+    };
+    let mut rows: [u64; 48] = [0; 48];
+    place_rows(follow, enter, accepting, sizes.symbols, &mut rows);
+    let mut images: [u64; 32] = [0; 32];
+    search_words(
+        &rows,
+        false,
+        sizes,
+        table,
+        begins,
+        start as usize,
+        reached,
+        &mut images,
+    );
+}
+
+// The search of the places that are reached from the start in place 0, up to places that are accepted alike: by rows of merged places where
+// these are few.
+pub(super) fn search_any(
+    follow: &[u64],
+    enter: &[u64],
+    accepting: u64,
+    labels: u64,
+    table: &[u16],
+    begins: &[u16],
+    recordings: u64,
+    start: u64,
+    reached: &mut [u64],
+)
+    requires { ⌜ InRange labels recordings (now table) × LinkBegins (now table) recordings (now begins) ⌝ }
+    ensures { λ _. ⌜ PlacesSearched (now (follow .entry)) (now (enter .entry)) accepting labels (now (table .entry)) recordings start
+        (now (reached .entry)) (now (reached .exit)) ⌝ }
+{
+    if few_rows(follow, labels) {
+        search_merged(
+            follow,
+            enter,
+            accepting,
+            labels,
+            table,
+            begins,
+            recordings,
+            start,
+            reached,
+        );
+    } else {
+        search_places(
+            follow,
+            enter,
+            labels,
+            table,
+            begins,
+            recordings,
+            start,
+            reached,
+        );
+    }
 }
