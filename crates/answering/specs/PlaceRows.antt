@@ -2,7 +2,6 @@
 -- finds places that stand for those that the search over places finds (PlaceSteps).
 use Prim.Native.Nat.{ℕ, _+_, _*_, _/_, _%_, _^_, _≤_, _<_}
 use mathlib.Core.List.{List}
-use mathlib.Core.Logic.{_↔_}
 use mathlib.Core.Path.{_≡_, refl, sym, ap, _∙_, subst}
 use native.Mathlib.Decide.{ℕ-discrete}
 use native.Mathlib.Nat.{one-mul}
@@ -17,12 +16,12 @@ use Rattle.theory.specs.AutomatonLaws.{entry-within}
 use Rattle.places.specs.Joined.{joined}
 use Rattle.finding.specs.Cleared.{Cleared}
 use Rattle.answering.specs.ProductLaws.{node-below}
-use Rattle.answering.specs.Pairs.{Has}
 use Rattle.answering.specs.SetSearch.{Steps, SetFound, begins, onward}
 use Rattle.answering.specs.SetSearchRun.{SetAllFound}
 use Rattle.answering.specs.PlaceSteps.{PlaceStep, PlaceCount, PlacesSearchable, AcceptedAlike, PlacesSearched, found-below}
 use Rattle.answering.specs.PlaceSteps.{places-beyond}
 use Rattle.answering.specs.FewPlaces.{FewPlaces}
+use Rattle.answering.specs.WordSteps.{has-word}
 
 -- The place q stands for the place p: it is not behind p, has the same next places and is accepted alike.
 pub record LeadOf (follow : List ℕ) (accepting p q : ℕ) : Type 0 where
@@ -111,13 +110,6 @@ rows-more {follow} {enter} {labels} {n} {leads} {before} {rows} all r = record {
     go p a h b (no e) = r .others (labels * p + a) (node-below labels n (omega arith) b) ∙ all .row p a (omega arith) b
 
 -- What the rows give.
-
-has-word : (l : List ℕ) (i t : ℕ) → t < 64 → Has 1 l i t ↔ Member t (getD l i 0)
-unfolding Has
-has-word l i t h =
-    let e : t % 64 ≡ t = omega arith in
-    let f : 1 * i + t / 64 ≡ i = let p = one-mul i in omega arith in
-    (λ m. rw (e, f) at m, λ m. rw (e, f) m)
 
 pub rows-placed : {follow enter : List ℕ} {accepting labels : ℕ} {leads rows : List ℕ} → FewPlaces follow
     → LeadPlaces follow accepting (length follow) leads → RowsFilled follow enter labels leads (length follow) rows

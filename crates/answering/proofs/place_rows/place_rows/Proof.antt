@@ -1,5 +1,5 @@
 -- `place_rows` meets its contract. The loop's invariant: the places before p have their rows.
-use Prim.Native.Nat.{_*_, _-_, _≤_}
+use Prim.Native.Nat.{_-_, _≤_}
 use mathlib.Core.Path.{_≡_, refl, _∙_, subst}
 use lib.ListN.{length, getD}
 use Rattle.theory.specs.PlacesLaws.{member-below}
