@@ -7,21 +7,44 @@ use native.Mathlib.Decide.{ℕ-discrete}
 use native.Mathlib.Nat.{add-zero}
 use native.Mathlib.Numerals.{add-one}
 use native.Mathlib.Omega.{arith}
+use lib.Bits.{and-le-r, or-zero-l, or-add-and}
 use lib.Dec.{eqb}
 use lib.ListN.{length, getD, set, drop}
 use lib.Seq.{drop-cons, set-at}
 use borrow.Author.Tests.{eqb-false, eq-eqb, ne-eqb}
-use Rattle.theory.specs.Places.{intersection}
+use Rattle.theory.specs.Places.{union, intersection}
 use Rattle.answering.specs.Product.{ones}
 use Rattle.answering.specs.MarksLaws.{markOf}
 use Rattle.answering.specs.Marks.{meets, marksOf}
 
 -- A word in common.
 
-pub meets-next : (l m : List ℕ) (base n : ℕ) → meets l m base n ≡ false → intersection (getD l (base + n) 0) (getD m n 0) ≡ 0
-    → meets l m base (n + 1) ≡ false
+-- What is joined is 0 exactly when both parts are.
+union-some : (s t : ℕ) → (not (eqb s 0) || not (eqb t 0)) ≡ not (eqb (union s t) 0)
+union-some s t = go (ℕ-discrete s 0)
+  where
+    go : Dec (s ≡ 0) → (not (eqb s 0) || not (eqb t 0)) ≡ not (eqb (union s t) 0)
+    go (yes e) = rw (e, or-zero-l t)
+    go (no d) = rw (ne-eqb s 0 d, ne-eqb (union s t) 0 (λ e. omega (arith, or-add-and s t, and-le-r s t)))
+
+-- The words in common are joined one after the other.
+pub meets-next : (l m : List ℕ) (base n common : ℕ) → meets l m base n ≡ not (eqb common 0)
+    → meets l m base (n + 1) ≡ not (eqb (union common (intersection (getD l (base + n) 0) (getD m n 0))) 0)
 unfolding meets
-meets-next l m base n e f = rw add-one (rw (e, eq-eqb (intersection (getD l (base + n) 0) (getD m n 0)) 0 f))
+meets-next l m base n common e = rw add-one (rw e (union-some common (intersection (getD l (base + n) 0) (getD m n 0))))
+
+-- Where each recording has one word.
+pub meets-word : (l m : List ℕ) (y : ℕ) → meets l m (1 * y) 1 ≡ not (eqb (intersection (getD l y 0) (getD m 0 0)) 0)
+unfolding meets
+meets-word l m y = ap (λ i. not (eqb (intersection (getD l i 0) (getD m 0 0)) 0)) (omega arith)
+
+-- The mark is 1 where something is in common.
+
+pub mark-none : (common : ℕ) → common ≡ 0 → 0 ≡ markOf (not (eqb common 0))
+mark-none common e = rw (eq-eqb common 0 e)
+
+pub mark-some : (common : ℕ) → ¬ (common ≡ 0) → 1 ≡ markOf (not (eqb common 0))
+mark-some common d = rw (ne-eqb common 0 d)
 
 or-true : (a : Bool) → (a || true) ≡ true
 or-true true = refl

@@ -7,7 +7,7 @@ use mathlib.Core.Path.{_≡_, refl, sym, ap, _∙_}
 use native.Mathlib.Decide.{ℕ-discrete, decLt}
 use native.Mathlib.Numerals.{add-one, add-two}
 use native.Mathlib.Omega.{arith}
-use lib.Dec.{ltb}
+use lib.Dec.{leb, ltb}
 use lib.ListN.{length, getD, drop, drop-of-length-le}
 use lib.Seq.{drop-cons}
 use borrow.Author.Tests.{le-leb, lt-leb, lt-ltb, le-ltb, eq-eqb, ne-eqb}
@@ -15,21 +15,21 @@ use Rattle.theory.specs.Graph.{Table}
 use Rattle.answering.specs.Table.{mostLinks, rises, risingAfter, rising, isTable}
 use Rattle.answering.specs.TableLaws.{is-table-exactly, table-length}
 
--- Triples of numbers below 65,536 are in the order of these numbers, which are above 0.
+-- Triples of numbers below 65,536 are in the order of these numbers.
 abbrev pub tripleNumber : ℕ → ℕ → ℕ → ℕ
-tripleNumber x a y = 4294967296 * x + 65536 * a + y + 1
+tripleNumber x a y = 4294967296 * x + 65536 * a + y
 
 -- The least number of those that leave no recording below N.
 abbrev pub pastTriples : ℕ → ℕ
 pastTriples N = tripleNumber N 0 0
 
--- The numbers are triples within range, each with a greater number than the one before, whose number was n.
+-- The numbers are triples within range, whose own numbers rise from n on.
 unfoldable pub numbersRise : ℕ → ℕ → ℕ → Table → Bool
 numbersRise N k n [] = true
 numbersRise N k n (u ∷ []) = false
 numbersRise N k n (u ∷ (b ∷ [])) = false
 numbersRise N k n (u ∷ (b ∷ (v ∷ t))) =
-    (ltb u N && (ltb b k && ltb v N)) && (ltb n (tripleNumber u b v) && numbersRise N k (tripleNumber u b v) t)
+    (ltb u N && (ltb b k && ltb v N)) && (leb n (tripleNumber u b v) && numbersRise N k (suc (tripleNumber u b v)) t)
 
 -- .. from the place i on.
 unfoldable pub risesFrom : ℕ → ℕ → ℕ → Table → ℕ → Bool
@@ -78,7 +78,7 @@ number-rises x a y u b v ha hy hb hv = go (ℕ-discrete x u) (ℕ-discrete a b)
 -- The order of all triples is that of their numbers.
 
 after-numbers : (N k x a y : ℕ) (t : Table) → a < 65536 → y < 65536 → ((i : ℕ) → getD t i 0 < 65536)
-    → risingAfter N k x a y t ≡ numbersRise N k (tripleNumber x a y) t
+    → risingAfter N k x a y t ≡ numbersRise N k (suc (tripleNumber x a y)) t
 unfolding risingAfter numbersRise
 after-numbers N k x a y [] ha hy h = refl
 after-numbers N k x a y (u ∷ []) ha hy h = refl
@@ -92,7 +92,7 @@ rising-numbers N k [] h = refl
 rising-numbers N k (u ∷ []) h = refl
 rising-numbers N k (u ∷ (b ∷ [])) h = refl
 rising-numbers N k (u ∷ (b ∷ (v ∷ t))) h =
-    rw (lt-ltb 0 (tripleNumber u b v) (omega arith), after-numbers N k u b v t (h 1) (h 2) (λ i. h (suc (suc (suc i)))))
+    rw (le-leb 0 (tripleNumber u b v) (omega arith), after-numbers N k u b v t (h 1) (h 2) (λ i. h (suc (suc (suc i)))))
 
 triple-at : (t : Table) (i : ℕ) → i + 2 < length t → drop i t ≡ getD t i 0 ∷ (getD t (i + 1) 0 ∷ (getD t (i + 2) 0 ∷ drop (i + 3) t))
 triple-at t i h =
@@ -119,17 +119,17 @@ table-uneven N k t h = go (isTable N k t) refl
 
 -- The triples are tested from the last to the first. From the place i on, they are in range and rise ..
 
--- .. from those numbers of triples that leave recordings below N, and from 0, that come before `after` ..
-abbrev pub RiseBefore : ℕ → ℕ → Table → ℕ → ℕ → Type 0
-RiseBefore N k t i after = (n : ℕ) → n < pastTriples N → risesFrom N k n t i ≡ ltb n after
+-- .. from those numbers, as far as pastTriples N, that are at most `after` ..
+abbrev pub RiseUpTo : ℕ → ℕ → Table → ℕ → ℕ → Type 0
+RiseUpTo N k t i after = (n : ℕ) → n ≤ pastTriples N → risesFrom N k n t i ≡ leb n after
 
 -- .. or from no number.
 abbrev pub RiseNever : ℕ → ℕ → Table → ℕ → Type 0
 RiseNever N k t i = (n : ℕ) → risesFrom N k n t i ≡ false
 
-pub rise-end : (N k : ℕ) (t : Table) (i : ℕ) → length t ≤ i → RiseBefore N k t i (pastTriples N)
+pub rise-end : (N k : ℕ) (t : Table) (i : ℕ) → length t ≤ i → RiseUpTo N k t i (pastTriples N)
 unfolding risesFrom numbersRise
-rise-end N k t i h n l = rw (drop-of-length-le t h) (sym (lt-ltb n (pastTriples N) l))
+rise-end N k t i h n l = rw (drop-of-length-le t h) (sym (le-leb n (pastTriples N) l))
 
 module _ (N k : ℕ) (t : Table) (i : ℕ) (h : i + 2 < length t) where
   abbrev numberAt : ℕ
@@ -138,7 +138,7 @@ module _ (N k : ℕ) (t : Table) (i : ℕ) (h : i + 2 < length t) where
   abbrev inRange : Bool
   inRange = ltb (getD t i 0) N && (ltb (getD t (i + 1) 0) k && ltb (getD t (i + 2) 0) N)
 
-  triple-tested : (n : ℕ) → risesFrom N k n t i ≡ (inRange && (ltb n numberAt && risesFrom N k numberAt t (i + 3)))
+  triple-tested : (n : ℕ) → risesFrom N k n t i ≡ (inRange && (leb n numberAt && risesFrom N k (suc numberAt) t (i + 3)))
   unfolding risesFrom numbersRise
   triple-tested n = ap (numbersRise N k n) (triple-at t i h)
 
@@ -155,26 +155,26 @@ module _ (N k : ℕ) (t : Table) (i : ℕ) (h : i + 2 < length t) where
 
   -- .. or the triples behind it rise from no number ..
   never-before : RiseNever N k t (i + 3) → RiseNever N k t i
-  never-before f n = triple-tested n ∙ rw (f numberAt, and-false (ltb n numberAt)) (and-false inRange)
+  never-before f n = triple-tested n ∙ rw (f (suc numberAt), and-false (leb n numberAt)) (and-false inRange)
 
   module _ (g : getD t (i + 1) 0 < k) (l : getD t (i + 2) 0 < N) (narrow : (j : ℕ) → getD t j 0 < 65536) (after : ℕ)
-      (below : after ≤ pastTriples N) (rest : RiseBefore N k t (i + 3) after) where
-    triple-in : getD t i 0 < N → (n : ℕ) → risesFrom N k n t i ≡ (ltb n numberAt && ltb numberAt after)
+      (below : after ≤ pastTriples N) (rest : RiseUpTo N k t (i + 3) after) where
+    triple-in : getD t i 0 < N → (n : ℕ) → risesFrom N k n t i ≡ (leb n numberAt && ltb numberAt after)
     triple-in f n =
         triple-tested n
         ∙ rw (
           lt-ltb (getD t i 0) N f,
           lt-ltb (getD t (i + 1) 0) k g,
           lt-ltb (getD t (i + 2) 0) N l,
-          rest numberAt (omega (arith, narrow (i + 1), narrow (i + 2))),
+          rest (suc numberAt) (omega (arith, narrow (i + 1), narrow (i + 2))),
         )
 
-    -- .. or not from its own, or it leaves no recording below N ..
+    -- .. or from no number above its own, or it leaves no recording below N ..
     pub unordered : after ≤ numberAt → RiseNever N k t i
     unordered o = go (decLt (getD t i 0) N)
       where
         go : Dec (getD t i 0 < N) → RiseNever N k t i
-        go (yes f) n = triple-in f n ∙ rw (le-ltb numberAt after o) (and-false (ltb n numberAt))
+        go (yes f) n = triple-in f n ∙ rw (le-ltb numberAt after o) (and-false (leb n numberAt))
         go (no f) n = first-out (omega arith) n
 
     module _ (o : numberAt < after) where
@@ -182,8 +182,8 @@ module _ (N k : ℕ) (t : Table) (i : ℕ) (h : i + 2 < length t) where
       pub first-in : getD t i 0 < N
       first-in = omega (arith, narrow (i + 1), narrow (i + 2))
 
-      pub rise-more : RiseBefore N k t i numberAt
-      rise-more n m = triple-in first-in n ∙ rw (lt-ltb numberAt after o) (and-true (ltb n numberAt))
+      pub rise-more : RiseUpTo N k t i numberAt
+      rise-more n m = triple-in first-in n ∙ rw (lt-ltb numberAt after o) (and-true (leb n numberAt))
 
 -- What the whole test says.
 
@@ -192,8 +192,8 @@ module _ (N k : ℕ) (t : Table) (short : length t ≤ 3 * mostLinks) (narrow : 
   unfolding risesFrom
   whole = table-short N k t short ∙ rising-numbers N k t narrow
 
-  pub table-rises : (after : ℕ) → 0 < after → RiseBefore N k t 0 after → isTable N k t ≡ true
-  table-rises after h r = whole ∙ r 0 (omega arith) ∙ lt-ltb 0 after h
+  pub table-rises : (after : ℕ) → RiseUpTo N k t 0 after → isTable N k t ≡ true
+  table-rises after r = whole ∙ r 0 (omega arith) ∙ le-leb 0 after (omega arith)
 
   pub table-fails : (m : ℕ) → 3 * m + 2 < length t → RiseNever N k t (3 * m) → isTable N k t ≡ false
   table-fails zero h f = whole ∙ f 0

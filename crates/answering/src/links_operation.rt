@@ -16,7 +16,7 @@ ghost use Rattle.reading.specs.RowRoom.{askedRows, HasRows};
 ghost use Rattle.finding.specs.RowsFit.{RowsFit};
 ghost use Rattle.answering.specs.Table.{isTable};
 ghost use Rattle.answering.specs.AnswerJob.{linksJob};
-ghost use Rattle.answering.specs.LinkBegins.{Unlisted, LinkBegins};
+ghost use Rattle.answering.specs.LinkBegins.{LinkBegins};
 ghost use Rattle.answering.specs.LinksCore.{Lent};
 ghost use Rattle.answering.specs.LinksOperation.{outcome, left, readLinks, linksAnswer, Sized, JobGiven, ExpressionTold};
 
@@ -75,7 +75,7 @@ fn expression_links(
     }
 }
 
-// The job of the tables, with room for where the links of each recording begin.
+// The job of the tables, where the table of links has been tested: whether it is fine, and where the links of each recording begin.
 fn indexed_links(
     follow: &[u64],
     enter: &[u64],
@@ -86,13 +86,15 @@ fn indexed_links(
     recordings: u64,
     chosen: u64,
     table: &[u16],
-    begins: &mut [u16],
+    begins: &[u16],
+    fine: bool,
     start: u64,
     marks: &mut [u8],
     workspace: &mut [u64],
 ) -> Answered
     requires { ⌜ (labels ≤ 32) × (lists ≤ 16) × RowsFit lists (now follow) (now enter) × Sized recordings (now marks) (now workspace)
-        × Unlisted recordings (now begins) ⌝ }
+        × (fine ≡ isTable recordings labels (now table))
+        × (fine ≡ true → LinkBegins (now table) recordings (now begins)) ⌝ }
     ensures { λ r. ⌜ ((J : Job) → JobGiven J (now (follow .entry)) (now (enter .entry)) (now (sizes .entry)) (now (accepting .entry)) labels lists
         → outcome r (now (marks .exit)) (now (workspace .exit))
         ≡ left recordings (now (marks .entry)) (now (workspace .entry)) (linksJob J recordings chosen (now (table .entry)) start)) ⌝ }
@@ -100,7 +102,7 @@ fn indexed_links(
     if lists < chosen {
         return Answered::Refused(Refusal::NoExpression, 0);
     }
-    if !index_table(table, recordings, labels, begins) {
+    if !fine {
         return Answered::Refused(Refusal::BadTable, 0);
     }
     if recordings <= start {
@@ -144,6 +146,7 @@ fn job_links(
 {
     if recordings <= 256 {
         let mut begins: [u16; 256] = [0; 256];
+        let fine = index_table(table, recordings, labels, &mut begins);
         return indexed_links(
             follow,
             enter,
@@ -154,13 +157,15 @@ fn job_links(
             recordings,
             chosen,
             table,
-            &mut begins,
+            &begins,
+            fine,
             start,
             marks,
             workspace,
         );
     }
     let mut begins: [u16; 4096] = [0; 4096];
+    let fine = index_table(table, recordings, labels, &mut begins);
     indexed_links(
         follow,
         enter,
@@ -171,7 +176,8 @@ fn job_links(
         recordings,
         chosen,
         table,
-        &mut begins,
+        &begins,
+        fine,
         start,
         marks,
         workspace,

@@ -21,7 +21,7 @@ ghost use Rattle.finding.specs.Find.{Found, find};
 ghost use Rattle.answering.specs.Table.{isTable};
 ghost use Rattle.answering.specs.AnswerJob.{markedLists, listsJob};
 ghost use Rattle.answering.specs.Links.{InRange};
-ghost use Rattle.answering.specs.LinkBegins.{Unlisted, LinkBegins};
+ghost use Rattle.answering.specs.LinkBegins.{LinkBegins};
 ghost use Rattle.answering.specs.LinksOperation.{outcome, JobGiven};
 ghost use Rattle.answering.specs.ListsCore.{ListsLent};
 ghost use Rattle.answering.specs.ListsOperation.{listsLeft, readLists, listsAnswer, ListsSized, FoundGiven};
@@ -121,7 +121,7 @@ fn rewriting_lists(
     )
 }
 
-// The job of the tables, with room for where the links of each recording begin.
+// The job of the tables, where the table of links has been tested: whether it is fine, and where the links of each recording begin.
 fn indexed_lists(
     follow: &[u64],
     enter: &[u64],
@@ -130,20 +130,22 @@ fn indexed_lists(
     labels: u64,
     lists: u64,
     table: &[u16],
-    begins: &mut [u16],
+    begins: &[u16],
+    fine: bool,
     recordings: u64,
     start: u64,
     marks: &mut [u8],
     workspace: &mut [u64],
 ) -> Answered
     requires { ⌜ (labels ≤ 32) × (lists ≤ 16) × ListsSized recordings (now marks) (now workspace)
-        × RowsFit lists (now follow) (now enter) × Unlisted recordings (now begins) ⌝ }
+        × RowsFit lists (now follow) (now enter) × (fine ≡ isTable recordings lists (now table))
+        × (fine ≡ true → LinkBegins (now table) recordings (now begins)) ⌝ }
     ensures { λ r. ⌜ ((J : Job) → WellFormed J
         → JobGiven J (now (follow .entry)) (now (enter .entry)) (now (sizes .entry)) (now (accepting .entry)) labels lists
         → outcome r (now (marks .exit)) (now (workspace .exit))
         ≡ listsLeft recordings (now (marks .entry)) (now (workspace .entry)) (listsJob J recordings (now (table .entry)) start)) ⌝ }
 {
-    if !index_table(table, recordings, lists, begins) {
+    if !fine {
         return Answered::Refused(Refusal::BadTable, 0);
     }
     if recordings <= start {
@@ -188,6 +190,7 @@ fn job_lists(
 {
     if recordings <= 256 {
         let mut begins: [u16; 256] = [0; 256];
+        let fine = index_table(table, recordings, lists, &mut begins);
         return indexed_lists(
             follow,
             enter,
@@ -196,7 +199,8 @@ fn job_lists(
             labels,
             lists,
             table,
-            &mut begins,
+            &begins,
+            fine,
             recordings,
             start,
             marks,
@@ -204,6 +208,7 @@ fn job_lists(
         );
     }
     let mut begins: [u16; 4096] = [0; 4096];
+    let fine = index_table(table, recordings, lists, &mut begins);
     indexed_lists(
         follow,
         enter,
@@ -212,7 +217,8 @@ fn job_lists(
         labels,
         lists,
         table,
-        &mut begins,
+        &begins,
+        fine,
         recordings,
         start,
         marks,

@@ -23,12 +23,12 @@ pub(super) fn index(number: u16) -> usize
     number as usize
 }
 
-// A triple as one number, from 1 on: these are in the order of the triples, and each comes after 0.
+// A triple as one number: these are in the order of the triples.
 fn number_of(x: u64, a: u64, y: u64) -> u64
     requires { ⌜ (x < 65536) × (a < 65536) × (y < 65536) ⌝ }
     ensures { λ r. ⌜ r ≡ tripleNumber x a y ⌝ }
 {
-    4294967296 * x + 65536 * a + y + 1
+    4294967296 * x + 65536 * a + y
 }
 
 // Whether the numbers are a table: each triple is in range and comes before the one behind it, whose number is `after`. They are tested from
@@ -53,13 +53,13 @@ pub(super) fn index_table(table: &[u16], recordings: u64, symbols: u64, begins: 
         let x = wide(table[3 * at]);
         let a = wide(table[3 * at + 1]);
         let y = wide(table[3 * at + 2]);
-        let number = number_of(x, a, y);
-        if symbols <= a {
-            return false;
-        }
         if recordings <= y {
             return false;
         }
+        if symbols <= a {
+            return false;
+        }
+        let number = number_of(x, a, y);
         if after <= number {
             return false;
         }

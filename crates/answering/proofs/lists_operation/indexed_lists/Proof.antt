@@ -8,88 +8,62 @@ use borrow.Author.Needs.{needs}
 use Rattle.answering.proofs.lists_operation.indexed_lists.Statement.{statement}
 use Rattle.answering.proofs.lists_operation.indexed_lists.Tie as tie
 
-index-table-requires : tie.Need-index-table-requires
-index-table-requires c κs = search needs
-
-same-length : tie.Need-same-length
-same-length c = search needs
-
 returns : tie.Need-returns
 returns c =
-    let at-index-table = c .before .before .before in
-    let at-start = at-index-table .before .before .before .before .before .before .before .before in
+    let at-start = c .before .before .before .before .before .before .before in
     let a = at-start .args in
     λ J w g.
     lists-bad-table J (a .recordings) (a .table .now) (a .start) (a .marks .now) (a .workspace .now)
-    (ap (λ k. isTable (a .recordings) k (a .table .now)) (g .lists-told)
-    ∙ sym (at-index-table .index-table .ensures .0)
-    ∙ not-true _ (c .if1 .taken))
-
-same-length-2 : tie.Need-same-length-2
-same-length-2 c = search needs
+    (ap (λ k. isTable (a .recordings) k (a .table .now)) (g .lists-told) ∙ sym (at-start .pre .4) ∙ not-true _ (c .if1 .taken))
 
 returns-2 : tie.Need-returns-2
 returns-2 c =
-    let at-if1 = c .before in
-    let at-index-table = at-if1 .before .before .before in
-    let at-start = at-index-table .before .before .before .before .before .before .before .before in
+    let at-start = c .before .before .before .before .before .before .before .before in
     let a = at-start .args in
     λ J w g.
     lists-bad-start J (a .recordings) (a .table .now) (a .start) (a .marks .now) (a .workspace .now)
-    (ap (λ k. isTable (a .recordings) k (a .table .now)) (g .lists-told)
-    ∙ sym (at-index-table .index-table .ensures .0)
-    ∙ not-false _ (at-if1 .if1 .left)) (omega arith)
+    (ap (λ k. isTable (a .recordings) k (a .table .now)) (g .lists-told) ∙ sym (at-start .pre .4) ∙ not-false _ (c .before .if1 .left))
+    (omega arith)
 
 rewriting-lists-requires : tie.Need-rewriting-lists-requires
 rewriting-lists-requires c κs =
-    let at-if1 = c .before .before .before .before in
-    let at-index-table = at-if1 .before .before .before in
-    let at-start = at-index-table .before .before .before .before .before .before .before .before in
+    let at-if1 = c .before .before .before in
+    let at-start = at-if1 .before .before .before .before .before .before .before in
     let p = at-start .pre in
-    let made = at-index-table .index-table .ensures in
-    let good = not-false _ (at-if1 .if1 .left) in (
+    let good = not-false (at-start .args .fine) (at-if1 .if1 .left) in (
       p .0,
       p .1,
-      sym (made .0) ∙ good,
-      made .1 good,
+      sym (p .4) ∙ good,
+      p .5 good,
       record { few = p .2 .few; begins = omega arith; marks-fit = p .2 .marks-fit; room = p .2 .room },
       p .3,
     )
 
-same-length-3 : tie.Need-same-length-3
-same-length-3 c = search needs
+same-length : tie.Need-same-length
+same-length c = search needs
 
-same-length-4 : tie.Need-same-length-4
-same-length-4 c = search needs
-
-same-length-5 : tie.Need-same-length-5
-same-length-5 c = search needs
+same-length-2 : tie.Need-same-length-2
+same-length-2 c = search needs
 
 returns-3 : tie.Need-returns-3
 returns-3 c =
     let at-rewriting-lists = c .before .before .before .before in
-    let at-if2 = at-rewriting-lists .before .before .before .before in
+    let at-if2 = at-rewriting-lists .before .before .before in
     let at-if1 = at-if2 .before in
-    let at-index-table = at-if1 .before .before .before in
-    let at-start = at-index-table .before .before .before .before .before .before .before .before in
+    let at-start = at-if1 .before .before .before .before .before .before .before in
     let a = at-start .args in
     λ J w g.
     lists-marked-job J (a .recordings) (a .table .now) (a .start) (a .marks .now) (a .workspace .now)
-    (ap (λ k. isTable (a .recordings) k (a .table .now)) (g .lists-told)
-    ∙ sym (at-index-table .index-table .ensures .0)
-    ∙ not-false _ (at-if1 .if1 .left)) (at-if2 .if2 .left) (at-rewriting-lists .rewriting-lists .ensures J w g)
+    (ap (λ k. isTable (a .recordings) k (a .table .now)) (g .lists-told) ∙ sym (at-start .pre .4) ∙ not-false _ (at-if1 .if1 .left))
+    (at-if2 .if2 .left) (at-rewriting-lists .rewriting-lists .ensures J w g)
 
 pub indexed-lists-spec : {M : Type 1} → statement M
 indexed-lists-spec =
     tie.close
     (tie.spec
-    index-table-requires
-    same-length
     returns
-    same-length-2
     returns-2
     rewriting-lists-requires
-    same-length-3
-    same-length-4
-    same-length-5
+    same-length
+    same-length-2
     returns-3)

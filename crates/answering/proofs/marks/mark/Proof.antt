@@ -7,7 +7,7 @@ use lib.ListN.{length, drop, length-set}
 use borrow.Author.Tests.{not-true, not-false}
 use Rattle.answering.specs.Product.{ones}
 use Rattle.answering.specs.Pairs.{row-below}
-use Rattle.answering.specs.Marks.{meets, marksOf}
+use Rattle.answering.specs.Marks.{meets, marksOf, Markable}
 use Rattle.answering.specs.MarksSteps.{mark-at-most, marks-stored, marks-counted}
 use native.Mathlib.Omega.{arith}
 use borrow.Author.Needs.{needs}
@@ -23,11 +23,16 @@ abbrev μ-loop : tie.MeasureT-loop
 μ-loop reached words accepting recordings marks₀ per end count₀ y₀ marks count y =
     end - y
 
+-- The lent words and marks suffice.
+fit : (c : tie.Else1 Inv-loop μ-loop) → let a = c .before .before .before .before .before .args in
+    Markable (a .words) (a .recordings) (a .reached .now) (a .marks .now)
+fit c = c .before .sufficing .ensures .fits (not-false _ (c .if1 .left))
+
 -- A mark is 0 or 1.
 at-most : (c : tie.After-mark-of Inv-loop μ-loop) → c .mark-of .result ≤ 1
 at-most c =
     let at-loop = c .before .before in
-    let at-start = at-loop .before .before .before .before .before .before in
+    let at-start = at-loop .before .before .before .before .before .before .before in
     let a = at-start .args in
     subst (λ n. n ≤ 1) (sym (c .mark-of .ensures))
     (mark-at-most (meets (a .reached .now) (a .accepting .now) (a .words * at-loop .loop .y) (a .words)))
@@ -43,38 +48,45 @@ returns c =
     let n = c .before .sufficing .ensures .unfit (not-true _ (c .if1 .taken)) in
     record { set = λ f. absurd (n f); counted = λ f. absurd (n f); unfit = λ m. (refl, refl) }
 
+mark-words-requires : tie.Need-mark-words-requires Inv-loop μ-loop
+mark-words-requires c κs =
+    let at-if2 = c .before in
+    let a = at-if2 .before .before .before .before .before .before .args in
+    subst (λ w. Markable w (a .recordings) (a .reached .now) (a .marks .now)) (at-if2 .if2 .taken) (fit (at-if2 .before))
+
+same-length-2 : tie.Need-same-length-2 Inv-loop μ-loop
+same-length-2 c = search needs
+
+returns-2 : tie.Need-returns-2 Inv-loop μ-loop
+returns-2 c =
+    let at-mark-words = c .before .before in
+    let at-if2 = at-mark-words .before .before in
+    let a = at-if2 .before .before .before .before .before .before .args in
+    let e : a .words ≡ 1 = at-if2 .if2 .taken in
+    rw e (at-mark-words .mark-words .ensures)
+
 loop-holds : tie.Need-loop-holds Inv-loop μ-loop
 unfolding marksOf ones
 loop-holds c = (omega arith, omega arith, refl, refl, refl)
 
 mul-mark-of : tie.Need-mul-mark-of Inv-loop μ-loop
 mul-mark-of c =
-    let at-if1 = c .before .before in
-    let at-sufficing = at-if1 .before in
-    let at-start = at-sufficing .before .before .before .before in
-    let f = at-sufficing .sufficing .ensures .fits (not-false _ (at-if1 .if1 .left)) in
+    let at-if1 = c .before .before .before in
+    let at-start = at-if1 .before .before .before .before .before in
     let r = row-below (at-start .args .words) (at-start .args .recordings) (c .loop-test .taken) in
-    omega (arith, f .room, at-start .good .0 .0)
+    omega (arith, fit at-if1 .room, at-start .good .0 .0)
 
 mark-of-requires : tie.Need-mark-of-requires Inv-loop μ-loop
 mark-of-requires c κs =
-    let at-if1 = c .before .before in
-    let at-sufficing = at-if1 .before in
-    let at-start = at-sufficing .before .before .before .before in
-    let f = at-sufficing .sufficing .ensures .fits (not-false _ (at-if1 .if1 .left)) in
+    let at-if1 = c .before .before .before in
+    let at-start = at-if1 .before .before .before .before .before in
     let r = row-below (at-start .args .words) (at-start .args .recordings) (c .loop-test .taken) in
-    let m = f .room in
-    (omega arith, f .few-words)
+    (omega (arith, fit at-if1 .room), fit at-if1 .few-words)
 
 slice-write-marks : tie.Need-slice-write-marks Inv-loop μ-loop
 slice-write-marks c =
     let at-loop = c .before .before in
-    let at-if1 = at-loop .before in
-    let at-sufficing = at-if1 .before in
-    let f = at-sufficing .sufficing .ensures .fits (not-false _ (at-if1 .if1 .left)) in
-    let m = f .marks-fit in
-    let v = at-loop .loop .inv .2 in
-    omega arith
+    omega (arith, fit (at-loop .before .before) .marks-fit, at-loop .loop .inv .2)
 
 cast-count : tie.Need-cast-count Inv-loop μ-loop
 cast-count c = let l = at-most c in omega arith
@@ -93,15 +105,11 @@ loop-less c = search needs
 loop-again : tie.Need-loop-again Inv-loop μ-loop
 loop-again c =
     let at-loop = c .before .before in
-    let at-if1 = at-loop .before in
-    let at-sufficing = at-if1 .before in
-    let at-start = at-sufficing .before .before .before .before in
-    let a = at-start .args in
-    let f = at-sufficing .sufficing .ensures .fits (not-false _ (at-if1 .if1 .left)) in
-    let m = f .marks-fit in
+    let at-if1 = at-loop .before .before in
+    let a = at-if1 .before .before .before .before .before .args in
     let v = at-loop .loop .inv in
     let l = at-most c in
-    let h : at-loop .loop .y < length (a .marks .now) = omega arith in (
+    let h : at-loop .loop .y < length (a .marks .now) = omega (arith, fit at-if1 .marks-fit) in (
       omega arith,
       omega arith,
       simp length-set (v .2),
@@ -111,18 +119,15 @@ loop-again c =
           (at-loop .loop .count) (v .4),
     )
 
-same-length-2 : tie.Need-same-length-2 Inv-loop μ-loop
-same-length-2 c = search needs
+same-length-3 : tie.Need-same-length-3 Inv-loop μ-loop
+same-length-3 c = search needs
 
-returns-2 : tie.Need-returns-2 Inv-loop μ-loop
-returns-2 c =
-    let at-if1 = c .before .before in
-    let at-sufficing = at-if1 .before in
-    let at-start = at-sufficing .before .before .before .before in
-    let f = at-sufficing .sufficing .ensures .fits (not-false _ (at-if1 .if1 .left)) in
+returns-3 : tie.Need-returns-3 Inv-loop μ-loop
+returns-3 c =
+    let at-if1 = c .before .before .before in
     let v = c .before .loop .inv in
-    let e : c .before .loop .y ≡ at-start .args .recordings = omega arith in
-    record { set = λ g. rw e at (v .3); counted = λ g. rw e at (v .4); unfit = λ n. absurd (n f) }
+    let e : c .before .loop .y ≡ at-if1 .before .before .before .before .before .args .recordings = omega arith in
+    record { set = λ g. rw e at (v .3); counted = λ g. rw e at (v .4); unfit = λ n. absurd (n (fit at-if1)) }
 
 pub mark-spec : {M : Type 1} → statement M
 mark-spec =
@@ -133,6 +138,9 @@ mark-spec =
     sufficing-requires
     same-length
     returns
+    mark-words-requires
+    same-length-2
+    returns-2
     loop-holds
     mul-mark-of
     mark-of-requires
@@ -142,5 +150,5 @@ mark-spec =
     add-y
     loop-less
     loop-again
-    same-length-2
-    returns-2)
+    same-length-3
+    returns-3)

@@ -1,5 +1,5 @@
 -- `index_table` meets its contract. The loop's invariant: from the triple number `at` on, the triples are in range and rise from the numbers
--- before `after`, which is at most that of a triple that leaves no recording, and the first of each recording is listed.
+-- up to `after`, which is at most that of a triple that leaves no recording, and the first of each recording is listed.
 use Prim.Native.Nat.{ℕ, _+_, _*_, _-_, _/_, _≤_, _<_}
 use mathlib.Core.Bool.{true, false, false≢true}
 use mathlib.Core.List.{List}
@@ -7,7 +7,7 @@ use mathlib.Core.Path.{_≡_, refl, sym, subst}
 use lib.ListN.{length, getD, length-set}
 use Rattle.theory.specs.Graph.{Table}
 use Rattle.answering.specs.Table.{mostLinks, isTable}
-use Rattle.answering.specs.TableSteps.{tripleNumber, pastTriples, RiseBefore, RiseNever, table-too-long, table-uneven}
+use Rattle.answering.specs.TableSteps.{tripleNumber, pastTriples, RiseUpTo, RiseNever, table-too-long, table-uneven}
 use Rattle.answering.specs.TableSteps.{rise-end, label-out, last-out, unordered, first-in, rise-more, table-rises, table-fails}
 use Rattle.answering.specs.LinkBegins.{LinkBegins, Begun, begun-none, begun-more, begun-all}
 use native.Mathlib.Omega.{arith}
@@ -17,9 +17,8 @@ use Rattle.answering.proofs.table.index_table.Tie as tie
 
 record Indexed (N k : ℕ) (t : Table) (begins₀ begins : List ℕ) (after at : ℕ) : Type 0 where
   within : at ≤ length t / 3
-  above : 0 < after
   below : after ≤ pastTriples N
-  rest : RiseBefore N k t (3 * at) after
+  rest : RiseUpTo N k t (3 * at) after
   long : length begins ≡ length begins₀
   begun : Begun t N at begins
 
@@ -60,10 +59,9 @@ loop-holds c =
     let e = c .number-of .ensures in
     record {
       within = omega arith;
-      above = omega arith;
       below = omega arith;
       rest =
-          subst (RiseBefore (a .recordings) (a .symbols) t (3 * (length t / 3))) (sym e)
+          subst (RiseUpTo (a .recordings) (a .symbols) t (3 * (length t / 3))) (sym e)
           (rise-end (a .recordings) (a .symbols) t (3 * (length t / 3)) (omega arith));
       long = refl;
       begun = begun-none (at-start .pre .1);
@@ -114,19 +112,25 @@ shared-slice-read-wide-3 c = search needs
 wide-requires-3 : tie.Need-wide-requires-3 Inv-loop μ-loop
 wide-requires-3 c κs = search needs
 
-number-of-requires-2 : tie.Need-number-of-requires-2 Inv-loop μ-loop
-number-of-requires-2 c κs =
-    let at-table = c .before in
-    let at-loop = at-table .before .before .before .before .before .before in
-    let m = at-loop .loop .at - 1 in
-    let known = at-table .shared-slice-known4 .given in
-    (omega (arith, known (3 * m)), omega (arith, known (3 * m + 1)), omega (arith, known (3 * m + 2)))
-
 same-length : tie.Need-same-length Inv-loop μ-loop
 same-length c = search needs
 
 returns-3 : tie.Need-returns-3 Inv-loop μ-loop
 returns-3 c =
+    let at-loop = c .before .before .before .before .before .before .before .before in
+    let at-table = at-loop .before .before .before .before .before in
+    let at-start = at-table .before in
+    let a = at-start .args in
+    let m = at-loop .loop .at - 1 in
+    let narrow : (i : ℕ) → getD (a .table .now) i 0 < 65536 = λ i. omega (arith, at-table .shared-slice-known .given i) in
+    refused (a .recordings) (a .symbols) (a .table .now) _ (omega arith) narrow m (omega arith)
+    (last-out (a .recordings) (a .symbols) (a .table .now) (3 * m) (omega arith) (omega arith))
+
+same-length-2 : tie.Need-same-length-2 Inv-loop μ-loop
+same-length-2 c = search needs
+
+returns-4 : tie.Need-returns-4 Inv-loop μ-loop
+returns-4 c =
     let at-loop = c .before .before .before .before .before .before .before .before .before in
     let at-table = at-loop .before .before .before .before .before in
     let at-start = at-table .before in
@@ -136,19 +140,13 @@ returns-3 c =
     refused (a .recordings) (a .symbols) (a .table .now) _ (omega arith) narrow m (omega arith)
     (label-out (a .recordings) (a .symbols) (a .table .now) (3 * m) (omega arith) (omega arith))
 
-same-length-2 : tie.Need-same-length-2 Inv-loop μ-loop
-same-length-2 c = search needs
-
-returns-4 : tie.Need-returns-4 Inv-loop μ-loop
-returns-4 c =
-    let at-loop = c .before .before .before .before .before .before .before .before .before .before in
-    let at-table = at-loop .before .before .before .before .before in
-    let at-start = at-table .before in
-    let a = at-start .args in
+number-of-requires-2 : tie.Need-number-of-requires-2 Inv-loop μ-loop
+number-of-requires-2 c κs =
+    let at-table = c .before .before .before in
+    let at-loop = at-table .before .before .before .before .before .before in
     let m = at-loop .loop .at - 1 in
-    let narrow : (i : ℕ) → getD (a .table .now) i 0 < 65536 = λ i. omega (arith, at-table .shared-slice-known .given i) in
-    refused (a .recordings) (a .symbols) (a .table .now) _ (omega arith) narrow m (omega arith)
-    (last-out (a .recordings) (a .symbols) (a .table .now) (3 * m) (omega arith) (omega arith))
+    let known = at-table .shared-slice-known4 .given in
+    (omega (arith, known (3 * m)), omega (arith, known (3 * m + 1)), omega (arith, known (3 * m + 2)))
 
 same-length-3 : tie.Need-same-length-3 Inv-loop μ-loop
 same-length-3 c = search needs
@@ -166,7 +164,7 @@ returns-5 c =
     let narrow : (i : ℕ) → getD t i 0 < 65536 = λ i. omega (arith, at-table .shared-slice-known .given i) in
     refused (a .recordings) (a .symbols) t _ (omega arith) narrow m (omega arith)
     (unordered (a .recordings) (a .symbols) t (3 * m) (omega arith) (omega arith) (omega arith) narrow (l .after) (l .inv .below)
-    (subst (λ i. RiseBefore (a .recordings) (a .symbols) t i (l .after)) e (l .inv .rest)) (omega arith))
+    (subst (λ i. RiseUpTo (a .recordings) (a .symbols) t i (l .after)) e (l .inv .rest)) (omega arith))
 
 cast-begins : tie.Need-cast-begins Inv-loop μ-loop
 cast-begins c = search needs
@@ -185,8 +183,10 @@ loop-less c = search needs
 
 loop-again : tie.Need-loop-again Inv-loop μ-loop
 loop-again c =
-    let at-number-of = c .before .before .before in
-    let at-wide = at-number-of .before .before .before .before .before in
+    let at-number-of = c .before in
+    let at-wide3 = at-number-of .before .before .before in
+    let at-wide2 = at-wide3 .before .before in
+    let at-wide = at-wide2 .before .before in
     let at-loop = at-wide .before .before .before in
     let at-table = at-loop .before .before .before .before .before in
     let at-start = at-table .before in
@@ -198,17 +198,17 @@ loop-again c =
     let f : m + 1 ≡ l .at = omega arith in
     let narrow : (i : ℕ) → getD t i 0 < 65536 = λ i. omega (arith, at-table .shared-slice-known .given i) in
     let n = at-number-of .number-of2 .result in
-    let number : tripleNumber (getD t (3 * m) 0) (getD t (3 * m + 1) 0) (getD t (3 * m + 2) 0) ≡ n = omega arith in
+    let number : tripleNumber (getD t (3 * m) 0) (getD t (3 * m + 1) 0) (getD t (3 * m + 2) 0) ≡ n = omega
+    (arith, at-number-of .number-of2 .ensures, at-wide .wide .ensures, at-wide2 .wide2 .ensures, at-wide3 .wide3 .ensures) in
     let below = l .inv .below in
-    let rest = subst (λ i. RiseBefore (a .recordings) (a .symbols) t i (l .after)) e (l .inv .rest) in
+    let rest = subst (λ i. RiseUpTo (a .recordings) (a .symbols) t i (l .after)) e (l .inv .rest) in
     let leaves : getD t (3 * m) 0 < a .recordings =
     first-in (a .recordings) (a .symbols) t (3 * m) (omega arith) (omega arith) (omega arith) narrow (l .after) below rest (omega arith) in
     record {
       within = omega arith;
-      above = omega arith;
       below = omega arith;
       rest =
-          subst (λ n. RiseBefore (a .recordings) (a .symbols) t (3 * m) n) number
+          subst (λ n. RiseUpTo (a .recordings) (a .symbols) t (3 * m) n) number
           (rise-more (a .recordings) (a .symbols) t (3 * m) (omega arith) (omega arith) (omega arith) narrow (l .after) below rest
           (omega arith));
       long = simp length-set (l .inv .long);
@@ -230,8 +230,8 @@ returns-6 c =
     let e : l .at ≡ 0 = omega arith in
     let f : 3 * l .at ≡ 0 = omega arith in (
       sym (table-rises (a .recordings) (a .symbols) (a .table .now) (omega arith)
-          (λ i. omega (arith, at-table .shared-slice-known .given i)) (l .after) (l .inv .above)
-          (subst (λ i. RiseBefore (a .recordings) (a .symbols) (a .table .now) i (l .after)) f (l .inv .rest))),
+          (λ i. omega (arith, at-table .shared-slice-known .given i)) (l .after)
+          (subst (λ i. RiseUpTo (a .recordings) (a .symbols) (a .table .now) i (l .after)) f (l .inv .rest))),
       λ z. begun-all (omega (arith, at-start .pre .1 .fits, l .inv .long)) (rw e at (l .inv .begun)),
     )
 
@@ -261,11 +261,11 @@ index-table-spec =
     mul-wide-6
     shared-slice-read-wide-3
     wide-requires-3
-    number-of-requires-2
     same-length
     returns-3
     same-length-2
     returns-4
+    number-of-requires-2
     same-length-3
     returns-5
     cast-begins
