@@ -35,6 +35,15 @@ pub mod SetSearchRun
 pub mod PlaceSteps
 pub mod WordSteps
 pub mod WordsPending
+pub mod Ends
+pub mod EndSteps
+pub mod EndStepsLaws
+pub mod TurnedRun
+pub mod TurnedRunLaws
+pub mod TurnedRounds
+pub mod TurnedBack
+pub mod TurnedTest
+pub mod TurnedSearch
 pub mod Marks
 pub mod MarksSteps
 pub mod SetMarks

@@ -117,6 +117,7 @@ pub table-in-range : (k N : ℕ) (t : Table) → isTable N k t ≡ true → InRa
 table-in-range k N t e =
     let is = is-table-exactly N k t .0 e in
     record {
+      from = λ i h. table-ends is _ _ _ (linked-triple t i (omega arith)) .0;
       label = λ i h. table-labels is (linked-triple t i (omega arith));
       end = λ i h. table-ends is _ _ _ (linked-triple t i (omega arith)) .1;
     }

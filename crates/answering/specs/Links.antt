@@ -23,8 +23,9 @@ pub record FirstLink (t : Table) (x r : ℕ) : Type 0 where
   pub before : (i : ℕ) → i < r → ¬ (leaves t i ≡ x)
   pub there : (i : ℕ) → i < length t / 3 → leaves t i ≡ x → leaves t r ≡ x
 
--- The symbol of each triple is below k, and its end below N.
+-- The symbol of each triple is below k, and the recordings that it leaves and leads to are below N.
 pub record InRange (k N : ℕ) (t : Table) : Type 0 where
+  pub from : (i : ℕ) → i < length t / 3 → leaves t i < N
   pub label : (i : ℕ) → i < length t / 3 → getD t (3 * i + 1) 0 < k
   pub end : (i : ℕ) → i < length t / 3 → getD t (3 * i + 2) 0 < N
 

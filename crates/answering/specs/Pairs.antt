@@ -63,7 +63,7 @@ put-same : (w : ℕ) (l : List ℕ) (y s : ℕ) → place w y s < length l
 unfolding put
 put-same w l y s h = getD-set-same l (place w y s) (union (getD l (place w y s) 0) (one (s % 64))) 0 h
 
-put-other : (w : ℕ) (l : List ℕ) (y s i : ℕ) → ¬ (i ≡ place w y s) → getD (put w l y s) i 0 ≡ getD l i 0
+pub put-other : (w : ℕ) (l : List ℕ) (y s i : ℕ) → ¬ (i ≡ place w y s) → getD (put w l y s) i 0 ≡ getD l i 0
 unfolding put
 put-other w l y s i h = getD-set-other l (place w y s) i _ 0 h
 

@@ -95,7 +95,7 @@ words-grown w g = record { ready = g .ready; within = λ y s l m. g .kept y s (w
 -- The states that one link brings.
 
 -- What is left of a word without a part of it.
-left-of : (r d : ℕ) → ((s : ℕ) → Member s d → Member s r) → bitXor r d ≡ bitXor r (bitAnd r d)
+pub left-of : (r d : ℕ) → ((s : ℕ) → Member s d → Member s r) → bitXor r d ≡ bitXor r (bitAnd r d)
 left-of r d h = ap (bitXor r) (equal-members d (bitAnd r d) λ s. (
   λ m. member-intersection s r d .1 (h s m, m),
   λ m. member-intersection s r d .0 m .1,

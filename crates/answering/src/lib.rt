@@ -1,4 +1,6 @@
 // Answers over lent tables: whether a table is one, what a search reaches over it, and its marks; and both answers on job texts.
+mod end_steps;
+mod ends;
 mod link_view;
 mod links;
 mod links_core;
@@ -16,6 +18,8 @@ mod sizes;
 mod state_search;
 mod state_sets;
 mod table;
+mod turned_back;
+mod turned_search;
 mod useful;
 mod word_search;
 

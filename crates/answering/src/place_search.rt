@@ -3,6 +3,8 @@
 use super::place_rows::few_rows;
 use super::place_rows::place_rows;
 use super::sizes::Sizes;
+use super::turned_search::search_turned;
+use super::turned_search::turnable;
 use super::word_search::follow_all_words;
 use finding::clear::clear_words;
 ghost use mathlib.Core.Bool.{true};
@@ -108,7 +110,8 @@ fn search_many(
     );
 }
 
-// The search with as much room as the recordings need: to zero room for many takes longer than to search a table of few.
+// The search with as much room as the recordings need: to zero room for many takes longer than to search a table of few. Few states and
+// recordings are searched by sets of recordings.
 fn search_words(
     rows: &[u64],
     cut: bool,
@@ -126,7 +129,9 @@ fn search_words(
     ensures { λ _. ⌜ SetAllFound 1 (WordStep cut (now (rows .entry)) (sizes .symbols) (now (images .entry))) (sizes .symbols)
         (sizes .states) (now (table .entry)) (sizes .recordings) start (now (reached .entry)) (now (reached .exit)) ⌝ }
 {
-    if sizes.recordings <= 256 {
+    if !cut && turnable(rows, sizes) {
+        search_turned(rows, sizes, table, start, reached);
+    } else if sizes.recordings <= 256 {
         search_few(rows, cut, sizes, table, begins, start, reached, images);
     } else {
         search_many(rows, cut, sizes, table, begins, start, reached, images);

@@ -11,6 +11,8 @@ use super::rows::unite;
 use super::rows::unite_new;
 use super::sizes::Sizes;
 use super::table::index;
+use super::turned_search::search_turned;
+use super::turned_search::turnable;
 use super::word_search::follow_all_words;
 use finding::clear::clear_words;
 ghost use Prim.Native.Nat.{_+_, _*_, _≤_, _<_};
@@ -349,7 +351,8 @@ fn fitting(
 
 // All pairs of a recording and a state that are reached from the start in state 0, as bits of the first words × recordings words; where the
 // sizes do not fit, nothing is changed. `sets` has the next states of each state over each symbol, `words` words for each. To zero room for
-// many recordings takes longer than to search a table of few, so these have less room.
+// many recordings takes longer than to search a table of few, so these have less room. Few states and recordings are searched by sets of
+// recordings.
 pub(super) fn search_sets(
     sets: &[u64],
     symbols: u64,
@@ -376,7 +379,9 @@ pub(super) fn search_sets(
         words: words as usize,
         recordings: recordings as usize,
     };
-    if all <= 256 {
+    if words == 1 && turnable(sets, sizes) {
+        search_turned(sets, sizes, table, start as usize, reached);
+    } else if all <= 256 {
         search_few(sets, sizes, table, begins, start as usize, reached);
     } else if all <= 4096 {
         search_middle(sets, sizes, table, begins, start as usize, reached);

@@ -25,31 +25,51 @@ mul-all c =
 clear-words-requires : tie.Need-clear-words-requires
 clear-words-requires c κs = search needs
 
-search-few-requires : tie.Need-search-few-requires
-search-few-requires c κs =
-    let at-if2 = c .before in
+turnable-requires : tie.Need-turnable-requires
+turnable-requires c κs =
+    let at-if1 = c .before .before .before .before .before in
+    let f = at-if1 .before .fitting .ensures .fits (not-false _ (at-if1 .if1 .left)) in
+    (f .few-symbols, omega (arith, rw (c .if2 .taken) at (f .rows)))
+
+search-turned-requires : tie.Need-search-turned-requires
+search-turned-requires c κs =
+    let at-if3 = c .before in
+    let at-turnable = at-if3 .before in
+    let at-if2 = at-turnable .before in
     let at-clear-words = at-if2 .before .before .before in
     let at-if1 = at-clear-words .before .before in
     let at-fitting = at-if1 .before in
     let f = at-fitting .fitting .ensures .fits (not-false _ (at-if1 .if1 .left)) in
     let d = at-clear-words .clear-words in
     let p = at-fitting .before .before .before .before .before .before .pre in
-    (set-starting (sizes-of f) (d .ensures) (d .kept .0), f .rows, at-if2 .if2 .taken, p .0, p .1)
+    let (t, few, few-ends) = at-turnable .turnable .ensures (at-if3 .if3 .taken) in
+    (t, p .0, few, few-ends, rw (at-if2 .if2 .taken) at (set-starting (sizes-of f) (d .ensures) (d .kept .0)))
 
-search-middle-requires : tie.Need-search-middle-requires
-search-middle-requires c κs =
-    let at-if3 = c .before in
-    let at-clear-words = at-if3 .before .before .before .before in
+search-few-requires : tie.Need-search-few-requires
+search-few-requires c κs =
+    let at-if4 = c .before in
+    let at-clear-words = at-if4 .before .before .before .before in
     let at-if1 = at-clear-words .before .before in
     let at-fitting = at-if1 .before in
     let f = at-fitting .fitting .ensures .fits (not-false _ (at-if1 .if1 .left)) in
     let d = at-clear-words .clear-words in
     let p = at-fitting .before .before .before .before .before .before .pre in
-    (set-starting (sizes-of f) (d .ensures) (d .kept .0), f .rows, at-if3 .if3 .taken, p .0, p .1)
+    (set-starting (sizes-of f) (d .ensures) (d .kept .0), f .rows, at-if4 .if4 .taken, p .0, p .1)
+
+search-middle-requires : tie.Need-search-middle-requires
+search-middle-requires c κs =
+    let at-if5 = c .before in
+    let at-clear-words = at-if5 .before .before .before .before .before in
+    let at-if1 = at-clear-words .before .before in
+    let at-fitting = at-if1 .before in
+    let f = at-fitting .fitting .ensures .fits (not-false _ (at-if1 .if1 .left)) in
+    let d = at-clear-words .clear-words in
+    let p = at-fitting .before .before .before .before .before .before .pre in
+    (set-starting (sizes-of f) (d .ensures) (d .kept .0), f .rows, at-if5 .if5 .taken, p .0, p .1)
 
 search-many-requires : tie.Need-search-many-requires
 search-many-requires c κs =
-    let at-clear-words = c .before .before .before .before .before in
+    let at-clear-words = c .before .before .before .before .before .before in
     let at-if1 = at-clear-words .before .before in
     let at-fitting = at-if1 .before in
     let f = at-fitting .fitting .ensures .fits (not-false _ (at-if1 .if1 .left)) in
@@ -62,8 +82,23 @@ same-length-2 c = search needs
 
 returns-2 : tie.Need-returns-2
 returns-2 c =
+    let at-search-turned = c .before .before in
+    let at-if2 = at-search-turned .before .before .before .before in
+    let at-clear-words = at-if2 .before .before .before in
+    let at-if1 = at-clear-words .before .before in
+    let at-fitting = at-if1 .before in
+    let f = at-fitting .fitting .ensures .fits (not-false _ (at-if1 .if1 .left)) in
+    let d = at-clear-words .clear-words in
+    let r = at-search-turned .search-turned in
+    set-searched f (cleared-beyond (d .ensures) (f .room)) (r .kept .1 .1 .1 .1 .0 ∙ d .kept .0) (rw (at-if2 .if2 .taken) (r .ensures))
+
+same-length-3 : tie.Need-same-length-3
+same-length-3 c = search needs
+
+returns-3 : tie.Need-returns-3
+returns-3 c =
     let at-search-few = c .before .before in
-    let at-clear-words = at-search-few .before .before .before .before .before in
+    let at-clear-words = at-search-few .before .before .before .before .before .before in
     let at-if1 = at-clear-words .before .before in
     let at-fitting = at-if1 .before in
     let f = at-fitting .fitting .ensures .fits (not-false _ (at-if1 .if1 .left)) in
@@ -71,13 +106,13 @@ returns-2 c =
     let r = at-search-few .search-few in
     set-searched f (cleared-beyond (d .ensures) (f .room)) (r .kept .1 .1 .1 .1 .1 .0 ∙ d .kept .0) (r .ensures)
 
-same-length-3 : tie.Need-same-length-3
-same-length-3 c = search needs
+same-length-4 : tie.Need-same-length-4
+same-length-4 c = search needs
 
-returns-3 : tie.Need-returns-3
-returns-3 c =
+returns-4 : tie.Need-returns-4
+returns-4 c =
     let at-search-middle = c .before .before in
-    let at-clear-words = at-search-middle .before .before .before .before .before .before in
+    let at-clear-words = at-search-middle .before .before .before .before .before .before .before in
     let at-if1 = at-clear-words .before .before in
     let at-fitting = at-if1 .before in
     let f = at-fitting .fitting .ensures .fits (not-false _ (at-if1 .if1 .left)) in
@@ -85,13 +120,13 @@ returns-3 c =
     let r = at-search-middle .search-middle in
     set-searched f (cleared-beyond (d .ensures) (f .room)) (r .kept .1 .1 .1 .1 .1 .0 ∙ d .kept .0) (r .ensures)
 
-same-length-4 : tie.Need-same-length-4
-same-length-4 c = search needs
+same-length-5 : tie.Need-same-length-5
+same-length-5 c = search needs
 
-returns-4 : tie.Need-returns-4
-returns-4 c =
+returns-5 : tie.Need-returns-5
+returns-5 c =
     let at-search-many = c .before .before in
-    let at-clear-words = at-search-many .before .before .before .before .before .before in
+    let at-clear-words = at-search-many .before .before .before .before .before .before .before in
     let at-if1 = at-clear-words .before .before in
     let at-fitting = at-if1 .before in
     let f = at-fitting .fitting .ensures .fits (not-false _ (at-if1 .if1 .left)) in
@@ -108,6 +143,8 @@ search-sets-spec =
     returns
     mul-all
     clear-words-requires
+    turnable-requires
+    search-turned-requires
     search-few-requires
     search-middle-requires
     search-many-requires
@@ -116,4 +153,6 @@ search-sets-spec =
     same-length-3
     returns-3
     same-length-4
-    returns-4)
+    returns-4
+    same-length-5
+    returns-5)
