@@ -20,6 +20,14 @@ use Rattle.verdict.specs.WordBits.{one-bit}
 abbrev pub RowBelow : ℕ → List ℕ → ℕ → ℕ → Type 0
 RowBelow states table q v = (u : ℕ) → u < v → getD table (16 * q + u) 0 < states
 
+-- From the state q, those of the first v lists that have the empty path lead to states that do not come before it.
+abbrev pub RowOnward : List ℕ → List ℕ → ℕ → ℕ → Type 0
+RowOnward accepting table q v = (u : ℕ) → u < v → Member 0 (getD accepting (u + 1) 0) → q ≤ getD table (16 * q + u) 0
+
+-- The lists with the empty path lead from each state to one that does not come before it.
+abbrev pub Onward : ℕ → ℕ → List ℕ → List ℕ → Type 0
+Onward states n accepting table = (q : ℕ) → q < states → RowOnward accepting table q n
+
 -- The states can be passed, with k words each.
 pub record Passable (k states n : ℕ) (accepting table : List ℕ) : Type 0 where
   pub few-words : k ≤ 4
@@ -28,6 +36,13 @@ pub record Passable (k states n : ℕ) (accepting table : List ℕ) : Type 0 whe
   pub accepting-room : n < length accepting
   pub table-room : 16 * states ≤ length table
   pub next : NextBelow states n table
+
+-- What the loops over the states are given, with next states that are states.
+pub passable : (k states n words : ℕ) (accepting table : List ℕ)
+    → (k ≤ 4) × (states ≤ 64 * k) × (n ≤ 16) × (n < length accepting) × (16 * states ≤ length table) × (k * states ≤ words)
+    → NextBelow states n table → Passable k states n accepting table
+passable k states n words accepting table (a, b, c, d, e, f) next =
+    record { few-words = a; few-states = b; few-lists = c; accepting-room = d; table-room = e; next = next }
 
 -- Each state leads to itself alone.
 abbrev pub Alone : ℕ → ℕ → List ℕ → Type 0
@@ -59,22 +74,24 @@ pub record Sound (k states n : ℕ) (accepting table passes : List ℕ) : Type 0
   pub own : (q : ℕ) → q < states → LeadsIn k passes q q
   pub reached : (q t : ℕ) → q < states → LeadsIn k passes q t → Reaches (Passes n accepting table) q t
 
--- The state t has gained what the states lead to that one of the lists from v on, with the empty path, leads to. What is sound stays so;
--- where nothing has changed, the state leads to all of this.
+-- The state t has gained what the states lead to that one of the lists from v on, with the empty path, leads to, and leads to all of this;
+-- the other states lead where they led. What is sound stays so.
 pub record Gathered (k states n v : ℕ) (accepting table : List ℕ) (t : ℕ) (passes passes′ : List ℕ) (r : Bool) : Type 0 where
   pub sound : Sound k states n accepting table passes → Sound k states n accepting table passes′
+  pub others : (q y : ℕ) → q ≢ t → LeadsIn k passes′ q y ↔ LeadsIn k passes q y
   pub unchanged : r ≡ false → Same passes passes′
-  pub closed : r ≡ false → (y : ℕ) → GainsFrom k n v accepting table passes t y → LeadsIn k passes t y
+  pub closed : (y : ℕ) → GainsFrom k n v accepting table passes′ t y → LeadsIn k passes′ t y
 
 -- The states from t on lead to what the states after them lead to.
 abbrev pub ClosedFrom : ℕ → ℕ → ℕ → List ℕ → List ℕ → List ℕ → ℕ → Type 0
 ClosedFrom k states n accepting table passes t =
     (q y : ℕ) → t ≤ q → q < states → GainsFrom k n 0 accepting table passes q y → LeadsIn k passes q y
 
--- A round; where it changed nothing, the states are closed.
+-- A round; where it changed nothing, or the lists with the empty path lead to no state before, the states are closed.
 pub record Rounded (k states n : ℕ) (accepting table passes : List ℕ) (changed : Bool) : Type 0 where
   pub sound : Sound k states n accepting table passes
   pub closed : changed ≡ false → ClosedFrom k states n accepting table passes 0
+  pub once : Onward states n accepting table → ClosedFrom k states n accepting table passes 0
 
 -- The next states of the states before q are states.
 abbrev pub BelowBefore : ℕ → ℕ → List ℕ → ℕ → Type 0
@@ -98,9 +115,6 @@ words-inside k states q h = omega (arith, mul-le-mul-right k h, mul-comm k q, mu
 
 pub words-few : (k q : ℕ) → k ≤ 4 → k * q ≤ 4 * q
 words-few k q h = mul-le-mul-right q h
-
-same-leads : (k : ℕ) (passes passes′ : List ℕ) → Same passes passes′ → (q u : ℕ) → LeadsIn k passes q u → LeadsIn k passes′ q u
-same-leads k passes passes′ e q u (h, m) = (h, subst (Member (u % 64)) (sym (e (k * q + u / 64))) m)
 
 same-back : (k : ℕ) (passes passes′ : List ℕ) → Same passes passes′ → (q u : ℕ) → LeadsIn k passes′ q u → LeadsIn k passes q u
 same-back k passes passes′ e q u (h, m) = (h, subst (Member (u % 64)) (e (k * q + u / 64)) m)
@@ -246,7 +260,12 @@ joining-end k t s j passes passes′ r e l =
 pub gathered-start : (k states n : ℕ) (accepting table : List ℕ) (t : ℕ) (passes : List ℕ) (r : Bool)
     → Gathered k states n n accepting table t passes passes r
 gathered-start k states n accepting table t passes r =
-    record { sound = λ s. s; unchanged = λ e i. refl; closed = λ e y (u, h, l, a, m). absurd (omega arith) }
+    record {
+      sound = λ s. s;
+      others = λ q y d. (λ m. m, λ m. m);
+      unchanged = λ e i. refl;
+      closed = λ y (u, h, l, a, m). absurd (omega arith);
+    }
 
 -- The list v has not the empty path.
 pub gathered-skip : (k states n v next : ℕ) (accepting table : List ℕ) (t : ℕ) (passes passes′ : List ℕ) (r : Bool) → next ≡ v + 1
@@ -255,8 +274,9 @@ pub gathered-skip : (k states n v next : ℕ) (accepting table : List ℕ) (t : 
 gathered-skip k states n v next accepting table t passes passes′ r turn none g =
     record {
       sound = g .sound;
+      others = g .others;
       unchanged = g .unchanged;
-      closed = λ e y (u, h, l, a, m). g .closed e y (u, more u h a (ℕ-discrete u v), l, a, m);
+      closed = λ y (u, h, l, a, m). g .closed y (u, more u h a (ℕ-discrete u v), l, a, m);
     }
   where
     more : (u : ℕ) → v ≤ u → Member 0 (getD accepting (u + 1) 0) → Dec (u ≡ v) → next ≤ u
@@ -271,8 +291,9 @@ pub gathered-more : (k states n v next : ℕ) (accepting table : List ℕ) (t : 
 gathered-more k states n v next accepting table t passes₀ passes passes′ r r′ b turn below inside step both some j g =
     record {
       sound = λ s. sound-turn (g .sound s);
+      others = λ q y d. (λ m. g .others q y d .0 (j .others q y d .0 m), λ m. j .others q y d .1 (g .others q y d .1 m));
       unchanged = λ e i. j .unchanged (both e .1) i ∙ g .unchanged (both e .0) i;
-      closed = λ e y (u, h, l, a, m). closed-turn e y u h l a m (ℕ-discrete u v);
+      closed = λ y (u, h, l, a, m). led y u h l a m (ℕ-discrete (getD table (16 * t + u) 0) t);
     }
   where
     s : ℕ
@@ -295,33 +316,48 @@ gathered-more k states n v next accepting table t passes₀ passes passes′ r r
             (from y (j .gains y .0 (subst (λ (z : ℕ). LeadsIn k passes′ z y) e m)))
         led q y h m (no d) = sound .reached q y h (j .others q y d .0 m)
 
-    closed-turn : b ≡ false → (y u : ℕ) → v ≤ u → u < n → Member 0 (getD accepting (u + 1) 0)
-        → LeadsIn k passes₀ (getD table (16 * t + u) 0) y → Dec (u ≡ v) → LeadsIn k passes₀ t y
-    closed-turn e y u h l a m (yes f) =
-        let m′ : LeadsIn k passes₀ s y = subst (λ (z : ℕ). LeadsIn k passes₀ (getD table (16 * t + z) 0) y) f m in
-        let led : LeadsIn k passes s y = same-leads k passes₀ passes (g .unchanged (both e .0)) s y m′ in
-        let new : LeadsIn k passes′ t y = j .gains y .1 (inr led) in
-        same-back k passes₀ passes (g .unchanged (both e .0)) t y (same-back k passes passes′ (j .unchanged (both e .1)) t y new)
-    closed-turn e y u h l a m (no d) = g .closed (both e .0) y (u, omega arith, l, a, m)
+    -- What a list leads to, the state t leads to already, or gains it now; where the list leads to t itself, there is nothing to gain.
+    gained : (y u : ℕ) → v ≤ u → u < n → Member 0 (getD accepting (u + 1) 0) → LeadsIn k passes (getD table (16 * t + u) 0) y
+        → Dec (u ≡ v) → LeadsIn k passes t y ⊎ LeadsIn k passes s y
+    gained y u h l a m (yes e) = inr (subst (λ (z : ℕ). LeadsIn k passes (getD table (16 * t + z) 0) y) e m)
+    gained y u h l a m (no d) = inl (g .closed y (u, omega arith, l, a, m))
 
--- A round: a state has gathered. Where nothing has changed, it leads to what the states after it lead to.
+    led : (y u : ℕ) → v ≤ u → u < n → Member 0 (getD accepting (u + 1) 0) → LeadsIn k passes′ (getD table (16 * t + u) 0) y
+        → Dec (getD table (16 * t + u) 0 ≡ t) → LeadsIn k passes′ t y
+    led y u h l a m (yes e) = subst (λ (z : ℕ). LeadsIn k passes′ z y) e m
+    led y u h l a m (no d) =
+        j .gains y .1 (gained y u h l a (j .others (getD table (16 * t + u) 0) y d .0 m) (ℕ-discrete u v))
+
+-- A round: the state t has gathered. The states from it on are closed, where those after it were and the states that they lead to have
+-- gained nothing.
+closed-more : (k states n : ℕ) (accepting table passes passes′ : List ℕ) (t next : ℕ) (r : Bool) → next ≡ t + 1
+    → Gathered k states n 0 accepting table t passes passes′ r → ClosedFrom k states n accepting table passes next
+    → ((q y : ℕ) → t < q → q < states → GainsFrom k n 0 accepting table passes′ q y → GainsFrom k n 0 accepting table passes q y)
+    → ClosedFrom k states n accepting table passes′ t
+closed-more k states n accepting table passes passes′ t next r turn g c old q y h l m = side (ℕ-discrete q t)
+  where
+    side : Dec (q ≡ t) → LeadsIn k passes′ q y
+    side (yes e) =
+        subst (λ (z : ℕ). LeadsIn k passes′ z y) (sym e)
+        (g .closed y (subst (λ (z : ℕ). GainsFrom k n 0 accepting table passes′ z y) e m))
+    side (no d) = g .others q y d .1 (c q y (omega arith) l (old q y (omega arith) l m))
+
+-- Nothing has changed.
 pub closed-turn : (k states n : ℕ) (accepting table passes passes′ : List ℕ) (t next : ℕ) (r r′ b : Bool) → next ≡ t + 1
     → (b ≡ false → (r ≡ false) × (r′ ≡ false)) → Gathered k states n 0 accepting table t passes passes′ r′
     → (r ≡ false → ClosedFrom k states n accepting table passes next) → b ≡ false → ClosedFrom k states n accepting table passes′ t
-closed-turn k states n accepting table passes passes′ t next r r′ b turn both g c f q y h l (u, i, o, a, m) =
-    same-leads k passes passes′ same q y (side (ℕ-discrete q t))
-  where
-    same : Same passes passes′
-    same = g .unchanged (both f .1)
+closed-turn k states n accepting table passes passes′ t next r r′ b turn both g c f =
+    closed-more k states n accepting table passes passes′ t next r′ turn g (c (both f .0))
+    (λ q y h l (u, i, o, a, m). (u, i, o, a, same-back k passes passes′ (g .unchanged (both f .1)) (getD table (16 * q + u) 0) y m))
 
-    old : LeadsIn k passes (getD table (16 * q + u) 0) y
-    old = same-back k passes passes′ same (getD table (16 * q + u) 0) y m
-
-    side : Dec (q ≡ t) → LeadsIn k passes q y
-    side (yes e) =
-        subst (λ (z : ℕ). LeadsIn k passes z y) (sym e)
-        (g .closed (both f .1) y (subst (λ (z : ℕ). GainsFrom k n 0 accepting table passes z y) e (u, i, o, a, old)))
-    side (no d) = c (both f .0) q y (omega arith) l (u, i, o, a, old)
+-- The lists with the empty path lead to no state before, so none leads from a state after t to t.
+pub once-turn : (k states n : ℕ) (accepting table passes passes′ : List ℕ) (t next : ℕ) (r : Bool) → next ≡ t + 1
+    → Gathered k states n 0 accepting table t passes passes′ r
+    → (Onward states n accepting table → ClosedFrom k states n accepting table passes next) → Onward states n accepting table
+    → ClosedFrom k states n accepting table passes′ t
+once-turn k states n accepting table passes passes′ t next r turn g c on =
+    closed-more k states n accepting table passes passes′ t next r turn g (c on)
+    (λ q y h l (u, i, o, a, m). (u, i, o, a, g .others (getD table (16 * q + u) 0) y (λ e. omega (arith, on q l u o a)) .0 m))
 
 -- Closed states are the closure.
 pub closed-passing : (k states n : ℕ) (accepting table passes : List ℕ) → NextBelow states n table → Sound k states n accepting table passes

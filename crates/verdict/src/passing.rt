@@ -9,7 +9,8 @@ ghost use lib.ListN.{length};
 ghost use Rattle.theory.specs.Places.{Member};
 ghost use Rattle.places.specs.Words.{numberOf};
 ghost use Rattle.verdict.specs.Columns.{NextBelow, LeadsIn, Passing, Finishing};
-ghost use Rattle.verdict.specs.PassingTurns.{RowBelow, Passable, Alone, WordJoined, StateJoined, Gathered, Sound, Rounded};
+ghost use Rattle.verdict.specs.PassingTurns.{RowBelow, RowOnward, Onward, Passable, Alone, Sound};
+ghost use Rattle.verdict.specs.PassingTurns.{WordJoined, StateJoined, Gathered, Rounded};
 ghost use Rattle.verdict.specs.FinishingTurns.{ListEnded};
 use finding::clear::clear_words;
 
@@ -133,8 +134,38 @@ fn pass_round(
     changed
 }
 
-// The states that lists with the empty path lead to from each state: rounds until nothing changes. False where a next state is none of the
-// states, or as many rounds as states do not suffice.
+// Whether the lists with the empty path lead from the state q to states that do not come before it.
+fn row_onward(accepting: &[u64], table: &[u16], q: usize, lists: usize) -> bool
+    requires { ⌜ (q < 1024) × (lists ≤ 16) × (lists < length (now accepting)) × (16 * q + 16 ≤ length (now table)) ⌝ }
+    ensures { λ r. ⌜ (r ≡ true → RowOnward (now (accepting .entry)) (now (table .entry)) q lists) ⌝ }
+{
+    let mut v = 0;
+    while v < lists {
+        if accepting[v + 1] & 1 == 1 && (table[16 * q + v] as usize) < q {
+            return false;
+        }
+        v += 1;
+    }
+    true
+}
+
+// Whether they do so from each state.
+fn onward(accepting: &[u64], table: &[u16], states: usize, lists: usize) -> bool
+    requires { ⌜ (states ≤ 1024) × (lists ≤ 16) × (lists < length (now accepting)) × (16 * states ≤ length (now table)) ⌝ }
+    ensures { λ r. ⌜ (r ≡ true → Onward states lists (now (accepting .entry)) (now (table .entry))) ⌝ }
+{
+    let mut q = 0;
+    while q < states {
+        if !row_onward(accepting, table, q, lists) {
+            return false;
+        }
+        q += 1;
+    }
+    true
+}
+
+// The states that lists with the empty path lead to from each state: rounds until nothing changes; one, where these lists lead to no state
+// before. False where a next state is none of the states, or as many rounds as states do not suffice.
 pub fn passing(
     accepting: &[u64],
     table: &[u16],
@@ -152,6 +183,10 @@ pub fn passing(
         return false;
     }
     alone(states, k, passes);
+    if onward(accepting, table, states, lists) {
+        pass_round(accepting, table, states, lists, k, passes);
+        return true;
+    }
     let mut rounds = 0;
     while rounds <= states {
         if !pass_round(accepting, table, states, lists, k, passes) {
