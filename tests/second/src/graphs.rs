@@ -49,7 +49,7 @@ impl Shape {
             Shape::Wide => MOST_RECORDINGS,
             Shape::Full => *random.pick(&[128, 200, 1000, MOST_RECORDINGS]),
             Shape::Dense => random.between(2, 12),
-            _ if random.one_in(20) => random.between(65, 300),
+            _ if random.one_in(10) => random.between(65, 500),
             _ if random.one_in(4) => random.between(13, 64),
             _ => random.between(2, 12),
         }

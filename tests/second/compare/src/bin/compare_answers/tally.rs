@@ -8,6 +8,8 @@ use std::fmt::{Display, Formatter, Result as Written};
 
 pub const LEAST_JOBS: usize = 5_000;
 const LEAST_COMPLETE: usize = 500;
+/// Of recordings.
+const SIZES: [&str; 4] = ["up to 64 recordings", "65 to 256 recordings", "257 to 4095 recordings", "4096 recordings"];
 
 /// Of one of the two answers.
 #[derive(Default)]
@@ -17,7 +19,8 @@ struct Answers {
     no_marks: usize,
     some_marks: usize,
     all_marks: usize,
-    most_recordings: usize,
+    /// Answered, by recordings: up to 64, up to 256, up to 4,095, 4,096.
+    recordings: [usize; 4],
     most_links: usize,
 }
 
@@ -59,7 +62,8 @@ impl Tally {
                     ones if ones == recordings => answers.all_marks += 1,
                     _ => answers.some_marks += 1,
                 }
-                answers.most_recordings += usize::from(recordings == MOST_RECORDINGS);
+                let sizes = [64, 256, MOST_RECORDINGS - 1];
+                answers.recordings[sizes.iter().filter(|size| **size < recordings).count()] += 1;
                 answers.most_links += usize::from(asked.table.len() == 3 * MOST_LINKS);
             }
         }
@@ -102,7 +106,9 @@ impl Tally {
             floor("no marks", answers.no_marks, 300);
             floor("some marks", answers.some_marks, 300);
             floor("all marks", answers.all_marks, 300);
-            floor("4096 recordings", answers.most_recordings, 50);
+            for (size, count) in SIZES.iter().zip(answers.recordings) {
+                floor(size, count, 50);
+            }
             for number in (1..=9).chain(14..=16) {
                 floor(&format!("refused {number}"), answers.refused[number], 20);
             }
@@ -122,7 +128,9 @@ impl Display for Answers {
         writeln!(out, "       {:8} no marks", self.no_marks)?;
         writeln!(out, "       {:8} some marks", self.some_marks)?;
         writeln!(out, "       {:8} all marks", self.all_marks)?;
-        writeln!(out, "       {:8} answered, 4096 recordings", self.most_recordings)?;
+        for (size, count) in SIZES.iter().zip(self.recordings) {
+            writeln!(out, "       {count:8} answered, {size}")?;
+        }
         writeln!(out, "       {:8} answered, 16384 links", self.most_links)
     }
 }
