@@ -46,12 +46,4 @@ impl Lent {
         self.workspace.fill(0xa5c3_0f1e_2d4b_6978);
         self.marks.fill(0xd9);
     }
-
-    /// Of a found word only what is told means something.
-    pub fn forget_untold(&mut self, told: u64) {
-        let names = (told >> 52).saturating_sub(1) as usize;
-        if let Some(rest) = self.word.get_mut(names..) {
-            rest.fill(0);
-        }
-    }
 }

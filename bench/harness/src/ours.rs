@@ -1,4 +1,4 @@
-//! The proved operations, as libexports.a has them.
+//! The proved operations, as libserver.a has them.
 
 use crate::input::Input;
 use crate::input::Operation::*;
@@ -11,9 +11,9 @@ pub extern "Rust" fn measured_ours(input: &Input, lent: &mut Lent) -> u64 {
     let (job, links) = (&input.job, &input.links);
     let (recordings, start) = (input.recordings, input.start);
     match input.operation {
-        Find => exported::find(job, table, flags, word),
-        Verdict => exported::verdict(job, input.allowance, table, flags, path, workspace),
-        Links => exported::links(job, recordings, 0, links, start, marks, workspace),
-        Lists => exported::lists(job, recordings, links, start, marks, workspace),
+        Find => server::find(job, table, flags, word),
+        Verdict => server::verdict(job, input.allowance, table, flags, path, workspace),
+        Links => server::links(job, recordings, 0, links, start, marks, workspace),
+        Lists => server::lists(job, recordings, links, start, marks, workspace),
     }
 }

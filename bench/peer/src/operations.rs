@@ -1,5 +1,5 @@
 //! The operations on a job text and lent buffers, with all checks in order.
-//! Each tells its answer in one number, as the proved operations do for tests.
+//! Each tells its answer in one number, as the proved operations do.
 
 use crate::job::{read, Job};
 use crate::links as from_links;
@@ -12,6 +12,7 @@ use crate::verdict as judged;
 
 const TABLE: usize = 4096;
 const FLAGS: usize = 256;
+const WORD: usize = 256;
 const MOST_ALLOWANCE: u64 = 4096;
 const MOST_RECORDINGS: u64 = 4096;
 
@@ -30,11 +31,13 @@ pub fn find(job: &[u8], table: &mut [u16], flags: &mut [u8], word: &mut [u8]) ->
 }
 
 fn find_in(job: &[u8], table: &mut [u16], flags: &mut [u8], word: &mut [u8]) -> Result<u64> {
-    if table.len() < TABLE || flags.len() < FLAGS {
+    if table.len() < TABLE || flags.len() < FLAGS || word.len() < WORD {
         return refuse(8);
     }
     let job = read(job)?;
-    let (query, rewriting) = found(&job).inspect_err(|_| {
+    let answer = found(&job);
+    word[..WORD].fill(0);
+    let (query, rewriting) = answer.inspect_err(|_| {
         table[..TABLE].fill(0);
         flags[..FLAGS].fill(0);
     })?;

@@ -7,7 +7,7 @@ use Rattle.theory.specs.Places.{collect}
 use Rattle.theory.specs.Automaton.{Automaton}
 use Rattle.finding.specs.Standings.{move}
 use Rattle.finding.specs.States.{acceptingStandings}
-use Rattle.verdict.specs.Cover.{Rewritten, nextState}
+use Rattle.finding.specs.Rewritten.{Rewritten, nextState}
 use Rattle.answering.specs.Product.{Machine}
 
 -- The standings of an automaton, given as the list of those found.

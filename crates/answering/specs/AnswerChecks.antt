@@ -9,7 +9,7 @@ use lib.Dec.{ltb, leb}
 use lib.ListN.{length}
 use Rattle.theory.specs.Graph.{Table}
 use Rattle.syntax.specs.declared.refusal.Refusal.the-variants.{BadRecordings, BufferTooShort, BadTable, BadStart}
-use Rattle.answering.specs.declared.links_operation.Answered.the-variants.{Refused}
+use Rattle.syntax.specs.Reply.{refusing}
 use Rattle.answering.specs.Table.{isTable}
 use Rattle.answering.specs.AnswerJob.{Marking, refused, checked}
 use Rattle.answering.specs.LinksOperation.{Outcome, outcome, lentChecked}
@@ -31,16 +31,16 @@ module _ (N words : ℕ) (before workspace : List ℕ) (more : Outcome) where
   abbrev lent : Bool → Bool → Bool → Bool → Outcome
   lent a b d e =
       elim (a && b) [
-        | false ↦ outcome (Refused BadRecordings 0) before workspace
-        | true ↦ elim (d && e) [ false ↦ outcome (Refused BufferTooShort 0) before workspace | true ↦ more ]
+        | false ↦ outcome (refusing BadRecordings 0) before workspace
+        | true ↦ elim (d && e) [ false ↦ outcome (refusing BufferTooShort 0) before workspace | true ↦ more ]
       ]
 
-  pub none-refused : N ≡ 0 → outcome (Refused BadRecordings 0) before workspace ≡ lentChecked N words before workspace more
+  pub none-refused : N ≡ 0 → outcome (refusing BadRecordings 0) before workspace ≡ lentChecked N words before workspace more
   unfolding lentChecked
   none-refused h =
       sym (ap (λ a. lent a (leb N 4096) (leb N (length before)) (leb words (length workspace))) (lt-leb 1 N (omega arith)))
 
-  pub many-refused : 1 ≤ N → 4096 < N → outcome (Refused BadRecordings 0) before workspace ≡ lentChecked N words before workspace more
+  pub many-refused : 1 ≤ N → 4096 < N → outcome (refusing BadRecordings 0) before workspace ≡ lentChecked N words before workspace more
   unfolding lentChecked
   many-refused h l =
       sym (ap₂ (λ a b. lent a b (leb N (length before)) (leb words (length workspace))) (le-leb 1 N h) (lt-leb N 4096 l))
@@ -51,11 +51,11 @@ module _ (N words : ℕ) (before workspace : List ℕ) (more : Outcome) where
     in-range = ap₂ (λ a b. lent a b (leb N (length before)) (leb words (length workspace))) (le-leb 1 N some) (le-leb N 4096 few)
 
     pub marks-short : length before < N
-        → outcome (Refused BufferTooShort 0) before workspace ≡ lentChecked N words before workspace more
+        → outcome (refusing BufferTooShort 0) before workspace ≡ lentChecked N words before workspace more
     marks-short h = sym (in-range ∙ ap (λ d. lent true true d (leb words (length workspace))) (lt-leb N (length before) h))
 
     pub workspace-short : N ≤ length before → length workspace < words
-        → outcome (Refused BufferTooShort 0) before workspace ≡ lentChecked N words before workspace more
+        → outcome (refusing BufferTooShort 0) before workspace ≡ lentChecked N words before workspace more
     workspace-short h l = sym (in-range ∙ ap₂ (lent true true) (le-leb N (length before) h) (lt-leb words (length workspace) l))
 
     pub all-lent : N ≤ length before → words ≤ length workspace → {o : Outcome} → o ≡ more → o ≡ lentChecked N words before workspace more

@@ -15,7 +15,7 @@ use Rattle.syntax.specs.declared.refusal.Refusal.{Refusal}
 use Rattle.syntax.specs.declared.refusal.Refusal.the-variants.{TooManyStandings, BadTable, BadStart, NoExpression}
 use Rattle.finding.specs.Standings.{standings, values}
 use Rattle.finding.specs.Find.{Found, found, find, mostStandings}
-use Rattle.verdict.specs.VerdictJob.{rewritten}
+use Rattle.finding.specs.Rewritten.{rewritten}
 use Rattle.answering.specs.Table.{isTable}
 use Rattle.answering.specs.Product.{marks}
 use Rattle.answering.specs.Answer.{linkMachine, listMachine}

@@ -3,7 +3,7 @@ use Prim.Native.Nat.{ℕ, _^_, _≤_, _<_}
 use mathlib.Core.Bool.{Bool, true, false, false≢true}
 use mathlib.Core.List.{List, [], _∷_}
 use mathlib.Core.Option.{Option·some-injective}
-use mathlib.Core.Path.{_≡_, refl, sym, _∙_, subst}
+use mathlib.Core.Path.{_≡_, refl, sym, ap, _∙_, subst}
 use native.Mathlib.Decide.{decLt}
 use native.Mathlib.Omega.{arith}
 use lib.ListN.{length, getD, List·getD-eq-default}
@@ -14,7 +14,7 @@ use Rattle.theory.specs.PlacesLaws.{member-intersection, member-below, members-
 use Rattle.theory.specs.Counting.{pigeonhole}
 use Rattle.theory.specs.Automaton.{Automaton, nexts, step, standingFrom, standing}
 use Rattle.theory.specs.AutomatonLaws.{member-nexts}
-use Rattle.theory.specs.Exploration.{System, over}
+use Rattle.theory.specs.Exploration.{System, Exploration, all, over}
 use Rattle.theory.specs.Explored.{valueAt, Exceeds}
 use Rattle.theory.specs.ExplorationLaws.{exceeded}
 use Rattle.finding.specs.declared.standings.Explored.{Explored}
@@ -22,7 +22,7 @@ use Rattle.finding.specs.declared.standings.Explored.the-variants.{All}
 use Rattle.finding.specs.Plain.{plain}
 use Rattle.finding.specs.Standings.{standingSystem, standings}
 use Rattle.finding.specs.StandingsLaws.{standing-tests, standing-run}
-use Rattle.finding.specs.StandingsTold.{StandingsTold}
+use Rattle.finding.specs.Count.{counted, countStandings, count-all}
 
 pub record FewPlaces (follow : List ℕ) : Type 0 where
   pub few : length follow ≤ 6
@@ -102,11 +102,14 @@ few-places {follow} {enter} {labels} f = record {
   many = λ e. absurd (false≢true (sym e));
 }
 
-module _ {follow enter : List ℕ} {labels : ℕ} {r : Explored} {found moves : List ℕ}
-    (t : StandingsTold follow enter labels 64 r found moves) where
+module _ (follow enter : List ℕ) (labels : ℕ) {r : Explored} (t : r ≡ countStandings follow enter labels 64) (row : labels ≤ 32)
+    (enters : labels ≤ length enter) where
+  counts : r ≡ counted (standings (plain follow enter 0) labels 64)
+  counts = t ∙ count-all follow enter labels 64 (omega arith) row enters
+
   pub told-few : (states : ℕ) → r ≡ All states → FewStandings follow enter labels true
   told-few states e = record {
-    few = λ d accepting o. different (sym e ∙ t .isOver .1 (sym (same-standings follow enter labels accepting) ∙ o));
+    few = λ d accepting o. different (sym e ∙ counts ∙ ap counted (sym (same-standings follow enter labels accepting) ∙ o));
     many = λ e. absurd (false≢true (sym e));
   }
     where
@@ -116,5 +119,9 @@ module _ {follow enter : List ℕ} {labels : ℕ} {r : Explored} {found moves : 
   pub told-many : r ≡ Explored.Over → FewStandings follow enter labels false
   told-many e = record {
     few = λ e. absurd (false≢true e);
-    many = λ d accepting. same-standings follow enter labels accepting ∙ t .isOver .0 e;
+    many = λ d accepting. same-standings follow enter labels accepting ∙ none (standings (plain follow enter 0) labels 64) (sym counts ∙ e);
   }
+    where
+      none : (x : Exploration ℕ) → counted x ≡ Explored.Over → x ≡ over
+      none over p = refl
+      none (all l) p = absurd (let z : _≡_ {A = ℕ} 0 1 = cc in omega arith)

@@ -1,3 +1,5 @@
+-- Meaning.
+pub mod Marked
 -- Mechanism.
 pub mod Table
 pub mod Product
@@ -10,10 +12,8 @@ pub mod MarksLaws
 pub mod Moves
 pub mod LinkAnswers
 pub mod ListAnswers
-pub mod BothAnswers
-pub mod AnswerJobLaws
--- Demand 3 as a whole.
-pub mod Demand3
+pub mod MarkedLaws
+pub mod Courses
 -- What the code keeps and promises.
 pub mod TableSteps
 pub mod Links
@@ -66,3 +66,4 @@ pub mod ListsCoreLaws
 pub mod ListsOperation
 pub mod FoundTables
 pub mod ListsOperationLaws
+pub mod AnswersSmall

@@ -7,8 +7,7 @@ use mathlib.Core.Path.{_≡_, sym, _∙_, ap}
 use lib.ListN.{length, getD}
 use Rattle.theory.specs.Path.{Path}
 use Rattle.theory.specs.Expression.{Expression, IsPath}
-use Rattle.theory.specs.Job.{Job}
-use Rattle.theory.specs.Graph.{Table, Leads, AnswersFromLinks}
+use Rattle.theory.specs.Graph.{Table, Leads}
 use Rattle.theory.specs.Places.{Member}
 use Rattle.theory.specs.PlacesLaws.{member-collect}
 use Rattle.theory.specs.Automaton.{Automaton, glushkov, standing, accepts}
@@ -68,9 +67,3 @@ pub links-marked : (e : Expression) (k limit : ℕ) (l : List (Entry ℕ)) → s
 links-marked e k limit l found N t table x y h f =
     Iff·trans (standings-marked (glushkov e) k limit l found N t table x y h f)
     (λ q. (q .0, glushkov-accepts e (q .0) .1 (q .2), q .1), λ q. (q .0, q .2, glushkov-accepts e (q .0) .0 (q .1)))
-
--- For the query of a job: exactly the answers from links.
-pub query-marked : (J : Job) (limit : ℕ) (l : List (Entry ℕ)) → standings (glushkov (J .query)) (J .labels) limit ≡ all l
-    → (N : ℕ) (t : Table) → IsTable N (J .labels) t → (x y : ℕ) → x < N → y < N
-    → (getD (marks (linkMachine (glushkov (J .query)) (values l)) N t x) y 0 ≡ 1) ↔ AnswersFromLinks J t x y
-query-marked J limit l found N t table x y h f = links-marked (J .query) (J .labels) limit l found N t table x y h f

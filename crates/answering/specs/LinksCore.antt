@@ -12,7 +12,8 @@ use Rattle.finding.specs.Standings.{standings, values}
 use Rattle.answering.specs.declared.links_core.Links.{Links}
 use Rattle.answering.specs.declared.links_core.Links.the-variants.{Marked, Over}
 use Rattle.answering.specs.Table.{isTable}
-use Rattle.answering.specs.Product.{Machine, marks, ones}
+use Rattle.answering.specs.Product.{Machine, marks}
+use Rattle.answering.specs.Marked.{ones}
 use Rattle.answering.specs.Answer.{linkMachine}
 
 -- The start is one of the recordings, and the lent marks and words suffice for these.

@@ -1,13 +1,11 @@
 -- The steps of Answer from links (LinksOperation).
-use Prim.Native.Nat.{ℕ, zero, suc, _+_, _*_, _≤_, _<_}
+use Prim.Native.Nat.{ℕ, suc, _+_, _*_, _≤_, _<_}
 use mathlib.Core.Bool.{true, false}
-use mathlib.Core.List.{List}
-use mathlib.Core.Option.{some, none}
+use mathlib.Core.List.{List, [], _∷_}
 use mathlib.Core.Path.{_≡_, refl, sym, ap, _∙_, subst}
 use native.Mathlib.Omega.{arith}
-use borrow.Author.Tests.{lt-ltb, le-ltb}
 use lib.ListN.{length, getD, take, drop, length-take, length-drop}
-use Rattle.theory.specs.Expression.{Expression, empty}
+use Rattle.theory.specs.Expression.{Expression}
 use Rattle.theory.specs.Job.{Job}
 use Rattle.theory.specs.Graph.{Table}
 use Rattle.theory.specs.Automaton.{glushkov}
@@ -15,19 +13,20 @@ use Rattle.theory.specs.Exploration.{Exploration, all, over}
 use Rattle.syntax.specs.declared.refusal.Refusal.the-variants.{TooManyStandings, BadTable, BadStart, NoExpression}
 use Rattle.finding.specs.Standings.{standings}
 use Rattle.finding.specs.Plain.{plain}
+use Rattle.syntax.specs.Reply.{Reply, given, refusing}
 use Rattle.answering.specs.declared.links_core.Links.{Links}
-use Rattle.answering.specs.declared.links_operation.Answered.{Answered}
 use Rattle.answering.specs.Table.{isTable}
-use Rattle.answering.specs.AnswerJob.{Marking, chosen, checked, markedLinks, linksOf, linksJob}
+use Rattle.answering.specs.AnswerJob.{Marking, checked, markedLinks, linksOf, linksJob}
+use Rattle.answering.specs.MarkedLaws.{chosen-exactly, chosen-absent, chosen-within, chosen-some}
 use Rattle.answering.specs.LinksCore.{LinksGiven, LinksTold}
 use Rattle.answering.specs.LinksOperation.{Outcome, outcome, left, JobGiven, ExpressionTold}
 use Rattle.answering.specs.AnswerChecks.{bad-table, bad-start, both-proper}
 
 -- An expression.
 
-abbrev pub answeredOf : Links → Answered
-answeredOf (Links.Marked n) = Answered.Marked n
-answeredOf Links.Over = Answered.Refused TooManyStandings 0
+abbrev pub answeredOf : Links → Reply
+answeredOf (Links.Marked n) = given (n ∷ [])
+answeredOf Links.Over = refusing TooManyStandings 0
 
 module _ {labels : ℕ} {table : Table} {N start : ℕ} {before workspace after workspace′ : List ℕ} {r : Links} where
   links-left : (e : Expression) → LinksTold (glushkov e) labels N table start before workspace r after workspace′
@@ -61,57 +60,42 @@ module _ {labels : ℕ} {table : Table} {N start : ℕ} {before workspace after 
         }
 
     pub expression-marked : {ones : ℕ} → r ≡ Links.Marked ones
-        → ExpressionTold follow enter sizes accepting x labels table N start before workspace (outcome (Answered.Marked ones) after workspace′)
+        → ExpressionTold follow enter sizes accepting x labels table N start before workspace (outcome (given (ones ∷ [])) after workspace′)
     expression-marked e =
         subst (λ r. ExpressionTold follow enter sizes accepting x labels table N start before workspace (outcome (answeredOf r) after workspace′))
         e expression-told
 
     pub expression-over : r ≡ Links.Over
         → ExpressionTold follow enter sizes accepting x labels table N start before workspace
-        (outcome (Answered.Refused TooManyStandings 0) after workspace′)
+        (outcome (refusing TooManyStandings 0) after workspace′)
     expression-over e =
         subst (λ r. ExpressionTold follow enter sizes accepting x labels table N start before workspace (outcome (answeredOf r) after workspace′))
         e expression-told
 
--- More occurrences than a row has room for are never stored.
-pub expression-none : {follow enter sizes accepting : List ℕ} {x labels : ℕ} {table : Table} {N start : ℕ} {before workspace : List ℕ}
-    {o : Outcome} → 63 < getD sizes x 0 → ExpressionTold follow enter sizes accepting x labels table N start before workspace o
-expression-none h = record { told = λ e s. absurd (omega (arith, s .fits)) }
-
 -- A job.
-
-chosen-none : (J : Job) (c : ℕ) → length (J .lists) < c → chosen J c ≡ none
-unfolding chosen
-chosen-none J zero h = absurd (omega arith)
-chosen-none J (suc v) h = rw (le-ltb v (length (J .lists)) (omega arith), chosen)
-
-chosen-some : (J : Job) (c : ℕ) → c ≤ length (J .lists) → (e : Expression) × (chosen J c ≡ some e)
-unfolding chosen
-chosen-some J zero h = (J .query, refl)
-chosen-some J (suc v) h = (getD (J .lists) v empty, rw (lt-ltb v (length (J .lists)) (omega arith), chosen))
 
 abbrev marking : Expression → ℕ → Table → ℕ → ℕ → Marking
 marking e N table start labels = markedLinks e N table start (standings (glushkov e) labels 64)
 
 module _ (J : Job) (N c : ℕ) (table : Table) (start : ℕ) (before workspace : List ℕ) where
   pub links-absent : length (J .lists) < c
-      → outcome (Answered.Refused NoExpression 0) before workspace ≡ left N before workspace (linksJob J N c table start)
+      → outcome (refusing NoExpression 0) before workspace ≡ left N before workspace (linksJob J N c table start)
   unfolding linksJob
-  links-absent h = rw (chosen-none J c h)
+  links-absent h = rw (chosen-absent J c .1 (λ e k. omega (arith, chosen-within k)))
 
   pub links-bad-table : c ≤ length (J .lists) → isTable N (J .labels) table ≡ false
-      → outcome (Answered.Refused BadTable 0) before workspace ≡ left N before workspace (linksJob J N c table start)
+      → outcome (refusing BadTable 0) before workspace ≡ left N before workspace (linksJob J N c table start)
   unfolding linksJob
-  links-bad-table h t = let (e, q) = chosen-some J c h in
+  links-bad-table h t = let (e, k) = chosen-some J c h in
       ap (left N before workspace)
-      (sym (ap (linksOf J N table start) q ∙ bad-table N (J .labels) table start (marking e N table start (J .labels)) t))
+      (sym (ap (linksOf J N table start) (chosen-exactly J c e .1 k) ∙ bad-table N (J .labels) table start (marking e N table start (J .labels)) t))
 
   pub links-bad-start : c ≤ length (J .lists) → isTable N (J .labels) table ≡ true → N ≤ start
-      → outcome (Answered.Refused BadStart 0) before workspace ≡ left N before workspace (linksJob J N c table start)
+      → outcome (refusing BadStart 0) before workspace ≡ left N before workspace (linksJob J N c table start)
   unfolding linksJob
-  links-bad-start h t l = let (e, q) = chosen-some J c h in
+  links-bad-start h t l = let (e, k) = chosen-some J c h in
       ap (left N before workspace)
-      (sym (ap (linksOf J N table start) q ∙ bad-start N (J .labels) table start (marking e N table start (J .labels)) t l))
+      (sym (ap (linksOf J N table start) (chosen-exactly J c e .1 k) ∙ bad-start N (J .labels) table start (marking e N table start (J .labels)) t l))
 
   pub links-marked-job : {follow enter sizes accepting : List ℕ} {labels lists : ℕ} {o : Outcome}
       → JobGiven J follow enter sizes accepting labels lists → c ≤ lists → isTable N labels table ≡ true → start < N
@@ -119,9 +103,9 @@ module _ (J : Job) (N c : ℕ) (table : Table) (start : ℕ) (before workspace :
       → o ≡ left N before workspace (linksJob J N c table start)
   unfolding linksJob
   links-marked-job {labels = labels} g h t l x =
-      let (e, q) = chosen-some J c (rw (g .lists-told) h) in
-      x .told e (g .stored c e q)
+      let (e, k) = chosen-some J c (rw (g .lists-told) h) in
+      x .told e (g .stored k)
       ∙ ap (left N before workspace)
-      (sym (ap (linksOf J N table start) q
+      (sym (ap (linksOf J N table start) (chosen-exactly J c e .1 k)
       ∙ ap (λ k. checked N k table start (marking e N table start k)) (g .labels-told)
       ∙ both-proper N labels table start (marking e N table start labels) t l))

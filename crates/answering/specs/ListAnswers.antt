@@ -13,8 +13,7 @@ use Rattle.theory.specs.Graph.{Table, Leads, AnswersFromLists}
 use Rattle.theory.specs.Places.{Member}
 use Rattle.theory.specs.PlacesLaws.{member-collect}
 use Rattle.finding.specs.Finds.{followed}
-use Rattle.verdict.specs.Cover.{Rewritten}
-use Rattle.verdict.specs.Verdicts.{Decides}
+use Rattle.finding.specs.Rewritten.{Rewritten, Decides}
 use Rattle.answering.specs.Table.{IsTable}
 use Rattle.answering.specs.TableLaws.{table-ends, table-labels, table-path}
 use Rattle.answering.specs.Product.{reachedNodes, marks}

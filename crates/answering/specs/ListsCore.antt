@@ -6,9 +6,10 @@ use mathlib.Core.List.{List, _++_}
 use mathlib.Core.Path.{_≡_}
 use lib.ListN.{length, getD, drop, replicate}
 use Rattle.theory.specs.Graph.{Table}
-use Rattle.verdict.specs.Cover.{Rewritten, nextState}
+use Rattle.finding.specs.Rewritten.{Rewritten, nextState}
 use Rattle.answering.specs.Table.{isTable}
-use Rattle.answering.specs.Product.{marks, ones}
+use Rattle.answering.specs.Product.{marks}
+use Rattle.answering.specs.Marked.{ones}
 use Rattle.answering.specs.Answer.{listMachine}
 
 -- The start is one of the recordings, and the lent marks and words suffice for these.

@@ -15,7 +15,7 @@ use Rattle.theory.specs.Graph.{Table}
 use Rattle.theory.specs.Places.{Member}
 use Rattle.theory.specs.PlacesLaws.{member-collect}
 use Rattle.finding.specs.Cleared.{Cleared}
-use Rattle.verdict.specs.Cover.{Rewritten}
+use Rattle.finding.specs.Rewritten.{Rewritten}
 use Rattle.answering.specs.Answer.{listMachine}
 use Rattle.answering.specs.LentMachine.{Runs}
 use Rattle.answering.specs.SetSearch.{SetSearchable}

@@ -1,7 +1,7 @@
 -- Answer from lists (document 01): what is told and what the lent marks and words, 4 for each recording, hold at the end, from the job text
 -- on.
 use Prim.Native.Nat.{ℕ, _*_, _≤_}
-use mathlib.Core.List.{List}
+use mathlib.Core.List.{List, [], _∷_}
 use mathlib.Core.Logic.{_⊎_}
 use mathlib.Core.Path.{_≡_}
 use lib.ListN.{length}
@@ -9,13 +9,21 @@ use Rattle.theory.specs.Graph.{Table}
 use Rattle.syntax.specs.declared.refusal.Refusal.{Refusal}
 use Rattle.syntax.specs.declared.refusal.Refusal.the-variants.{TooManyStandings, TooManyStates}
 use Rattle.syntax.specs.Byte.{Bytes}
+use Rattle.syntax.specs.Reply.{Reply, given, refusing}
 use Rattle.reading.specs.Read.{Reading, read}
 use Rattle.finding.specs.declared.answer.Finding.{Finding}
 use Rattle.finding.specs.Find.{Rewriting, Found, found}
-use Rattle.verdict.specs.VerdictJob.{rewritten}
+use Rattle.finding.specs.Rewritten.{rewritten}
+use Rattle.answering.specs.declared.lists_operation.ListsAnswer.{ListsAnswer}
+use Rattle.answering.specs.declared.lists_operation.ListsAnswer.the-variants.{Marked, Refused}
 use Rattle.answering.specs.AnswerJob.{Marking, listsJob}
 use Rattle.answering.specs.LinksOperation.{Outcome, leftOf, byReading, lentChecked}
 use Rattle.answering.specs.ListsCore.{ListsGiven}
+
+-- The reply that an answer is: the number of ones.
+abbrev pub listsReply : ListsAnswer → Reply
+listsReply (Marked ones) = given (ones ∷ [])
+listsReply (Refused r n) = refusing r n
 
 abbrev pub listsLeft : ℕ → List ℕ → List ℕ → Marking → Outcome
 listsLeft N = leftOf N (4 * N)

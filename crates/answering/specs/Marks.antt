@@ -7,7 +7,7 @@ use mathlib.Core.Path.{_≡_}
 use lib.Dec.{eqb}
 use lib.ListN.{length, getD, drop}
 use Rattle.theory.specs.Places.{intersection}
-use Rattle.answering.specs.Product.{ones}
+use Rattle.answering.specs.Marked.{ones}
 use Rattle.answering.specs.MarksLaws.{markOf}
 
 -- Some of the first n words from `base` on has a bit in common with the accepting word in the same place.

@@ -1,5 +1,5 @@
 -- What the marks tell (Product): a recording is marked exactly when a path leads to it that ends in an accepting state; there is one mark
--- for each recording, 0 or 1; and the number of ones is the number of marked recordings.
+-- for each recording, 0 or 1; and the sum of such numbers is how many of them are 1.
 use Prim.Native.Nat.{ℕ, zero, suc, _+_, _*_, _/_, _%_, _^_, _<_}
 use mathlib.Core.Bool.{Bool, true, false, not, false≢true}
 use mathlib.Core.List.{List, [], _∷_}
@@ -9,13 +9,13 @@ use native.Mathlib.Nat.{add-zero, zero-add}
 use native.Mathlib.Omega.{arith}
 use lib.Dec.{eqb}
 use lib.ListN.{length, getD}
-use lib.Seq.{ext-getD}
 use borrow.Author.Tests.{eqb-false, ne-eqb}
 use Rattle.theory.specs.Graph.{Table, Leads, EndsBelow}
 use Rattle.theory.specs.Places.{Member, intersection}
 use Rattle.theory.specs.PlacesLaws.{member-none, member-intersection, not-none}
 use Rattle.theory.specs.PlacesShift.{member-down, member-cut}
-use Rattle.answering.specs.Product.{Machine, reachedNodes, marked, marksFrom, marks, ones}
+use Rattle.answering.specs.Product.{Machine, reachedNodes, marked, marksFrom, marks}
+use Rattle.answering.specs.Marked.{ones}
 use Rattle.answering.specs.ProductLaws.{endsAt, StaysWithin, ends-within, reached-exactly}
 
 -- A recording is marked where it is reached in an accepting state ..
@@ -111,19 +111,6 @@ pub mark-exactly : (M : Machine) (t : Table) → StaysWithin M t → (N : ℕ) �
 mark-exactly M t stays N ends some-state x y h k =
     Iff·trans (mark-marked M N t x y k) (marked-exactly M t stays N ends some-state x y h)
 
--- Marks are known by the recordings that are marked.
-pub same-marks : (M K : Machine) (N : ℕ) (t u : Table) (x z : ℕ)
-    → ((y : ℕ) → y < N → (getD (marks M N t x) y 0 ≡ 1) ↔ (getD (marks K N u z) y 0 ≡ 1)) → marks M N t x ≡ marks K N u z
-same-marks M K N t u x z h =
-    ext-getD 0 (marks M N t x) (marks K N u z) (length-marks M N t x ∙ sym (length-marks K N u z))
-    (λ y l. let k : y < N = subst (λ n. y < n) (length-marks M N t x) l in
-    same (h y k) (mark-bit M N t x y k) (mark-bit K N u z y k))
-  where
-    same : {m n : ℕ} → (m ≡ 1) ↔ (n ≡ 1) → (m ≡ 0) ⊎ (m ≡ 1) → (n ≡ 0) ⊎ (n ≡ 1) → m ≡ n
-    same h (inl a) (inl b) = a ∙ sym b
-    same h (inl a) (inr b) = h .1 b ∙ sym b
-    same h (inr a) b = a ∙ sym (h .0 a)
-
 -- The number of ones.
 
 -- How many numbers below n pass a test.
@@ -148,9 +135,3 @@ ones-counted (b ∷ l) bits =
     same : (b ≡ 0) ⊎ (b ≡ 1) → b ≡ markOf (eqb b 1)
     same (inl e) = rw e
     same (inr e) = rw e
-
-pub ones-marks : (M : Machine) (N : ℕ) (t : Table) (x : ℕ)
-    → ones (marks M N t x) ≡ countBelow (λ y. eqb (getD (marks M N t x) y 0) 1) N
-ones-marks M N t x =
-    subst (λ n. ones (marks M N t x) ≡ countBelow (λ y. eqb (getD (marks M N t x) y 0) 1) n) (length-marks M N t x)
-    (ones-counted (marks M N t x) (λ i h. mark-bit M N t x i (subst (λ n. i < n) (length-marks M N t x) h)))

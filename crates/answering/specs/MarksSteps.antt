@@ -13,7 +13,7 @@ use lib.ListN.{length, getD, set, drop}
 use lib.Seq.{drop-cons, set-at}
 use borrow.Author.Tests.{eqb-false, eq-eqb, ne-eqb}
 use Rattle.theory.specs.Places.{union, intersection}
-use Rattle.answering.specs.Product.{ones}
+use Rattle.answering.specs.Marked.{ones}
 use Rattle.answering.specs.MarksLaws.{markOf}
 use Rattle.answering.specs.Marks.{meets, marksOf}
 

@@ -41,8 +41,3 @@ marksFrom M nodes (suc n) y = elim (marked M nodes y) [ true ↦ 1 | false ↦ 0
 
 unfoldable pub marks : Machine → ℕ → Table → ℕ → List ℕ
 marks M N t x = let nodes = reachedNodes M N t x in marksFrom M nodes N 0
-
--- The number of ones.
-unfoldable pub ones : List ℕ → ℕ
-ones [] = 0
-ones (b ∷ l) = b + ones l

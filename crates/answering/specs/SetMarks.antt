@@ -10,7 +10,8 @@ use lib.Seq.{take-at, drop-at}
 use Rattle.theory.specs.Graph.{Table}
 use Rattle.theory.specs.Places.{Member, intersection}
 use Rattle.theory.specs.PlacesLaws.{member-none, member-below, member-intersection, not-none}
-use Rattle.answering.specs.Product.{Machine, reachedNodes, marked, marksFrom, marks, ones}
+use Rattle.answering.specs.Product.{Machine, reachedNodes, marked, marksFrom, marks}
+use Rattle.answering.specs.Marked.{ones}
 use Rattle.answering.specs.MarksLaws.{markOf, mark-marked}
 use Rattle.answering.specs.Pairs.{place, Has}
 use Rattle.answering.specs.Marks.{meets, marksOf, Markable, MarksSet}

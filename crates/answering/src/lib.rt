@@ -23,7 +23,7 @@ mod turned_search;
 mod useful;
 mod word_search;
 
-pub use links_operation::Answered;
+pub use links_operation::LinksAnswer;
 pub use links_operation::answer_from_links;
+pub use lists_operation::ListsAnswer;
 pub use lists_operation::answer_from_lists;
-pub use marks::mark;

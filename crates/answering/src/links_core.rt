@@ -4,8 +4,8 @@ use super::place_rows::few_places;
 use super::place_search::search_any;
 use finding::clear::clear_bytes;
 use finding::clear::clear_words;
+use finding::count::count_standings;
 use finding::standings::Explored;
-use finding::standings::standings;
 ghost use Prim.Native.Nat.{_≤_};
 ghost use lib.ListN.{length};
 ghost use Rattle.finding.specs.Plain.{plain};
@@ -29,9 +29,7 @@ fn few_standings(follow: &[u64], enter: &[u64], labels: u64) -> bool
     if few_places(follow) {
         return true;
     }
-    let mut found: [u64; 64] = [0; 64];
-    let mut moves: [u8; 2048] = [0; 2048];
-    match standings(follow, enter, labels, 64, &mut found, &mut moves) {
+    match count_standings(follow, enter, labels, 64) {
         Explored::All(_) => true,
         Explored::Over => false,
     }

@@ -2,14 +2,14 @@
 use super::links_core::Links;
 use super::links_core::mark_links;
 use super::table::index_table;
-use reading::Answer;
+use reading::ReadAnswer;
 use reading::lists_at_most;
 use reading::load_rows;
 use syntax::Refusal;
 ghost use mathlib.Core.Path.{_≡_};
 ghost use mathlib.Core.Bool.{true};
 ghost use Prim.Native.Nat.{_+_, _*_, _≤_, _<_};
-ghost use lib.ListN.{length};
+ghost use lib.ListN.{length, getD};
 ghost use Rattle.theory.specs.Job.{Job};
 ghost use Rattle.reading.specs.Read.{read};
 ghost use Rattle.reading.specs.RowRoom.{askedRows, HasRows};
@@ -18,9 +18,9 @@ ghost use Rattle.answering.specs.Table.{isTable};
 ghost use Rattle.answering.specs.AnswerJob.{linksJob};
 ghost use Rattle.answering.specs.LinkBegins.{LinkBegins};
 ghost use Rattle.answering.specs.LinksCore.{Lent};
-ghost use Rattle.answering.specs.LinksOperation.{outcome, left, readLinks, linksAnswer, Sized, JobGiven, ExpressionTold};
+ghost use Rattle.answering.specs.LinksOperation.{outcome, linksReply, left, readLinks, linksAnswer, Sized, SizesFit, JobGiven, ExpressionTold};
 
-pub enum Answered {
+pub enum LinksAnswer {
     // The number of marks that are 1.
     Marked(u64),
     // The refusal and its line.
@@ -41,18 +41,14 @@ fn expression_links(
     start: u64,
     marks: &mut [u8],
     workspace: &mut [u64],
-) -> Answered
+) -> LinksAnswer
     requires { ⌜ (x < 17) × (64 * x + 64 ≤ length (now follow)) × (32 * x + 32 ≤ length (now enter)) × (labels ≤ 32) × (isTable recordings labels (now table) ≡ true)
-        × LinkBegins (now table) recordings (now begins) × Lent recordings start (now marks) (now workspace) ⌝ }
+        × LinkBegins (now table) recordings (now begins) × Lent recordings start (now marks) (now workspace) × (getD (now sizes) x 0 ≤ 63) ⌝ }
     ensures { λ r. ⌜ ExpressionTold (now (follow .entry)) (now (enter .entry)) (now (sizes .entry)) (now (accepting .entry)) x labels
         (now (table .entry)) recordings start (now (marks .entry)) (now (workspace .entry))
-        (outcome r (now (marks .exit)) (now (workspace .exit))) ⌝ }
+        (outcome (linksReply r) (now (marks .exit)) (now (workspace .exit))) ⌝ }
 {
     let size = sizes[x] as usize;
-    // No expression that is read has so many.
-    if size > 63 {
-        return Answered::Refused(Refusal::TooManyOccurrences, 0);
-    }
     let from = 64 * x;
     let to = from + size + 1;
     let first = 32 * x;
@@ -70,8 +66,8 @@ fn expression_links(
         workspace,
     );
     match told {
-        Links::Marked(ones) => Answered::Marked(ones),
-        Links::Over => Answered::Refused(Refusal::TooManyStandings, 0),
+        Links::Marked(ones) => LinksAnswer::Marked(ones),
+        Links::Over => LinksAnswer::Refused(Refusal::TooManyStandings, 0),
     }
 }
 
@@ -91,22 +87,22 @@ fn indexed_links(
     start: u64,
     marks: &mut [u8],
     workspace: &mut [u64],
-) -> Answered
+) -> LinksAnswer
     requires { ⌜ (labels ≤ 32) × (lists ≤ 16) × RowsFit lists (now follow) (now enter) × Sized recordings (now marks) (now workspace)
         × (fine ≡ isTable recordings labels (now table))
-        × (fine ≡ true → LinkBegins (now table) recordings (now begins)) ⌝ }
+        × (fine ≡ true → LinkBegins (now table) recordings (now begins)) × SizesFit lists (now sizes) ⌝ }
     ensures { λ r. ⌜ ((J : Job) → JobGiven J (now (follow .entry)) (now (enter .entry)) (now (sizes .entry)) (now (accepting .entry)) labels lists
-        → outcome r (now (marks .exit)) (now (workspace .exit))
+        → outcome (linksReply r) (now (marks .exit)) (now (workspace .exit))
         ≡ left recordings (now (marks .entry)) (now (workspace .entry)) (linksJob J recordings chosen (now (table .entry)) start)) ⌝ }
 {
     if lists < chosen {
-        return Answered::Refused(Refusal::NoExpression, 0);
+        return LinksAnswer::Refused(Refusal::NoExpression, 0);
     }
     if !fine {
-        return Answered::Refused(Refusal::BadTable, 0);
+        return LinksAnswer::Refused(Refusal::BadTable, 0);
     }
     if recordings <= start {
-        return Answered::Refused(Refusal::BadStart, 0);
+        return LinksAnswer::Refused(Refusal::BadStart, 0);
     }
     expression_links(
         follow,
@@ -138,10 +134,11 @@ fn job_links(
     start: u64,
     marks: &mut [u8],
     workspace: &mut [u64],
-) -> Answered
-    requires { ⌜ (labels ≤ 32) × (lists ≤ 16) × RowsFit lists (now follow) (now enter) × Sized recordings (now marks) (now workspace) ⌝ }
+) -> LinksAnswer
+    requires { ⌜ (labels ≤ 32) × (lists ≤ 16) × RowsFit lists (now follow) (now enter) × Sized recordings (now marks) (now workspace)
+        × SizesFit lists (now sizes) ⌝ }
     ensures { λ r. ⌜ ((J : Job) → JobGiven J (now (follow .entry)) (now (enter .entry)) (now (sizes .entry)) (now (accepting .entry)) labels lists
-        → outcome r (now (marks .exit)) (now (workspace .exit))
+        → outcome (linksReply r) (now (marks .exit)) (now (workspace .exit))
         ≡ left recordings (now (marks .entry)) (now (workspace .entry)) (linksJob J recordings chosen (now (table .entry)) start)) ⌝ }
 {
     if recordings <= 256 {
@@ -195,9 +192,9 @@ fn links_in(
     start: u64,
     marks: &mut [u8],
     workspace: &mut [u64],
-) -> Answered
+) -> LinksAnswer
     requires { ⌜ HasRows (askedRows (now text)) (now follow) (now enter) × Sized recordings (now marks) (now workspace) ⌝ }
-    ensures { λ r. ⌜ outcome r (now (marks .exit)) (now (workspace .exit))
+    ensures { λ r. ⌜ outcome (linksReply r) (now (marks .exit)) (now (workspace .exit))
         ≡ readLinks (read (now (text .entry))) recordings chosen (now (table .entry)) start (now (marks .entry)) (now (workspace .entry)) ⌝ }
 {
     let mut names = [0; 96];
@@ -205,7 +202,7 @@ fn links_in(
     let mut accepting = [0; 17];
     let told = load_rows(text, &mut names, follow, enter, &mut sizes, &mut accepting);
     match told {
-        Answer::Job(labels, lists) => job_links(
+        ReadAnswer::Job(labels, lists) => job_links(
             follow,
             enter,
             &sizes,
@@ -219,7 +216,7 @@ fn links_in(
             marks,
             workspace,
         ),
-        Answer::Refused(refusal, line) => Answered::Refused(refusal, line),
+        ReadAnswer::Refused(refusal, line) => LinksAnswer::Refused(refusal, line),
     }
 }
 
@@ -232,9 +229,9 @@ fn read_links(
     start: u64,
     marks: &mut [u8],
     workspace: &mut [u64],
-) -> Answered
+) -> LinksAnswer
     requires { ⌜ Sized recordings (now marks) (now workspace) ⌝ }
-    ensures { λ r. ⌜ outcome r (now (marks .exit)) (now (workspace .exit))
+    ensures { λ r. ⌜ outcome (linksReply r) (now (marks .exit)) (now (workspace .exit))
         ≡ readLinks (read (now (text .entry))) recordings chosen (now (table .entry)) start (now (marks .entry)) (now (workspace .entry)) ⌝ }
 {
     if lists_at_most(text) <= 4 {
@@ -276,21 +273,21 @@ pub fn answer_from_links(
     start: u64,
     marks: &mut [u8],
     workspace: &mut [u64],
-) -> Answered
-    ensures { λ r. ⌜ outcome r (now (marks .exit)) (now (workspace .exit))
+) -> LinksAnswer
+    ensures { λ r. ⌜ outcome (linksReply r) (now (marks .exit)) (now (workspace .exit))
         ≡ linksAnswer (now (text .entry)) recordings chosen (now (table .entry)) start (now (marks .entry)) (now (workspace .entry)) ⌝ }
 {
     if recordings == 0 {
-        return Answered::Refused(Refusal::BadRecordings, 0);
+        return LinksAnswer::Refused(Refusal::BadRecordings, 0);
     }
     if 4096 < recordings {
-        return Answered::Refused(Refusal::BadRecordings, 0);
+        return LinksAnswer::Refused(Refusal::BadRecordings, 0);
     }
     if (marks.len() as u64) < recordings {
-        return Answered::Refused(Refusal::BufferTooShort, 0);
+        return LinksAnswer::Refused(Refusal::BufferTooShort, 0);
     }
     if (workspace.len() as u64) < recordings {
-        return Answered::Refused(Refusal::BufferTooShort, 0);
+        return LinksAnswer::Refused(Refusal::BufferTooShort, 0);
     }
     read_links(text, recordings, chosen, table, start, marks, workspace)
 }

@@ -1,12 +1,11 @@
 // Answer from lists: the rewriting that Find gives for a job, over a table of links over its lists.
-use super::links_operation::Answered;
 use super::lists_core::mark_lists;
 use super::table::index_table;
 use finding::answer::Finding;
 use finding::clear::clear_bytes;
 use finding::clear::clear_words;
 use finding::core::find_rows;
-use reading::Answer;
+use reading::ReadAnswer;
 use reading::lists_at_most;
 use reading::load_rows;
 use syntax::Refusal;
@@ -17,6 +16,7 @@ ghost use Rattle.theory.specs.Job.{Job, WellFormed};
 ghost use Rattle.reading.specs.Read.{read};
 ghost use Rattle.reading.specs.RowRoom.{askedRows, HasRows};
 ghost use Rattle.finding.specs.RowsFit.{RowsFit};
+ghost use Rattle.finding.specs.CoreTold.{HoldsJob};
 ghost use Rattle.finding.specs.Find.{Found, find};
 ghost use Rattle.answering.specs.Table.{isTable};
 ghost use Rattle.answering.specs.AnswerJob.{markedLists, listsJob};
@@ -24,7 +24,14 @@ ghost use Rattle.answering.specs.Links.{InRange};
 ghost use Rattle.answering.specs.LinkBegins.{LinkBegins};
 ghost use Rattle.answering.specs.LinksOperation.{outcome, JobGiven};
 ghost use Rattle.answering.specs.ListsCore.{ListsLent};
-ghost use Rattle.answering.specs.ListsOperation.{listsLeft, readLists, listsAnswer, ListsSized, FoundGiven};
+ghost use Rattle.answering.specs.ListsOperation.{listsReply, listsLeft, readLists, listsAnswer, ListsSized, FoundGiven};
+
+pub enum ListsAnswer {
+    // The number of marks that are 1.
+    Marked(u64),
+    // The refusal and its line.
+    Refused(Refusal, u64),
+}
 
 // The marks by what Find tells and leaves; where it refuses, zeros.
 fn finding_lists(
@@ -38,11 +45,11 @@ fn finding_lists(
     start: u64,
     marks: &mut [u8],
     workspace: &mut [u64],
-) -> Answered
+) -> ListsAnswer
     requires { ⌜ ListsLent recordings start (now marks) (now workspace) × InRange lists recordings (now table)
         × LinkBegins (now table) recordings (now begins) ⌝ }
     ensures { λ r. ⌜ ((F : Found) → FoundGiven F lists finding (now (next .entry)) (now (flags .entry)) (now (table .entry)) recordings
-        → outcome r (now (marks .exit)) (now (workspace .exit))
+        → outcome (listsReply r) (now (marks .exit)) (now (workspace .exit))
         ≡ listsLeft recordings (now (marks .entry)) (now (workspace .entry)) (markedLists recordings (now (table .entry)) start F)) ⌝ }
 {
     match finding {
@@ -59,12 +66,12 @@ fn finding_lists(
                 marks,
                 workspace,
             );
-            Answered::Marked(ones)
+            ListsAnswer::Marked(ones)
         }
         Finding::Refused(refusal, _) => {
             clear_bytes(marks, recordings as usize);
             clear_words(workspace, (4 * recordings) as usize);
-            Answered::Refused(refusal, 0)
+            ListsAnswer::Refused(refusal, 0)
         }
     }
 }
@@ -83,14 +90,16 @@ fn rewriting_lists(
     start: u64,
     marks: &mut [u8],
     workspace: &mut [u64],
-) -> Answered
+) -> ListsAnswer
     requires { ⌜ (labels ≤ 32) × (lists ≤ 16) × (isTable recordings lists (now table) ≡ true)
         × LinkBegins (now table) recordings (now begins) × ListsLent recordings start (now marks) (now workspace)
-        × RowsFit lists (now follow) (now enter) ⌝ }
+        × RowsFit lists (now follow) (now enter)
+        × HoldsJob (now follow) (now enter) (now sizes) (now accepting) labels lists ⌝ }
     ensures { λ r. ⌜ ((J : Job) → WellFormed J
         → JobGiven J (now (follow .entry)) (now (enter .entry)) (now (sizes .entry)) (now (accepting .entry)) labels lists
-        → outcome r (now (marks .exit)) (now (workspace .exit))
-        ≡ listsLeft recordings (now (marks .entry)) (now (workspace .entry)) (markedLists recordings (now (table .entry)) start (find J))) ⌝ }
+        → outcome (listsReply r) (now (marks .exit)) (now (workspace .exit))
+        ≡ listsLeft recordings (now (marks .entry)) (now (workspace .entry))
+        (markedLists recordings (now (table .entry)) start (find J))) ⌝ }
 {
     let mut next: [u16; 4096] = [0; 4096];
     let mut flags: [u8; 256] = [0; 256];
@@ -136,20 +145,21 @@ fn indexed_lists(
     start: u64,
     marks: &mut [u8],
     workspace: &mut [u64],
-) -> Answered
+) -> ListsAnswer
     requires { ⌜ (labels ≤ 32) × (lists ≤ 16) × ListsSized recordings (now marks) (now workspace)
-        × RowsFit lists (now follow) (now enter) × (fine ≡ isTable recordings lists (now table))
+        × RowsFit lists (now follow) (now enter) × HoldsJob (now follow) (now enter) (now sizes) (now accepting) labels lists
+        × (fine ≡ isTable recordings lists (now table))
         × (fine ≡ true → LinkBegins (now table) recordings (now begins)) ⌝ }
     ensures { λ r. ⌜ ((J : Job) → WellFormed J
         → JobGiven J (now (follow .entry)) (now (enter .entry)) (now (sizes .entry)) (now (accepting .entry)) labels lists
-        → outcome r (now (marks .exit)) (now (workspace .exit))
+        → outcome (listsReply r) (now (marks .exit)) (now (workspace .exit))
         ≡ listsLeft recordings (now (marks .entry)) (now (workspace .entry)) (listsJob J recordings (now (table .entry)) start)) ⌝ }
 {
     if !fine {
-        return Answered::Refused(Refusal::BadTable, 0);
+        return ListsAnswer::Refused(Refusal::BadTable, 0);
     }
     if recordings <= start {
-        return Answered::Refused(Refusal::BadStart, 0);
+        return ListsAnswer::Refused(Refusal::BadStart, 0);
     }
     rewriting_lists(
         follow,
@@ -180,12 +190,13 @@ fn job_lists(
     start: u64,
     marks: &mut [u8],
     workspace: &mut [u64],
-) -> Answered
+) -> ListsAnswer
     requires { ⌜ (labels ≤ 32) × (lists ≤ 16) × ListsSized recordings (now marks) (now workspace)
-        × RowsFit lists (now follow) (now enter) ⌝ }
+        × RowsFit lists (now follow) (now enter)
+        × HoldsJob (now follow) (now enter) (now sizes) (now accepting) labels lists ⌝ }
     ensures { λ r. ⌜ ((J : Job) → WellFormed J
         → JobGiven J (now (follow .entry)) (now (enter .entry)) (now (sizes .entry)) (now (accepting .entry)) labels lists
-        → outcome r (now (marks .exit)) (now (workspace .exit))
+        → outcome (listsReply r) (now (marks .exit)) (now (workspace .exit))
         ≡ listsLeft recordings (now (marks .entry)) (now (workspace .entry)) (listsJob J recordings (now (table .entry)) start)) ⌝ }
 {
     if recordings <= 256 {
@@ -236,9 +247,9 @@ fn lists_in(
     start: u64,
     marks: &mut [u8],
     workspace: &mut [u64],
-) -> Answered
+) -> ListsAnswer
     requires { ⌜ HasRows (askedRows (now text)) (now follow) (now enter) × ListsSized recordings (now marks) (now workspace) ⌝ }
-    ensures { λ r. ⌜ outcome r (now (marks .exit)) (now (workspace .exit))
+    ensures { λ r. ⌜ outcome (listsReply r) (now (marks .exit)) (now (workspace .exit))
         ≡ readLists (read (now (text .entry))) recordings (now (table .entry)) start (now (marks .entry)) (now (workspace .entry)) ⌝ }
 {
     let mut names = [0; 96];
@@ -246,7 +257,7 @@ fn lists_in(
     let mut accepting = [0; 17];
     let told = load_rows(text, &mut names, follow, enter, &mut sizes, &mut accepting);
     match told {
-        Answer::Job(labels, lists) => job_lists(
+        ReadAnswer::Job(labels, lists) => job_lists(
             follow,
             enter,
             &sizes,
@@ -259,7 +270,7 @@ fn lists_in(
             marks,
             workspace,
         ),
-        Answer::Refused(refusal, line) => Answered::Refused(refusal, line),
+        ReadAnswer::Refused(refusal, line) => ListsAnswer::Refused(refusal, line),
     }
 }
 
@@ -271,9 +282,9 @@ fn read_lists(
     start: u64,
     marks: &mut [u8],
     workspace: &mut [u64],
-) -> Answered
+) -> ListsAnswer
     requires { ⌜ ListsSized recordings (now marks) (now workspace) ⌝ }
-    ensures { λ r. ⌜ outcome r (now (marks .exit)) (now (workspace .exit))
+    ensures { λ r. ⌜ outcome (listsReply r) (now (marks .exit)) (now (workspace .exit))
         ≡ readLists (read (now (text .entry))) recordings (now (table .entry)) start (now (marks .entry)) (now (workspace .entry)) ⌝ }
 {
     if lists_at_most(text) <= 4 {
@@ -312,21 +323,21 @@ pub fn answer_from_lists(
     start: u64,
     marks: &mut [u8],
     workspace: &mut [u64],
-) -> Answered
-    ensures { λ r. ⌜ outcome r (now (marks .exit)) (now (workspace .exit))
+) -> ListsAnswer
+    ensures { λ r. ⌜ outcome (listsReply r) (now (marks .exit)) (now (workspace .exit))
         ≡ listsAnswer (now (text .entry)) recordings (now (table .entry)) start (now (marks .entry)) (now (workspace .entry)) ⌝ }
 {
     if recordings == 0 {
-        return Answered::Refused(Refusal::BadRecordings, 0);
+        return ListsAnswer::Refused(Refusal::BadRecordings, 0);
     }
     if 4096 < recordings {
-        return Answered::Refused(Refusal::BadRecordings, 0);
+        return ListsAnswer::Refused(Refusal::BadRecordings, 0);
     }
     if (marks.len() as u64) < recordings {
-        return Answered::Refused(Refusal::BufferTooShort, 0);
+        return ListsAnswer::Refused(Refusal::BufferTooShort, 0);
     }
     if (workspace.len() as u64) < 4 * recordings {
-        return Answered::Refused(Refusal::BufferTooShort, 0);
+        return ListsAnswer::Refused(Refusal::BufferTooShort, 0);
     }
     read_lists(text, recordings, table, start, marks, workspace)
 }

@@ -14,14 +14,21 @@ use Rattle.finding.specs.ListImage.{imageTable}
 use Rattle.finding.specs.States.{acceptingStandings}
 use Rattle.finding.specs.Find.{refused, findStates, findAutomata}
 use Rattle.finding.specs.ListRows.{jobTables, Moves}
-use Rattle.finding.specs.Outcome.{left, leftBy, refusedWith, cleared}
+use Rattle.finding.specs.Outcome.{left, leftBy, refusedWith}
+use Rattle.finding.specs.Named.{cleared}
 use Rattle.finding.specs.QueryTold.{Queried, QueryTold}
 use Rattle.finding.specs.StatesPart.{clash, Holding, Room, StatesPart}
 
+-- The tables hold the automata of a query and of lists.
+pub record HoldsJob (follow enter sizes accepting : List ℕ) (labels lists : ℕ) : Type 0 where
+  pub query : Automaton
+  pub listed : List Automaton
+  pub holding : Holding (jobTables [] 0 labels follow enter sizes accepting) query listed lists
+
+-- A and Bs are the automata that the tables hold.
 pub record CoreTold (follow enter sizes accepting : List ℕ) (labels lists mostA mostB : ℕ) (table flags : List ℕ) (r : FindAnswer)
     (table′ flags′ : List ℕ) : Type 0 where
-  pub told : Room labels lists mostB table flags → mostA ≤ 64 → (A : Automaton) (Bs : List Automaton)
-      → Holding (jobTables [] 0 labels follow enter sizes accepting) A Bs lists
+  pub told : (A : Automaton) (Bs : List Automaton) → Holding (jobTables [] 0 labels follow enter sizes accepting) A Bs lists
       → left r table′ flags′ ≡ leftBy (findAutomata A labels Bs mostA mostB) table flags
 
 standings-refused : (A : Automaton) (k : ℕ) (Bs : List Automaton) (mostA mostB : ℕ) → standings A k mostA ≡ over
@@ -35,35 +42,35 @@ unfolding findAutomata
 standings-found A k Bs mostA mostB l e = rw (findAutomata, e)
 
 module _ (follow enter sizes accepting : List ℕ) (labels lists mostA mostB : ℕ) (table flags : List ℕ) (e : Explored) (found moves : List ℕ)
-    (query : QueryTold follow enter sizes labels mostA e found moves) where
+    (query : QueryTold follow enter sizes labels mostA e found moves) (room : Room labels lists mostB table flags) (few : mostA ≤ 64) where
   pub core-over : (r : FindAnswer) (table′ flags′ : List ℕ) → e ≡ Over → (4096 ≤ length table → table′ ≡ cleared 4096 table)
       → (256 ≤ length flags → flags′ ≡ cleared 256 flags) → r ≡ refusedWith TooManyStandings 0
       → CoreTold follow enter sizes accepting labels lists mostA mostB table flags r table′ flags′
   unfolding leftBy
   core-over r table′ flags′ p t f o =
-      record { told = λ room few A Bs h. there room A Bs (query .told (room .labels) few accepting A (h .query)) (standings A labels mostA) refl }
+      record { told = λ A Bs h. there A Bs (query .told (room .labels) few accepting A (h .query)) (standings A labels mostA) refl }
     where
-      there : Room labels lists mostB table flags → (A : Automaton) (Bs : List Automaton) → Queried A labels mostA e found moves
+      there : (A : Automaton) (Bs : List Automaton) → Queried A labels mostA e found moves
           → (s : Exploration ℕ) → standings A labels mostA ≡ s
           → left r table′ flags′ ≡ leftBy (findAutomata A labels Bs mostA mostB) table flags
-      there room A Bs q over s =
+      there A Bs q over s =
           ap (λ u. left u table′ flags′) o
           ∙ (ap₂ (λ u v. left (refusedWith TooManyStandings 0) u v) (t (room .table)) (f (room .flags))
           ∙ ap (λ x. leftBy x table flags) (sym (standings-refused A labels Bs mostA mostB s)))
-      there room A Bs q (all l) s = let c : All (length l) ≡ Over = sym (q .count l s) ∙ p in clash (cc)
+      there A Bs q (all l) s = let c : All (length l) ≡ Over = sym (q .count l s) ∙ p in clash (cc)
 
   pub core-all : (count : ℕ) (r : FindAnswer) (table′ flags′ : List ℕ) → e ≡ All count
       → StatesPart (jobTables moves count labels follow enter sizes accepting) lists mostB found table flags r table′ flags′
       → CoreTold follow enter sizes accepting labels lists mostA mostB table flags r table′ flags′
   core-all count r table′ flags′ p part =
-      record { told = λ room few A Bs h. there room A Bs h (query .told (room .labels) few accepting A (h .query)) (standings A labels mostA) refl }
+      record { told = λ A Bs h. there A Bs h (query .told (room .labels) few accepting A (h .query)) (standings A labels mostA) refl }
     where
-      there : Room labels lists mostB table flags → (A : Automaton) (Bs : List Automaton)
+      there : (A : Automaton) (Bs : List Automaton)
           → Holding (jobTables [] 0 labels follow enter sizes accepting) A Bs lists → Queried A labels mostA e found moves
           → (s : Exploration ℕ) → standings A labels mostA ≡ s
           → left r table′ flags′ ≡ leftBy (findAutomata A labels Bs mostA mostB) table flags
-      there room A Bs h q over s = let c : All count ≡ Over = sym p ∙ q .isOver s in clash (cc)
-      there room A Bs h q (all l) s =
+      there A Bs h q over s = let c : All count ≡ Over = sym p ∙ q .isOver s in clash (cc)
+      there A Bs h q (all l) s =
           let c : All count ≡ All (length l) = sym p ∙ q .count l s in
           let k : count ≡ length l = cc in
           let n : take count found ≡ values l = ap (λ i. take i found) k ∙ q .numbers l s in

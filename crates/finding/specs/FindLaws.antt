@@ -1,4 +1,4 @@
--- Demand 2 (document 01, "Find"): where Find answers, its answer is the greatest rewriting of the job's query; it refuses with 9 exactly
+-- What Find gives (document 01, "Find"): where Find answers, its answer is the greatest rewriting of the job's query; it refuses with 9 exactly
 -- when there are more than 64 standings, with 10 exactly when there are not and there are more than 256 states, and with nothing else.
 -- First for any limits, then for those of document 01.
 use Prim.Native.Nat.{ℕ, suc, _≤_}
@@ -181,7 +181,7 @@ pub find-answers : (J : Job) → WellFormed J → ¬ DistinctStandings (J .query
 unfolding find
 find-answers J formed n m = automata-answers J formed mostStandings mostStates n m
 
--- Demand 2: the table, followed from state 0 by list numbers, ends at flag 1 exactly for the sound words.
-pub demand-2 : (J : Job) (R : Rewriting) → Finds J R → (w : Word) → IsWord J w
+-- The table, followed from state 0 by list numbers, ends at flag 1 exactly for the sound words.
+pub flag-exactly-sound : (J : Job) (R : Rewriting) → Finds J R → (w : Word) → IsWord J w
     → (getD (R .flags) (followed (R .table) 0 w) 0 ≡ 1) ↔ Sound J w
-demand-2 J R f w b = Iff·trans (f .accepted w b) (accepted-exactly-sound J w)
+flag-exactly-sound J R f w b = Iff·trans (f .accepted w b) (accepted-exactly-sound J w)

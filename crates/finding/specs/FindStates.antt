@@ -6,7 +6,8 @@ use mathlib.Core.List.{List, map}
 use mathlib.Core.Logic.{_↔_, _⊎_, inl, inr, Iff·trans}
 use mathlib.Core.Option.{some, none}
 use mathlib.Core.Path.{_≡_, sym, _∙_, ap, subst}
-use lib.ListN.{length, getD}
+use native.Mathlib.Omega.{arith}
+use lib.ListN.{length, getD, length-map}
 use Rattle.theory.specs.Path.{Below, Before}
 use Rattle.theory.specs.PathOrder.{compared, before-transitive}
 use Rattle.theory.specs.Word.{Word}
@@ -25,7 +26,7 @@ use Rattle.finding.specs.Numbers.{length-values, value-at, values-start}
 use Rattle.finding.specs.Numbering.{Numbering}
 use Rattle.finding.specs.ImageTable.{jobImages, length-jobImages}
 use Rattle.finding.specs.StatesLaws.{stateFrom, state-run, jobStates, stateOf, same-state, state-accepts}
-use Rattle.finding.specs.Table.{flag-exactly, getD-flags, followed-state}
+use Rattle.finding.specs.Table.{length-rows, rows-unused, flag-value, flag-exactly, getD-flags, followed-state}
 use Rattle.finding.specs.FirstAccepted.{firstAccepted-some, firstAccepted-none}
 
 -- The answer, of the states l.
@@ -42,6 +43,9 @@ rewriting images m accepting l =
 module _ (J : Job) (formed : WellFormed J) (fits : length (J .lists) ≤ rowWidth) (found : List ℕ)
     (N : Numbering (glushkov (J .query)) (J .labels) found) (l : List (Entry ℕ))
     (x : Explored (jobStates J found) l) where
+  images-fit : length (jobImages J found) ≤ rowWidth
+  images-fit = rw (length-jobImages J found) fits
+
   -- The number at which the table, followed by the word, ends.
   end : Word → ℕ
   end w = followed (rows (jobImages J found) (length found) (values l) (values l)) 0 w
@@ -54,7 +58,7 @@ module _ (J : Job) (formed : WellFormed J) (fits : length (J .lists) ≤ rowWidt
   unfolding end
   ends w b =
       let (h, e) = values-start x in
-      let (g, d) = followed-state (jobImages J found) (length found) l x (rw (length-jobImages J found) fits) 0 w h (over-lists b) in
+      let (g, d) = followed-state (jobImages J found) (length found) l x images-fit 0 w h (over-lists b) in
       (rw (length-values l) at g, sym (value-at x (end w) g) ∙ d ∙ ap (λ X. stateFrom (jobImages J found) (length found) X w) e)
 
   -- A word that leads to the value at a place ends there.
@@ -107,6 +111,13 @@ module _ (J : Job) (formed : WellFormed J) (fits : length (J .lists) ≤ rowWidt
       rw (getD-flags accepting (values l) (end w) g, value-at x (end w) g)
       (Iff·trans (flag-exactly (stateAccepts accepting (valueAt (jobStates J found) l (end w)))) (end-accepts w b))
 
+  flag-values : (s : ℕ) → s < length l
+      → (getD (map (λ X. flag (stateAccepts accepting X)) (values l)) s 0 ≡ 0)
+      ⊎ (getD (map (λ X. flag (stateAccepts accepting X)) (values l)) s 0 ≡ 1)
+  flag-values s h =
+      rw (getD-flags accepting (values l) s (omega (arith, length-values l)))
+      (flag-value (stateAccepts accepting (getD (values l) s 0)))
+
   -- The word of the first accepting state is accepted, and no accepted word comes before it.
   module _ (s : ℕ) (h : s < length l)
       (accepted : stateAccepts accepting (valueAt (jobStates J found) l s) ≡ true)
@@ -145,6 +156,11 @@ module _ (J : Job) (formed : WellFormed J) (fits : length (J .lists) ≤ rowWidt
   states-finds counts =
       record {
         standings = counts;
+        rows = omega (arith, length-rows (jobImages J found) (length found) (values l) images-fit (values l), length-values l);
+        unused = λ s v h k b. rows-unused (jobImages J found) (length found) (values l) images-fit (values l) s v
+            (omega (arith, length-values l)) (rw (length-jobImages J found) k) b;
+        flag-count = length-map (values l) (λ X. flag (stateAccepts accepting X)) ∙ length-values l;
+        flag-value = flag-values;
         within = λ w b. ends w b .0;
         accepted = flag-accepts;
         same = ends-together;

@@ -1,8 +1,8 @@
 -- What Find's answer means (demand 2), against the meaning of standings, states and accepted words in `theory`.
-use Prim.Native.Nat.{ℕ, zero, suc, _+_, _*_, _<_}
+use Prim.Native.Nat.{ℕ, _+_, _*_, _≤_, _<_}
 use mathlib.Core.List.{List, [], _∷_}
 use mathlib.Core.Logic.{_↔_, _⊎_}
-use mathlib.Core.Option.{Option, some, none}
+use mathlib.Core.Option.{some, none}
 use mathlib.Core.Path.{_≡_}
 use lib.ListN.{length, getD}
 use Rattle.theory.specs.Path.{Path, Below, Before}
@@ -37,9 +37,15 @@ unfoldable pub followed : List ℕ → ℕ → Word → ℕ
 followed table s [] = s
 followed table s (v ∷ w) = followed table (getD table (rowWidth * s + v) 0) w
 
--- `Finds J R`: R is the greatest rewriting of the job's query, as document 01 has it.
+-- `Finds J R`: R is the greatest rewriting of the job's query, as document 01 has it. This determines R (FindsUnique).
 pub record Finds (J : Job) (R : Rewriting) : Type 0 where
   pub standings : CountsStandings (J .query) (J .labels) (R .standings)
+  -- each state has a row of the table, of 16 numbers, with zeros behind those of the lists
+  pub rows : length (R .table) ≡ rowWidth * R .states
+  pub unused : (s v : ℕ) → s < R .states → length (J .lists) ≤ v → v < rowWidth → getD (R .table) (rowWidth * s + v) 0 ≡ 0
+  -- each state has a flag, 0 or 1
+  pub flag-count : length (R .flags) ≡ R .states
+  pub flag-value : (s : ℕ) → s < R .states → (getD (R .flags) s 0 ≡ 0) ⊎ (getD (R .flags) s 0 ≡ 1)
   -- a word ends at a state
   pub within : (w : Word) → IsWord J w → followed (R .table) 0 w < R .states
   -- it ends at flag 1 exactly when it is accepted

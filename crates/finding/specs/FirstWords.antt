@@ -2,13 +2,12 @@
 use Prim.Native.Nat.{ℕ, suc, _+_, _-_, _≤_, _<_}
 use mathlib.Core.Bool.{Bool, true, false}
 use mathlib.Core.List.{List, [], _∷_, _++_, map, reverse, reverseAux-eq, append-nil}
-use mathlib.Core.Option.{Option, some, none}
+use mathlib.Core.Option.{some, none}
 use mathlib.Core.Path.{_≡_, refl, sym, ap, ap₂, _∙_}
 use native.Mathlib.Decide.{decLt}
 use native.Mathlib.Omega.{arith}
 use lib.ListN.{length, getD, take, drop, set, replicate, length-set, length-reverse, length-take, length-map, take-append-drop}
 use lib.Seq.{slice, slice-empty, slice-cons, drop-set-lt, take-set-lt, getD-set-same}
-use Rattle.theory.specs.Word.{Word}
 use Rattle.theory.specs.Exploration.{Entry}
 use Rattle.finding.specs.declared.first.FirstWord.{FirstWord}
 use Rattle.finding.specs.Standings.{values, placeFrom, placeOf}
@@ -18,11 +17,7 @@ use Rattle.finding.specs.Find.{flag}
 use Rattle.finding.specs.Numbers.{length-values}
 use Rattle.finding.specs.Filling.{drop-replicate}
 use Rattle.finding.specs.Trailed.{Trailed, trails, length-trails}
-
--- The word as it is told: its symbols, with zeros up to 256.
-unfoldable pub firstWord : Option Word → FirstWord
-firstWord none = record { any = false; length = 0; word = replicate 256 0 }
-firstWord (some w) = record { any = true; length = length w; word = w ++ replicate (256 - length w) 0 }
+use Rattle.finding.specs.WordTold.{firstWord}
 
 -- For the states l with these flags and these trails, r is the first accepted word.
 pub record FirstTold (flags : List ℕ) (count : ℕ) (parents symbols : List ℕ) (r : FirstWord) : Type 0 where

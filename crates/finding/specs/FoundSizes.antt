@@ -25,7 +25,7 @@ use Rattle.finding.specs.Find.{Rewriting, found, flag, find, findAutomat
 use Rattle.finding.specs.FindStates.{rewriting}
 use Rattle.finding.specs.FindLaws.{Course, course, standings-exceeded, states-exceeded, answered}
 use Rattle.finding.specs.Numbers.{length-values}
-use Rattle.finding.specs.Padded.{length-rows}
+use Rattle.finding.specs.Table.{length-rows}
 
 -- The sizes of a rewriting in terms of so many lists, within the limits.
 pub record Sizes (lists mostA mostB : ℕ) (R : Rewriting) : Type 0 where

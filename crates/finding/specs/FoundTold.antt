@@ -13,9 +13,10 @@ use Rattle.finding.specs.Standings.{values}
 use Rattle.finding.specs.States.{acceptingStandings, stateAccepts, firstAccepted}
 use Rattle.finding.specs.Find.{flag}
 use Rattle.finding.specs.Trailed.{Trailed, trails}
-use Rattle.finding.specs.FirstWords.{firstWord, FirstTold}
+use Rattle.finding.specs.WordTold.{firstWord}
+use Rattle.finding.specs.FirstWords.{FirstTold}
 use Rattle.finding.specs.Padded.{states-flags, flags-front}
-use Rattle.finding.specs.Outcome.{cleared}
+use Rattle.finding.specs.Named.{cleared}
 
 cleared-length : (n : ℕ) (lent : List ℕ) → n ≤ length lent → length (cleared n lent) ≡ length lent
 cleared-length n lent h = simp (length-append, length-replicate, length-drop) (omega arith)

@@ -4,6 +4,9 @@ pub mod ListImage
 pub mod States
 pub mod Find
 pub mod Finds
+pub mod WordTold
+pub mod Named
+pub mod Rewritten
 pub mod Plain
 -- The laws of standings, images, states and the table.
 pub mod Numbers
@@ -17,6 +20,8 @@ pub mod Table
 pub mod FirstAccepted
 pub mod FindStates
 pub mod FindLaws
+pub mod RewrittenLaws
+pub mod FindsUnique
 -- What the code keeps and promises.
 pub mod Cleared
 pub mod StandingBelow
@@ -30,6 +35,7 @@ pub mod MoveTable
 pub mod Exploring
 pub mod StandingsExploring
 pub mod StandingsTold
+pub mod Count
 pub mod ImageSearch
 pub mod Sources
 pub mod SourcesLaws
@@ -56,6 +62,7 @@ pub mod RowsFit
 pub mod ListRows
 pub mod Outcome
 pub mod WrittenLaws
+pub mod FindCourse
 pub mod QueryTold
 pub mod FoundTold
 pub mod StatesPart

@@ -1,8 +1,8 @@
 -- Lent memory whose first part was cleared and then written: what was written, with zeros up to the part's end, and behind it what was
 -- there. For flags and for the table of the states.
-use Prim.Native.Nat.{ℕ, zero, suc, _+_, _-_, _*_, _/_, _%_, _≤_, _<_}
-use mathlib.Core.List.{List, [], _∷_, _++_, map, append-assoc}
-use mathlib.Core.Path.{_≡_, refl, sym, ap, ap₂, _∙_}
+use Prim.Native.Nat.{ℕ, _+_, _-_, _*_, _/_, _%_, _≤_, _<_}
+use mathlib.Core.List.{List, _++_, map, append-assoc}
+use mathlib.Core.Path.{_≡_, sym, ap, ap₂, _∙_}
 use native.Mathlib.Decide.{decLt}
 use native.Mathlib.Omega.{arith}
 use lib.ListN.{length, getD, take, drop, replicate, length-append, length-take, length-replicate, getD-replicate}
@@ -10,10 +10,11 @@ use lib.ListN.{List·getD-append, take-append-drop, length-map}
 use lib.Seq.{drop-append-le, drop-at, take-at, getD-take, getD-append-add, ext-getD}
 use Rattle.theory.specs.Exploration.{Entry, all}
 use Rattle.finding.specs.declared.standings.Explored.{Explored}
-use Rattle.finding.specs.Standings.{values, placeOf}
-use Rattle.finding.specs.States.{stateStep, states, stateAccepts}
-use Rattle.finding.specs.Find.{row, rows, flag}
+use Rattle.finding.specs.Standings.{values}
+use Rattle.finding.specs.States.{states, stateAccepts}
+use Rattle.finding.specs.Find.{rows, flag}
 use Rattle.finding.specs.Numbers.{length-values}
+use Rattle.finding.specs.Table.{length-rows, rows-used, rows-unused}
 use Rattle.finding.specs.ImageRows.{imageRows, length-imageRows}
 use Rattle.finding.specs.Filling.{drop-replicate}
 use Rattle.finding.specs.StatesTold.{StatesStored, StatesTold}
@@ -33,70 +34,6 @@ cleared-front n m xs d h =
     ap (λ t. xs ++ t)
     (drop-append-le n (replicate m 0) (drop m d) (omega (arith, length-replicate {A = ℕ} m 0)) ∙ ap (λ t. t ++ drop m d) (drop-replicate n m 0))
     ∙ sym (append-assoc xs (replicate (m - n) 0) (drop m d))
-
--- The rows of the table, each 16 wide.
-
-module _ (images : List (List ℕ)) (m : ℕ) (found : List ℕ) (wide : length images ≤ 16) where
-  length-row : (X n v : ℕ) → length (row images m found X n v) ≡ n
-  unfolding row
-  length-row X zero v = refl
-  length-row X (suc n) v = ap suc (length-row X n (suc v))
-
-  row-at : (X n v i : ℕ) → i < n → getD (row images m found X n v) i 0 ≡ placeOf (stateStep images m X (v + i)) found
-  unfolding row
-  row-at X zero v i h = absurd (omega arith)
-  row-at X (suc n) v zero h = let e : v ≡ v + 0 = omega arith in ap (λ k. placeOf (stateStep images m X k) found) e
-  row-at X (suc n) v (suc i) h =
-      let e : suc v + i ≡ v + suc i = omega arith in
-      row-at X n (suc v) i (omega arith) ∙ ap (λ k. placeOf (stateStep images m X k) found) e
-
-  full : ℕ → List ℕ
-  full X = row images m found X (length images) 0 ++ replicate (16 - length images) 0
-
-  length-full : (X : ℕ) → length (full X) ≡ 16
-  unfolding full
-  length-full X =
-      omega (
-        arith,
-        length-append (row images m found X (length images) 0) (replicate (16 - length images) 0),
-        length-row X (length images) 0,
-        length-replicate {A = ℕ} (16 - length images) 0,
-      )
-
-  rows-next : (X : ℕ) (l : List ℕ) → rows images m found (X ∷ l) ≡ full X ++ rows images m found l
-  unfolding rows full
-  rows-next X l = sym (append-assoc (row images m found X (length images) 0) (replicate (16 - length images) 0) (rows images m found l))
-
-  pub length-rows : (l : List ℕ) → length (rows images m found l) ≡ 16 * length l
-  unfolding rows
-  length-rows [] = refl
-  length-rows (X ∷ l) = omega (arith, ap length (rows-next X l), length-append (full X) (rows images m found l), length-full X, length-rows l)
-
-  full-used : (X v : ℕ) → v < length images → getD (full X) v 0 ≡ placeOf (stateStep images m X v) found
-  unfolding full
-  full-used X v h =
-      let e : 0 + v ≡ v = omega arith in
-      List·getD-append (row images m found X (length images) 0) (replicate (16 - length images) 0) 0 v
-      (omega (arith, length-row X (length images) 0))
-      ∙ (row-at X (length images) 0 v h ∙ ap (λ k. placeOf (stateStep images m X k) found) e)
-
-  full-unused : (X v : ℕ) → length images ≤ v → v < 16 → getD (full X) v 0 ≡ 0
-  unfolding full
-  full-unused X v h l =
-      let e : v ≡ length (row images m found X (length images) 0) + (v - length images) = omega (arith, length-row X (length images) 0) in
-      ap (λ k. getD (full X) k 0) e
-      ∙ (getD-append-add (row images m found X (length images) 0) (replicate (16 - length images) 0) (v - length images) 0
-      ∙ getD-replicate (16 - length images) (v - length images) 0 0 (omega arith))
-
-  rows-at : (l : List ℕ) (s v : ℕ) → s < length l → v < 16 → getD (rows images m found l) (16 * s + v) 0 ≡ getD (full (getD l s 0)) v 0
-  rows-at [] s v h k = absurd (omega arith)
-  rows-at (X ∷ l) zero v h k =
-      let e : 16 * 0 + v ≡ v = omega arith in
-      ap₂ (λ t i. getD t i 0) (rows-next X l) e ∙ List·getD-append (full X) (rows images m found l) 0 v (omega (arith, length-full X))
-  rows-at (X ∷ l) (suc s) v h k =
-      let e : 16 * suc s + v ≡ length (full X) + (16 * s + v) = omega (arith, length-full X) in
-      ap₂ (λ t i. getD t i 0) (rows-next X l) e
-      ∙ (getD-append-add (full X) (rows images m found l) (16 * s + v) 0 ∙ rows-at l s v (omega arith) k)
 
 -- The table of stored states, where its first 4,096 numbers were zeros.
 module _ (images : List (List ℕ)) (m lists : ℕ) (before : List ℕ) (l : List (Entry ℕ)) (r : Explored) (found parents symbols table : List ℕ)
@@ -119,11 +56,10 @@ module _ (images : List (List ℕ)) (m lists : ℕ) (before : List ℕ) (l : Lis
   used-places : length (rows images m (values l) (values l)) ≡ 16 * length l
   used-places = omega (arith, length-rows images m (values l) wide (values l), length-values l)
 
-  named-used : (s v : ℕ) → s < length l → v < 16 → getD named (16 * s + v) 0 ≡ getD (full images m (values l) wide (getD (values l) s 0)) v 0
+  named-used : (s v : ℕ) → s < length l → v < 16 → getD named (16 * s + v) 0 ≡ getD (rows images m (values l) (values l)) (16 * s + v) 0
   unfolding named
   named-used s v h k =
       List·getD-append (rows images m (values l) (values l)) (replicate (4096 - 16 * length l) 0) 0 (16 * s + v) (omega (arith, used-places))
-      ∙ rows-at images m (values l) wide (values l) s v (omega (arith, length-values l)) k
 
   named-unused : (p : ℕ) → 16 * length l ≤ p → p < 4096 → getD named p 0 ≡ 0
   unfolding named
@@ -139,12 +75,12 @@ module _ (images : List (List ℕ)) (m lists : ℕ) (before : List ℕ) (l : Lis
     same p s v e k h (yes a) (yes b) =
         ap (λ q. getD table q 0) e
         ∙ (stored .moved s v a (omega arith)
-        ∙ (sym (full-used images m (values l) wide (getD (values l) s 0) v b)
+        ∙ (sym (rows-used images m (values l) wide (values l) s v (omega (arith, length-values l)) b)
         ∙ (sym (named-used s v a k) ∙ ap (λ q. getD named q 0) (sym e))))
     same p s v e k h (yes a) (no b) =
         stored .elsewhere p (λ t u c d f. omega arith)
         ∙ (zeros p h
-        ∙ (sym (full-unused images m (values l) wide (getD (values l) s 0) v (omega arith) k)
+        ∙ (sym (rows-unused images m (values l) wide (values l) s v (omega (arith, length-values l)) (omega arith) k)
         ∙ (sym (named-used s v a k) ∙ ap (λ q. getD named q 0) (sym e))))
     same p s v e k h (no a) b =
         stored .elsewhere p (λ t u c d f. omega arith) ∙ (zeros p h ∙ sym (named-unused p (omega arith) h))

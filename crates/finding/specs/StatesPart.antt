@@ -19,8 +19,10 @@ use Rattle.finding.specs.Numbers.{length-values}
 use Rattle.finding.specs.ImageRows.{imageRows, length-imageRows}
 use Rattle.finding.specs.ListRows.{JobTables, Moves, Has, ImagesOf}
 use Rattle.finding.specs.StatesTold.{StatesTold}
-use Rattle.finding.specs.Padded.{length-rows, states-table, cleared-behind}
-use Rattle.finding.specs.Outcome.{left, leftBy, refusedWith, cleared}
+use Rattle.finding.specs.Padded.{states-table, cleared-behind}
+use Rattle.finding.specs.Table.{length-rows}
+use Rattle.finding.specs.Outcome.{left, leftBy, refusedWith}
+use Rattle.finding.specs.Named.{cleared}
 use Rattle.finding.specs.FoundTold.{foundWith, Reached, FoundTold}
 
 pub clash : {A : Type 0} → _≡_ {A = ℕ} 0 1 → A

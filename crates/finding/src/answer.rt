@@ -17,7 +17,7 @@ pub struct FindAnswer {
     pub first: FirstWord,
 }
 
-pub fn refused(refusal: Refusal, line: u64) -> FindAnswer
+pub(crate) fn refused(refusal: Refusal, line: u64) -> FindAnswer
     ensures { λ r. ⌜ r ≡ refusedWith refusal line ⌝ }
 {
     let first = no_word();

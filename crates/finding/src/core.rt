@@ -19,8 +19,8 @@ ghost use Rattle.finding.specs.RowsFit.{RowsFit};
 ghost use Rattle.finding.specs.ListRows.{jobTables};
 ghost use Rattle.finding.specs.QueryTold.{QueryTold};
 ghost use Rattle.finding.specs.FoundTold.{FoundTold};
-ghost use Rattle.finding.specs.StatesPart.{StatesPart};
-ghost use Rattle.finding.specs.CoreTold.{CoreTold};
+ghost use Rattle.finding.specs.StatesPart.{Room, StatesPart};
+ghost use Rattle.finding.specs.CoreTold.{HoldsJob, CoreTold};
 
 // The standings of the query, whose automaton is number 0.
 fn query_standings(
@@ -260,7 +260,14 @@ pub fn find_rows(
     table: &mut [u16],
     marks: &mut [u8],
 ) -> FindAnswer
+    // The tables that reading filled have a row for the query and for each list.
     requires { ⌜ RowsFit lists (now follow) (now enter) ⌝ }
+    // Reading refuses more labels and lists, there is room for 256 states, and the callers lend the named parts.
+    requires { ⌜ Room labels lists «most_states» (now table) (now marks) ⌝ }
+    // There is room for 64 standings.
+    requires { ⌜ «most_standings» ≤ 64 ⌝ }
+    // The job in memory is what reading left there.
+    requires { ⌜ HoldsJob (now follow) (now enter) (now sizes) (now accepting) labels lists ⌝ }
     ensures { λ r. ⌜ CoreTold (now (follow .entry)) (now (enter .entry)) (now (sizes .entry)) (now (accepting .entry)) labels lists
         «most_standings» «most_states» (now (table .entry)) (now (marks .entry)) r (now (table .exit)) (now (marks .exit)) ⌝ }
 {
@@ -296,34 +303,4 @@ pub fn find_rows(
             refused(Refusal::TooManyStandings, 0)
         }
     }
-}
-
-// The same on tables of 17 rows.
-pub fn find_core(
-    labels: u64,
-    lists: u64,
-    follow: &[u64; 1088],
-    enter: &[u64; 544],
-    sizes: &[u64; 17],
-    accepting: &[u64; 17],
-    most_standings: u64,
-    most_states: u64,
-    table: &mut [u16],
-    marks: &mut [u8],
-) -> FindAnswer
-    ensures { λ r. ⌜ CoreTold (now (follow .entry)) (now (enter .entry)) (now (sizes .entry)) (now (accepting .entry)) labels lists
-        «most_standings» «most_states» (now (table .entry)) (now (marks .entry)) r (now (table .exit)) (now (marks .exit)) ⌝ }
-{
-    find_rows(
-        labels,
-        lists,
-        follow,
-        enter,
-        sizes,
-        accepting,
-        most_standings,
-        most_states,
-        table,
-        marks,
-    )
 }

@@ -5,7 +5,8 @@ ghost use mathlib.Core.Option.{none};
 ghost use Prim.Native.Nat.{_≤_, _<_};
 ghost use lib.ListN.{length};
 ghost use Rattle.finding.specs.Standings.{placeOf};
-ghost use Rattle.finding.specs.FirstWords.{firstWord, TrailLength, Spelled, FirstTold};
+ghost use Rattle.finding.specs.WordTold.{firstWord};
+ghost use Rattle.finding.specs.FirstWords.{TrailLength, Spelled, FirstTold};
 
 // Its symbols, with zeros behind them. `any` is false where no word is accepted.
 pub struct FirstWord {
@@ -61,7 +62,7 @@ fn spell(parents: &[u8; 256], symbols: &[u8; 256], state: usize, size: usize, wo
 }
 
 // No word is accepted.
-pub fn no_word() -> FirstWord
+pub(crate) fn no_word() -> FirstWord
     ensures { λ r. ⌜ r ≡ firstWord none ⌝ }
 {
     FirstWord {
@@ -71,7 +72,7 @@ pub fn no_word() -> FirstWord
     }
 }
 
-pub fn first(flags: &[u8], count: u64, parents: &[u8; 256], symbols: &[u8; 256]) -> FirstWord
+pub(crate) fn first(flags: &[u8], count: u64, parents: &[u8; 256], symbols: &[u8; 256]) -> FirstWord
     ensures { λ r. ⌜ FirstTold (now (flags .entry)) count (now (parents .entry)) (now (symbols .entry)) r ⌝ }
 {
     let n = count as usize;

@@ -29,7 +29,7 @@ pub fn accepting_standings(found: &[u64], count: u64, accepting: Places) -> u64
 }
 
 // A state accepts when all its standings do.
-pub fn state_accepts(accepting: u64, state: u64) -> bool
+fn state_accepts(accepting: u64, state: u64) -> bool
     ensures { λ r. ⌜ r ≡ stateAccepts accepting state ⌝ }
 {
     state & accepting == state

@@ -2,7 +2,7 @@
 use crate::answer::FindAnswer;
 use crate::answer::refused;
 use crate::core::find_rows;
-use reading::Answer;
+use reading::ReadAnswer;
 use reading::lists_at_most;
 use reading::load_rows;
 use syntax::Refusal;
@@ -10,8 +10,8 @@ ghost use mathlib.Core.Path.{_≡_};
 ghost use Prim.Native.Nat.{_≤_};
 ghost use lib.ListN.{length};
 ghost use Rattle.reading.specs.RowRoom.{askedRows, HasRows};
-ghost use Rattle.finding.specs.Outcome.{left};
-ghost use Rattle.finding.specs.Operation.{outcome};
+ghost use Rattle.finding.specs.Outcome.{left, told};
+ghost use Rattle.finding.specs.Operation.{leaving, outcome};
 
 // Find in lent tables that have rows for the job.
 fn find_in(
@@ -23,15 +23,15 @@ fn find_in(
 ) -> FindAnswer
     requires { ⌜ HasRows (askedRows (now text)) (now follow) (now enter) × (4096 ≤ length (now table)) × (256 ≤ length (now marks)) ⌝ }
     ensures { λ r. ⌜ left r (now (table .exit)) (now (marks .exit))
-        ≡ outcome (now (text .entry)) (now (table .entry)) (now (marks .entry)) ⌝ }
+        ≡ leaving (now (text .entry)) (now (table .entry)) (now (marks .entry)) ⌝ }
 {
     let mut names = [0; 96];
     let mut sizes = [0; 17];
     let mut accepting = [0; 17];
     let told = load_rows(text, &mut names, follow, enter, &mut sizes, &mut accepting);
     match told {
-        Answer::Refused(r, n) => refused(r, n),
-        Answer::Job(labels, lists) => find_rows(
+        ReadAnswer::Refused(r, n) => refused(r, n),
+        ReadAnswer::Job(labels, lists) => find_rows(
             labels,
             lists,
             follow,
@@ -49,7 +49,7 @@ fn find_in(
 // The table gets 4,096 numbers and the flags 256 bytes; what lies beyond stays. To zero tables for 16 lists takes longer than to find the
 // states of a small job, so that a text of few lists has smaller ones.
 pub fn find(text: &[u8], table: &mut [u16], marks: &mut [u8]) -> FindAnswer
-    ensures { λ r. ⌜ left r (now (table .exit)) (now (marks .exit))
+    ensures { λ r. ⌜ told (left r (now (table .exit)) (now (marks .exit)))
         ≡ outcome (now (text .entry)) (now (table .entry)) (now (marks .entry)) ⌝ }
 {
     if table.len() < 4096 {

@@ -1,9 +1,11 @@
 // The query's standings (document 01, "Standing"), by exploration over the labels, and where each label leads from each of them.
 ghost use Prim.Native.Nat.{_*_, _≤_, _<_};
+ghost use mathlib.Core.Path.{_≡_};
 ghost use lib.ListN.{length};
 ghost use Rattle.finding.specs.NumberIndex.{Indexed, IndexedAll};
 ghost use Rattle.finding.specs.StandingsExploring.{standingTask, Room, RowTold, SweepTold};
 ghost use Rattle.finding.specs.StandingsTold.{StandingsTold};
+ghost use Rattle.finding.specs.Count.{countStandings};
 use crate::index::bucket;
 use crate::index::find_place;
 use crate::index::note;
@@ -101,9 +103,9 @@ fn sweep(
     Explored::All(n as u64)
 }
 
-// All standings over the labels, at most `limit` of them: `found` holds them in their order, and `moves` at 32 × standing + label the number
-// of the standing that the label leads to. There is room for 64 standings and 32 labels.
-pub fn standings(
+// All standings over the labels, at most `limit` of them: `found` holds them in their order, and `moves` at 32 × standing + label the
+// number of the standing that the label leads to. There is room for 64 standings and 32 labels.
+pub(crate) fn standings(
     follow: &[u64],
     enter: &[u64],
     labels: u64,
@@ -113,10 +115,8 @@ pub fn standings(
 ) -> Explored
     ensures { λ r. ⌜ (labels ≤ 32 → labels ≤ length (now (enter .entry)) → limit ≤ 64
         → StandingsTold (now (follow .entry)) (now (enter .entry)) labels limit r (now (found .exit)) (now (moves .exit))) ⌝ }
+    ensures counted { λ r. ⌜ r ≡ countStandings (now (follow .entry)) (now (enter .entry)) labels limit ⌝ }
 {
-    if limit == 0 {
-        return Explored::Over;
-    }
     if limit > 64 {
         return Explored::Over;
     }
@@ -124,6 +124,9 @@ pub fn standings(
         return Explored::Over;
     }
     if labels as usize > enter.len() {
+        return Explored::Over;
+    }
+    if limit == 0 {
         return Explored::Over;
     }
     sweep(follow, enter, labels as usize, limit as usize, found, moves)

@@ -1,13 +1,12 @@
 // Where the places of a standing lead. Only the follow sets of the places that the standing holds are read.
 ghost use mathlib.Core.Path.{_≡_};
 ghost use Prim.Native.Nat.{_%_, _^_};
-ghost use Rattle.theory.specs.Places.{intersection};
 ghost use Rattle.theory.specs.Automaton.{nexts};
 use places::Places;
 use places::joined::join;
 
 // The places of a standing below n.
-pub fn below(standing: u64, n: usize) -> u64
+pub(crate) fn below(standing: u64, n: usize) -> u64
     ensures { λ r. ⌜ r ≡ standing % 2 ^ n ⌝ }
 {
     if n >= 64 {
@@ -21,12 +20,4 @@ pub fn follows(follow: &[u64], standing: Places) -> Places
     ensures { λ r. ⌜ r .0 ≡ nexts (standing .0) (now (follow .entry)) ⌝ }
 {
     Places(join(follow, 0, 1, below(standing.0, follow.len())))
-}
-
-// The step of a standing over a label.
-pub fn step(follow: &[u64], enter: Places, standing: Places) -> Places
-    ensures { λ r. ⌜ r .0 ≡ intersection (nexts (standing .0) (now (follow .entry))) (enter .0) ⌝ }
-{
-    let next = follows(follow, standing);
-    Places(next.0 & enter.0)
 }

@@ -1,29 +1,32 @@
--- What Keep leaves for a text and a lent output (document 01, "Keep"), in all cases. Where the output is long enough and the text is a job's,
--- its named part is written; nothing behind the named part changes.
-use Prim.Native.Nat.{ℕ, _-_, _≤_}
+-- What Keep leaves for a text and a lent output (document 01, "Keep"), in all cases. Where the output is long enough and the text is a
+-- job's, its named part is written; nothing behind the named part changes.
+use Prim.Native.Nat.{_-_}
 use mathlib.Core.Bool.{true, false}
-use mathlib.Core.List.{List, _++_}
-use mathlib.Core.Path.{_≡_}
+use mathlib.Core.List.{List, [], _∷_, _++_}
 use lib.Dec.{ltb}
 use lib.ListN.{length, drop, replicate}
 use Rattle.syntax.specs.Byte.{Bytes}
+use Rattle.syntax.specs.Reply.{Reply, given, refusing}
 use Rattle.syntax.specs.declared.refusal.Refusal.the-variants.{BufferTooShort}
-use Rattle.reading.specs.declared.answer.Answer.the-variants.{Job as Jobs}
 use Rattle.reading.specs.JobText.{jobOf}
 use Rattle.reading.specs.Read.{Reading, job, refused, read}
-use Rattle.reading.specs.Tables.{Tables}
-use Rattle.reading.specs.Loading.{Loaded}
 use Rattle.finding.specs.Find.{Found, found, find, refused as unfound}
-use Rattle.keeping.specs.declared.operation.Keeping.{Keeping}
-use Rattle.keeping.specs.declared.operation.Keeping.the-variants.{Kept, Refused}
+use Rattle.keeping.specs.declared.operation.KeepAnswer.{KeepAnswer}
+use Rattle.keeping.specs.declared.operation.KeepAnswer.the-variants.{Kept, Refused}
 use Rattle.keeping.specs.Kept.{keptLength, kept}
 
+-- The reply that an answer is: the length of what is kept.
+abbrev pub keepReply : KeepAnswer → Reply
+keepReply (Kept size) = given (size ∷ [])
+keepReply (Refused r n) = refusing r n
+
+-- What is told, and what the lent output holds.
 pub record Outcome : Type 0 where
-  pub answer : Keeping
+  pub reply : Reply
   pub out : Bytes
 
-abbrev pub left : Keeping → Bytes → Outcome
-left answer out = record { answer = answer; out = out }
+abbrev pub left : KeepAnswer → Bytes → Outcome
+left answer out = record { reply = keepReply answer; out = out }
 
 -- The named part is these bytes, and zeros behind them.
 abbrev pub written : Bytes → Bytes → Bytes
@@ -49,7 +52,3 @@ outcome text out =
       | true ↦ left (Refused BufferTooShort 0) out
       | false ↦ leftByReading (read text) out
     ]
-
--- What the code promises on tables: where they are those of the text, and the output is long enough, it leaves what the reading gives.
-pub record JobTold (text : Bytes) (T : Tables) (labels lists : ℕ) (before : Bytes) (r : Keeping) (after : Bytes) : Type 0 where
-  pub told : keptLength ≤ length before → Loaded text (Jobs labels lists) T → left r after ≡ leftByReading (read text) before

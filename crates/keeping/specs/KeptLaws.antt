@@ -38,7 +38,7 @@ keptNames-length (n ∷ t) h =
     let r : length (keptNames t) ≤ 17 * length t = keptNames-length t (short-rest n t h) in
     omega (arith, length-append n (keptNames t))
 
-keptNexts-length : (table : List ℕ) (s n v : ℕ) → length (keptNexts table s n v) ≡ 2 * n
+pub keptNexts-length : (table : List ℕ) (s n v : ℕ) → length (keptNexts table s n v) ≡ 2 * n
 unfolding keptNexts
 keptNexts-length table s zero v = refl
 keptNexts-length table s (suc n) v = omega (arith, keptNexts-length table s n (suc v))
@@ -82,7 +82,7 @@ kept-agree names R S e agree = rw (states-agree R S (length names) (R .states) a
 -- The kept bytes piece by piece: what is written for a list or a state is the first of what is left from there on, and from the last one on
 -- nothing is left.
 module _ (table : List ℕ) (s k v : ℕ) where
-  nexts-from : v < k
+  pub nexts-from : v < k
       → keptNexts table s (k - v) v ≡ twoBytes (getD table (rowWidth * s + v) 0) ++ keptNexts table s (k - (v + 1)) (v + 1)
   unfolding keptNexts
   nexts-from h = let e : k - v ≡ suc (k - (v + 1)) = omega arith in rw (e, keptNexts, add-one)
@@ -96,7 +96,7 @@ module _ (table : List ℕ) (s k v : ℕ) where
   nexts-end h = let e : k - v ≡ 0 = omega arith in rw e
 
 module _ (R : Rewriting) (k n s : ℕ) where
-  states-from : s < n
+  pub states-from : s < n
       → keptStates R k (n - s) s ≡ (getD (R .flags) s 0 ∷ keptNexts (R .table) s k 0) ++ keptStates R k (n - (s + 1)) (s + 1)
   unfolding keptStates
   states-from h = let e : n - s ≡ suc (n - (s + 1)) = omega arith in rw (e, keptStates, add-one)

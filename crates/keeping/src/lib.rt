@@ -5,7 +5,5 @@ mod put;
 mod states;
 mod writer;
 
-pub use operation::Keeping;
+pub use operation::KeepAnswer;
 pub use operation::keep;
-pub use writer::clear;
-pub use writer::write;

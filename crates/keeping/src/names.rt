@@ -8,7 +8,7 @@ ghost use Rattle.output.specs.Put.{writing, puts};
 ghost use Rattle.keeping.specs.Write.{oneName, nameBytes};
 
 // A length byte and the name; a name of a job has at most 16 bytes.
-pub fn put_name(out: &mut [u8], at: usize, name: &[u8]) -> usize
+fn put_name(out: &mut [u8], at: usize, name: &[u8]) -> usize
     ensures { λ r. ⌜ writing (now (out .exit)) r ≡ puts (writing (now (out .entry)) at) (oneName (now (name .entry))) ⌝ }
 {
     let next = put(out, at, (name.len() % 256) as u8);

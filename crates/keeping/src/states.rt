@@ -8,7 +8,7 @@ ghost use Rattle.keeping.specs.Kept.{keptNexts, keptStates};
 ghost use Rattle.output.specs.Put.{writing, puts};
 ghost use Rattle.keeping.specs.Write.{lent};
 
-pub fn put_nexts(table: &[u16], state: u16, lists: u8, out: &mut [u8], at: usize) -> usize
+fn put_nexts(table: &[u16], state: u16, lists: u8, out: &mut [u8], at: usize) -> usize
     ensures { λ r. ⌜ writing (now (out .exit)) r ≡ puts (writing (now (out .entry)) at)
         (keptNexts (now (table .entry)) state lists 0) ⌝ }
 {

@@ -11,6 +11,9 @@ use Rattle.syntax.specs.Byte.{Bytes}
 pub data Claim : Type 0 where
   standings : ℕ → Claim
   states : ℕ → Claim
+  -- the same with a greater limit, which comes first, where 64 or 256 is exceeded
+  standings-within : ℕ → ℕ → Claim
+  states-within : ℕ → ℕ → Claim
   -- the next states of each state in list order, row after row
   next-states : List ℕ → Claim
   flags : List ℕ → Claim

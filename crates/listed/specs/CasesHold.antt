@@ -1,7 +1,7 @@
 -- The cases P1 to P8 hold of the definitions (T10): computed by the prover from the texts' bytes.
 use Prim.Native.Nat.{ℕ, zero, suc}
 use mathlib.Core.Bool.{Bool, true, false}
-use mathlib.Core.List.{List, [], _∷_, _++_}
+use mathlib.Core.List.{List, [], _∷_, _++_, map}
 use mathlib.Core.Option.{Option, some, none}
 use mathlib.Core.Path.{_≡_, refl}
 use lib.ListN.{length, take, drop}
@@ -29,13 +29,29 @@ use Rattle.verdict.specs.Pairs
 use Rattle.verdict.specs.Verdict
 use Rattle.verdict.specs.VerdictJob.{verdictJob}
 use Rattle.answering.specs.Table
+use Rattle.answering.specs.Marked
 use Rattle.answering.specs.Product
 use Rattle.answering.specs.AnswerJob
-use Rattle.listed.specs.Cases.{Claim, standings, states, next-states, flags, first, complete, missed, pairs, refused, links, lists, Case, cases}
+use Rattle.listed.specs.Cases.{Claim, standings, states, standings-within, states-within, next-states, flags, first}
+use Rattle.listed.specs.Cases.{complete, missed, pairs, refused, links, lists, Case, cases}
 
 -- A part of what Find gives.
+abbrev part : {A : Type 0} → (Find.Rewriting → A) → Find.Found → Option A
+part f (Find.found R) = some (f R)
+part f (Find.Found.refused r) = none
+
 abbrev told : {A : Type 0} → (Find.Rewriting → A) → Job → Option A
-told f J = elim (Find.find J) [ Find.found R ↦ some (f R) | Find.Found.refused r ↦ none ]
+told f J = part f (Find.find J)
+
+-- What Find gives with another limit of states.
+abbrev findWithin : Job → ℕ → Find.Found
+findWithin J most =
+    Find.findAutomata (Automaton.glushkov (J .query)) (J .labels) (map Automaton.glushkov (J .lists)) Find.mostStandings most
+
+-- How many values an exploration finds.
+abbrev counted : {A : Type 0} → Exploration.Exploration A → Option ℕ
+counted (Exploration.all l) = some (length l)
+counted Exploration.over = none
 
 -- The first n numbers of each row of 16, m rows.
 abbrev rowsOf : ℕ → ℕ → List ℕ → List ℕ
@@ -66,6 +82,8 @@ refusalOf (Verdict.refused r) = number r
 abbrev pub Holds : Job → Claim → Type 0
 Holds J (standings n) = told (λ R. R .standings) J ≡ some n
 Holds J (states n) = told (λ R. R .states) J ≡ some n
+Holds J (standings-within m n) = counted (Standings.standings (Automaton.glushkov (J .query)) (J .labels) m) ≡ some n
+Holds J (states-within m n) = part (λ R. R .states) (findWithin J m) ≡ some n
 Holds J (next-states l) = told (λ R. rowsOf (length (J .lists)) (R .states) (R .table)) J ≡ some l
 Holds J (flags l) = told (λ R. R .flags) J ≡ some l
 Holds J (first w) = told (λ R. R .first) J ≡ some w
@@ -90,7 +108,7 @@ CasesHold [] = Unit {0}
 CasesHold (c ∷ l) = ReadHolds (Read.read (c .text)) (c .claims) × CasesHold l
 
 pub cases-hold : CasesHold cases
-unfolding Places.collect Places.unionOver Automaton.nullable Automaton.first Automaton.last Automaton.link Automaton.follows Automaton.labelled Automaton.glushkov Automaton.nexts Automaton.step Automaton.standingFrom Automaton.standing Automaton.accepts Exploration.run Exploration.known Exploration.grow Exploration.extend Exploration.row Exploration.sweep Exploration.explore Closure.closure Byte.kind Name.nameBytes Name.isName Name.sameName Name.find Parser.run Parser.pastRun Parser.pastMark Parser.suffixes Parser.named Parser.suffixed Parser.closed Parser.joined Parser.parse Parser.alternatives Limits.balance Limits.nesting Limits.leaves Limits.runs Resolve.numbered Resolve.known Resolve.namesAt Check.checkTree Check.check Read.cutAt Read.after Read.fresh Read.givenLabel Read.givenQuery Read.givenList Read.early Read.late Read.given Read.ended Read.readLines Read.read Standings.standings Standings.values Standings.placeFrom Standings.placeOf Standings.move ListImage.onwards ListImage.nextNodes ListImage.reachedNodes ListImage.placesAt ListImage.image ListImage.imagesFrom ListImage.imageTable States.stateStep States.states States.acceptingStandings States.stateAccepts States.firstAccepted Find.row Find.rows Find.flag Find.findStates Find.findAutomata Find.find Cover.allOccurrences Cover.width Cover.places Cover.entered Cover.movedWithin Cover.moves Cover.passed Cover.finished Cover.ends Cover.settled Cover.coverStart Cover.coverStep Cover.yielding Pairs.samePair Pairs.pairs Pairs.misses Pairs.firstMissed Verdict.verdict Table.rises Table.risingAfter Table.rising Table.isTable Product.along Product.nextNodes Product.reachedNodes Product.marked Product.marksFrom Product.marks Product.ones AnswerJob.chosen AnswerJob.linksJob AnswerJob.listsJob verdictJob
+unfolding Places.collect Places.unionOver Automaton.nullable Automaton.first Automaton.last Automaton.link Automaton.follows Automaton.labelled Automaton.glushkov Automaton.nexts Automaton.step Automaton.standingFrom Automaton.standing Automaton.accepts Exploration.run Exploration.known Exploration.grow Exploration.extend Exploration.row Exploration.sweep Exploration.explore Closure.closure Byte.kind Name.nameBytes Name.isName Name.sameName Name.find Parser.run Parser.pastRun Parser.pastMark Parser.suffixes Parser.named Parser.suffixed Parser.closed Parser.joined Parser.parse Parser.alternatives Limits.balance Limits.nesting Limits.leaves Limits.runs Resolve.numbered Resolve.known Resolve.namesAt Check.checkTree Check.check Read.cutAt Read.after Read.fresh Read.givenLabel Read.givenQuery Read.givenList Read.early Read.late Read.given Read.ended Read.readLines Read.read Standings.standings Standings.values Standings.placeFrom Standings.placeOf Standings.move ListImage.onwards ListImage.nextNodes ListImage.reachedNodes ListImage.placesAt ListImage.image ListImage.imagesFrom ListImage.imageTable States.stateStep States.states States.acceptingStandings States.stateAccepts States.firstAccepted Find.row Find.rows Find.flag Find.findStates Find.findAutomata Find.find Cover.allOccurrences Cover.width Cover.places Cover.entered Cover.movedWithin Cover.moves Cover.passed Cover.finished Cover.ends Cover.settled Cover.coverStart Cover.coverStep Cover.yielding Pairs.samePair Pairs.pairs Pairs.misses Pairs.firstMissed Verdict.verdict Table.rises Table.risingAfter Table.rising Table.isTable Product.along Product.nextNodes Product.reachedNodes Product.marked Product.marksFrom Product.marks Marked.ones AnswerJob.chosen AnswerJob.linksJob AnswerJob.listsJob verdictJob
 cases-hold = (
   (refl, (refl, (refl, (refl, (refl, (refl, (refl, (refl, tt)))))))),
   (

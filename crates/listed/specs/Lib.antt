@@ -4,3 +4,5 @@ pub mod CasesHold
 -- The texts of all listed cases.
 pub mod Texts
 pub mod TextsLaws
+-- Jobs on each side of a limit.
+pub mod LimitsHold

@@ -2,11 +2,11 @@
 -- and no line reads further.
 use Prim.Native.Nat.{ℕ, zero, suc, _+_, _*_, _-_, _≤_}
 use mathlib.Core.List.{List, [], _∷_, _++_}
-use mathlib.Core.Option.{Option, some, none}
+use mathlib.Core.Option.{Option}
 use mathlib.Core.Path.{_≡_, refl, sym, ap, ap₂, _∙_}
 use native.Mathlib.Omega.{arith}
 use lib.ListN.{length, getD, take, drop, length-take, length-drop}
-use lib.Seq.{take-at, take-length}
+use lib.Seq.{take-length}
 use Rattle.theory.specs.Word.{Word}
 use Rattle.syntax.specs.declared.refusal.Refusal.{Refusal}
 use Rattle.syntax.specs.Byte.{Bytes}
@@ -18,16 +18,17 @@ use Rattle.reading.specs.Tables.{listsFrom}
 use Rattle.finding.specs.declared.answer.FindAnswer.{FindAnswer}
 use Rattle.finding.specs.declared.answer.Finding.the-variants.{Found as Told, Refused as Unfound}
 use Rattle.finding.specs.declared.first.FirstWord.{FirstWord}
-use Rattle.finding.specs.FirstWords.{firstWord as toldWord}
+use Rattle.finding.specs.WordTold.{wordOf, word-told}
 use Rattle.finding.specs.Find.{Rewriting, Found, found, find, rowWidth, refused as unfound}
-use Rattle.finding.specs.Outcome.{left, leftBy}
+use Rattle.finding.specs.Outcome.{left, findReply, told, leftBy}
+use Rattle.finding.specs.FoundSizes.{job-sizes}
 use Rattle.finding.specs.WrittenLaws.{written-read}
 use Rattle.finding.specs.Operation.{outcome, leftByReading, long-buffers}
 use Rattle.output.specs.Decimal.{decimal}
 use Rattle.output.specs.Put.{Writing, puts, puts-then}
 use Rattle.printing.specs.Lines.{statesWord, refusalLine, countLine, sign, nexts, row, rows, firstLine, rewritingLines}
-use Rattle.printing.specs.Told.{wordTold, rewritingTold}
-use Rattle.finding.specs.FoundSizes.{job-sizes}
+use Rattle.printing.specs.LinesLaws.{same-refusal}
+use Rattle.printing.specs.Told.{rewritingTold}
 use Rattle.printing.specs.Printed.{judgedAt, verdictLines, printedFound, printedReading, printedAt}
 use Rattle.printing.specs.Printing.{VerdictPut, JobPut}
 
@@ -54,29 +55,23 @@ module _ (table table′ flags flags′ : List ℕ) (t : (i : ℕ) → getD tabl
 
 -- The lines depend on the counts, the rows and the word.
 same-lines : (names : List Bytes) (m n : ℕ) (table flags : List ℕ) (f : FirstWord) (R : Rewriting) → m ≡ R .standings → n ≡ R .states
-    → ((i : ℕ) → getD table i 0 ≡ getD (R .table) i 0) → ((i : ℕ) → getD flags i 0 ≡ getD (R .flags) i 0) → wordTold f ≡ R .first
+    → ((i : ℕ) → getD table i 0 ≡ getD (R .table) i 0) → ((i : ℕ) → getD flags i 0 ≡ getD (R .flags) i 0) → wordOf f ≡ R .first
     → rewritingLines names (rewritingTold m n table flags f) ≡ rewritingLines names R
 unfolding rewritingLines
 same-lines names m n table flags f R i s t g word =
     ap₂ (λ (x y : ℕ). countLine queryWord x
-    ++ (countLine statesWord y ++ (rows table flags (length names) y 0 ++ firstLine names (wordTold f)))) i s
+    ++ (countLine statesWord y ++ (rows table flags (length names) y 0 ++ firstLine names (wordOf f)))) i s
     ∙ ap₂ (λ (r : Bytes) (o : Option Word). countLine queryWord (R .standings) ++ (countLine statesWord (R .states) ++ (r ++ firstLine names o)))
     (rows-same table (R .table) flags (R .flags) t g (length names) (R .states) 0) word
 
--- The word that is told.
-word-told : (o : Option Word) → wordTold (toldWord o) ≡ o
-unfolding toldWord
-word-told none = refl
-word-told (some w) = ap some (take-at w _ (length w) refl)
-
 module _ (text : Bytes) (table flags : List ℕ) (wide : length table ≡ 4096) (long : length flags ≡ 256) (a : FindAnswer)
-    (table′ flags′ : List ℕ) (told : left a table′ flags′ ≡ outcome text table flags) (names : List ℕ) (places : length names ≡ 96)
-    (labels lists allowance : ℕ) (w v : Writing) where
+    (table′ flags′ : List ℕ) (left-told : told (left a table′ flags′) ≡ outcome text table flags) (names : List ℕ)
+    (places : length names ≡ 96) (labels lists allowance : ℕ) (w v : Writing) where
   -- What Find leaves for a job.
-  job-left : (J : NamedJob) → read text ≡ job J → left a table′ flags′ ≡ leftBy (find (jobOf J)) table flags
+  job-left : (J : NamedJob) → read text ≡ job J → told (left a table′ flags′) ≡ told (leftBy (find (jobOf J)) table flags)
   unfolding leftByReading
   job-left J e =
-      told ∙ (long-buffers text table flags (omega arith) (omega arith) ∙ ap (λ x. leftByReading x table flags) e)
+      left-told ∙ ap told (long-buffers text table flags (omega arith) (omega arith) ∙ ap (λ x. leftByReading x table flags) e)
 
   printed-job : (J : NamedJob) → read text ≡ job J → printedAt allowance text ≡ printedFound allowance J (find (jobOf J))
   unfolding printedAt printedReading
@@ -85,7 +80,8 @@ module _ (text : Bytes) (table flags : List ℕ) (wide : length table ≡ 4096) 
   -- By what Find gives for the job.
   of-finding : ((J : NamedJob) → read text ≡ job J → namesAt text (take (2 * labels) names) ≡ J .labels
       → namesAt text (take (2 * lists) (drop listsFrom names)) ≡ J .listNames
-      → (x : Found) → find (jobOf J) ≡ x → left a table′ flags′ ≡ leftBy x table flags → v ≡ puts w (printedFound allowance J x))
+      → (x : Found) → find (jobOf J) ≡ x → told (left a table′ flags′) ≡ told (leftBy x table flags)
+      → v ≡ puts w (printedFound allowance J x))
       → JobPut text names labels lists allowance w v
   of-finding h =
       record {
@@ -99,15 +95,15 @@ module _ (text : Bytes) (table flags : List ℕ) (wide : length table ≡ 4096) 
     where
       there : (J : NamedJob) → read text ≡ job J → namesAt text (take (2 * labels) names) ≡ J .labels
           → namesAt text (take (2 * lists) (drop listsFrom names)) ≡ J .listNames
-          → (x : Found) → find (jobOf J) ≡ x → left a table′ flags′ ≡ leftBy x table flags → v ≡ puts w (printedFound allowance J x)
+          → (x : Found) → find (jobOf J) ≡ x → told (left a table′ flags′) ≡ told (leftBy x table flags)
+          → v ≡ puts w (printedFound allowance J x)
       there J p n k (found R) q b =
-          let c : Unfound r m ≡ Told (R .standings) (R .states) = sym e ∙ ap (λ o. o .answer .finding) b in
+          let c : findReply (Unfound r m) ≡ findReply (Told (R .standings) (R .states)) = sym (ap findReply e) ∙ ap (λ o. o .reply) b in
+          let d : [] ≡ R .standings ∷ (R .states ∷ []) = ap (λ y. y .values) c in
           clash (cc)
       there J p n k (unfound s) q b =
-          let c : Unfound r m ≡ Unfound s 0 = sym e ∙ ap (λ o. o .answer .finding) b in
-          let i : r ≡ s = cc in
-          let z : m ≡ 0 = cc in
-          wrote ∙ ap₂ (λ (x : Refusal) (y : ℕ). puts w (refusalLine x y)) i z
+          let c : findReply (Unfound r m) ≡ findReply (Unfound s 0) = sym (ap findReply e) ∙ ap (λ o. o .reply) b in
+          wrote ∙ ap (puts w) (same-refusal r s (ap (λ y. y .number) c) (ap (λ y. y .line) c))
 
   -- The lines of the rewriting, and those of the verdict behind them.
   pub found-put : (m n : ℕ) {u : Writing} (listed labelled : List ℕ) → a .finding ≡ Told m n
@@ -131,17 +127,20 @@ module _ (text : Bytes) (table flags : List ℕ) (wide : length table ≡ 4096) 
 
       there : (J : NamedJob) → read text ≡ job J → namesAt text (take (2 * labels) names) ≡ J .labels
           → namesAt text (take (2 * lists) (drop listsFrom names)) ≡ J .listNames
-          → (x : Found) → find (jobOf J) ≡ x → left a table′ flags′ ≡ leftBy x table flags → v ≡ puts w (printedFound allowance J x)
+          → (x : Found) → find (jobOf J) ≡ x → told (left a table′ flags′) ≡ told (leftBy x table flags)
+          → v ≡ puts w (printedFound allowance J x)
       there J p f g (unfound r) q b =
-          let c : Told m n ≡ Unfound r 0 = sym e ∙ ap (λ o. o .answer .finding) b in
+          let c : findReply (Told m n) ≡ findReply (Unfound r 0) = sym (ap findReply e) ∙ ap (λ o. o .reply) b in
+          let d : m ∷ (n ∷ []) ≡ [] = ap (λ y. y .values) c in
           clash (cc)
       there J p f g (found R) q b =
-          let c : Told m n ≡ Told (R .standings) (R .states) = sym e ∙ ap (λ o. o .answer .finding) b in
+          let c : findReply (Told m n) ≡ findReply (Told (R .standings) (R .states)) = sym (ap findReply e) ∙ ap (λ o. o .reply) b in
+          let d : m ∷ (n ∷ []) ≡ R .standings ∷ (R .states ∷ []) = ap (λ y. y .values) c in
           let i : m ≡ R .standings = cc in
           let s : n ≡ R .states = cc in
           let N : namesAt text listed ≡ J .listNames = ap (namesAt text) (l ∙ ap (take (2 * lists)) rest) ∙ g in
           let lines = wrote few (omega (arith, job-sizes (jobOf J) R q .few-states)) in
-          let word : wordTold (a .first) ≡ R .first = ap (λ o. wordTold (o .answer .first)) b ∙ word-told (R .first) in
+          let word : wordOf (a .first) ≡ R .first = ap (λ o. wordOf (o .first)) b ∙ word-told (R .first) in
           let whole = ap (λ M. rewritingLines M (rewritingTold m n table′ flags′ (a .first))) N
           ∙ same-lines (J .listNames) m n table′ flags′ (a .first) R i s
           (λ j. ap (λ o. getD (o .table) j 0) b ∙ written-read 4096 (R .table) table j wide)

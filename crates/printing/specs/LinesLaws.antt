@@ -41,6 +41,11 @@ puts-refusal r m w {x} worded e numbered placed ended =
     let told = puts-then x (decimal (number r)) (inLine m) (numbered ∙ ap (λ (n : ℕ). puts x (decimal n)) e) placed in
     puts-last w (refusedWord ++ (decimal (number r) ++ inLine m)) newline (puts-then w refusedWord _ worded told) ended
 
+-- A refusal's line tells its number alone.
+pub same-refusal : (r s : Refusal) {m n : ℕ} → number r ≡ number s → m ≡ n → refusalLine r m ≡ refusalLine s n
+unfolding refusalLine
+same-refusal r s e f = ap₂ (λ (k i : ℕ). line (refusedWord ++ (decimal k ++ inLine i))) e f
+
 -- The name at a place of a table, and past the table's end.
 pub name-at : (text : Bytes) (l : List ℕ) (i : ℕ) → i < length l / 2 → getD (namesAt text l) i [] ≡ nameAt text l i
 unfolding namesAt

@@ -1,15 +1,13 @@
 -- Why what is put for a text is what is printed for it.
 use Prim.Native.Nat.{ℕ, _*_, _≤_}
-use mathlib.Core.List.{List}
 use mathlib.Core.Path.{_≡_, refl, sym, ap, ap₂, _∙_}
 use native.Mathlib.Omega.{arith}
 use lib.ListN.{length, take, drop, length-append}
 use Rattle.syntax.specs.declared.refusal.Refusal.{Refusal}
 use Rattle.syntax.specs.Byte.{Bytes}
 use Rattle.syntax.specs.Resolve.{namesAt}
-use Rattle.reading.specs.declared.answer.Answer.{Answer}
-use Rattle.reading.specs.declared.answer.Answer.the-variants.{Job as Jobs, Refused as Refuses}
-use Rattle.reading.specs.JobText.{NamedJob}
+use Rattle.reading.specs.declared.answer.ReadAnswer.{ReadAnswer}
+use Rattle.reading.specs.declared.answer.ReadAnswer.the-variants.{Job as Jobs, Refused as Refuses}
 use Rattle.reading.specs.Read.{Reading, job, refused, read}
 use Rattle.reading.specs.Answering.{answerOf}
 use Rattle.reading.specs.Tables.{Tables, listsFrom}
@@ -23,7 +21,7 @@ use Rattle.printing.specs.Printing.{JobPut, PrintsAt}
 clash : {A : Type 0} → _≡_ {A = ℕ} 0 1 → A
 clash z = absurd (omega arith)
 
-module _ (text : Bytes) (a : Answer) (T : Tables) (loaded : Loaded text a T) (allowance : ℕ) (w : Writing) {v : Writing} where
+module _ (text : Bytes) (a : ReadAnswer) (T : Tables) (loaded : Loaded text a T) (allowance : ℕ) (w : Writing) {v : Writing} where
   pub text-refused : (r : Refusal) (m : ℕ) → a ≡ Refuses r m → v ≡ puts w (refusalLine r m) → v ≡ puts w (printedAt allowance text)
   unfolding printedAt printedReading
   text-refused r m e wrote = wrote ∙ ap (puts w) (there (read text) (sym (loaded .answer) ∙ e))

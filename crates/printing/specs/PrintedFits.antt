@@ -1,8 +1,8 @@
 -- How many bytes what is printed has: at most 17,920 for the rows, 4,358 for `first`, 17 for each label of `missed`, and a few for the
 -- others.
-use Prim.Native.Nat.{ℕ, _+_, _*_, _≤_, _<_, min}
+use Prim.Native.Nat.{ℕ, _+_, _*_, _≤_, min}
 use mathlib.Core.Bool.{Bool, true, false, and-eq-true-iff}
-use mathlib.Core.List.{List, [], _∷_, _++_}
+use mathlib.Core.List.{List, _++_}
 use mathlib.Core.Option.{Option, some, none}
 use mathlib.Core.Path.{_≡_, refl}
 use native.Mathlib.Omega.{arith}
@@ -22,7 +22,7 @@ use Rattle.verdict.specs.Verdict.{Verdict, complete, missed, refused as unjudge
 use Rattle.verdict.specs.VerdictJob.{verdictJob}
 use Rattle.verdict.specs.VerdictJobLaws.{FewPairs, job-few}
 use Rattle.verdict.specs.VerdictOperation.{allowed}
-use Rattle.printing.specs.Lines.{statesWord, firstWord, emptyWord, missedWord, completeWord, pairsWord}
+use Rattle.printing.specs.Lines.{statesWord, firstWord, missedWord, completeWord, pairsWord}
 use Rattle.printing.specs.Lines.{countLine, namedLine, rows, firstLine, rewritingLines}
 use Rattle.printing.specs.LineLengths.{refusal-length, count-length, named-length, rows-length}
 use Rattle.finding.specs.FoundSizes.{Sizes, job-sizes}

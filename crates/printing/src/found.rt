@@ -12,11 +12,12 @@ ghost use Rattle.syntax.specs.Resolve.{namesAt};
 ghost use Rattle.output.specs.Put.{writing, puts};
 ghost use Rattle.printing.specs.Lines.{rewritingLines};
 ghost use Rattle.printing.specs.Lines.{firstLine};
-ghost use Rattle.printing.specs.Told.{wordTold, rewritingTold};
+ghost use Rattle.finding.specs.WordTold.{wordOf};
+ghost use Rattle.printing.specs.Told.{rewritingTold};
 
 fn put_first(text: &[u8], names: &[u64], first: FirstWord, out: &mut [u8], at: usize) -> usize
     ensures { λ r. ⌜ writing (now (out .exit)) r ≡ puts (writing (now (out .entry)) at)
-        (firstLine (namesAt (now (text .entry)) (now (names .entry))) (wordTold first)) ⌝ }
+        (firstLine (namesAt (now (text .entry)) (now (names .entry))) (wordOf first)) ⌝ }
 {
     let word = first.word;
     let length = first.length;

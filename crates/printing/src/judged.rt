@@ -4,8 +4,8 @@ use crate::lines::put_refusal;
 use crate::names::put_named_line;
 use output::put::put_part;
 use syntax::table::part;
-use verdict::operation::VerdictAnswer;
-use verdict::operation::judge;
+use verdict::VerdictAnswer;
+use verdict::judge;
 ghost use Rattle.output.specs.Put.{writing};
 ghost use Rattle.printing.specs.Printing.{Room, VerdictPut};
 

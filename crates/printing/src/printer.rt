@@ -5,7 +5,7 @@ use crate::lines::put_refusal;
 use crate::names::first_names;
 use finding::answer::Finding;
 use finding::operation::find;
-use reading::Answer;
+use reading::ReadAnswer;
 use reading::load;
 ghost use mathlib.Core.Path.{_≡_};
 ghost use Rattle.output.specs.Put.{writing, puts};
@@ -79,8 +79,8 @@ fn put_printed(
         &mut accepting,
     );
     match told {
-        Answer::Refused(refusal, line) => put_refusal(out, 0, refusal, line),
-        Answer::Job(labels, lists) => put_job(
+        ReadAnswer::Refused(refusal, line) => put_refusal(out, 0, refusal, line),
+        ReadAnswer::Job(labels, lists) => put_job(
             text,
             &names,
             labels,

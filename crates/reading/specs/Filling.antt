@@ -23,13 +23,12 @@ pub record InRow (e : Expression) (r : Automaton) (follow enter : List ℕ) : Ty
   pub follows : take (suc (size e)) follow ≡ glushkov e .follow
   pub enters : (a : ℕ) → a < length enter → getD enter a 0 ≡ glushkov e .enter a
 
--- One row of each table: it stays as long as it is, and where the text is fine and has room, it holds the automaton; whether the text is
--- fine is told where there is room for all places.
+-- One row of each table: it stays as long as it is, and where the text is fine, it holds the automaton; whether the text is fine is told.
 pub record FillsRow (labels : List Bytes) (s : Bytes) (follow enter : List ℕ) (r : Automaton) (follow′ enter′ : List ℕ) : Type 0 where
   pub same-follow : length follow′ ≡ length follow
   pub same-enter : length enter′ ≡ length enter
-  pub fills : (e : Expression) → check labels s ≡ fine e → size e < length follow → InRow e r follow′ enter′
-  pub told : 64 ≤ length follow → r .fine ≡ isFine (check labels s)
+  pub fills : (e : Expression) → check labels s ≡ fine e → InRow e r follow′ enter′
+  pub told : r .fine ≡ isFine (check labels s)
 
 -- The rows x of whole tables: all else stays as it is, and whether the text is fine is told.
 pub record Fills (labels : List Bytes) (s : Bytes) (x : ℕ) (follow enter : List ℕ) (r : Automaton) (follow′ enter′ : List ℕ) : Type 0 where

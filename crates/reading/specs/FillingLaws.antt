@@ -3,11 +3,11 @@ use Prim.Native.Nat.{ℕ, zero, suc, _+_, _*_, _≤_, _<_}
 use mathlib.Core.Bool.{true}
 use mathlib.Core.List.{List, [], _∷_, _++_}
 use mathlib.Core.Logic.{_⊎_, inl, inr, _≢_}
-use mathlib.Core.Path.{_≡_, sym, ap, _∙_}
+use mathlib.Core.Path.{_≡_, refl, sym, ap, _∙_}
 use native.Mathlib.Decide.{decLt}
 use native.Mathlib.Nat.{zero-add, add-zero}
 use native.Mathlib.Omega.{arith}
-use lib.ListN.{length, getD, take, drop, set, replicate, length-take, length-drop, getD-replicate, length-replicate}
+use lib.ListN.{length, getD, take, drop, set, replicate, length-append, length-take, length-drop, getD-replicate, length-replicate}
 use lib.Seq.{take-take, take-at, getD-take, getD-drop, getD-set-same, getD-set-other}
 use Rattle.theory.specs.Expression.{Expression}
 use Rattle.theory.specs.Standing.{size}
@@ -19,12 +19,12 @@ use Rattle.syntax.specs.declared.checks.Check.{Check as Verdict}
 use Rattle.syntax.specs.declared.checks.Check.the-variants.{Fine}
 use Rattle.syntax.specs.Byte.{Bytes}
 use Rattle.syntax.specs.Limits.{mostOccurrences}
-use Rattle.syntax.specs.Check.{fine, check}
+use Rattle.syntax.specs.Check.{Checked, fine, faulty, check}
 use Rattle.syntax.specs.FineLaws.{fine-cases}
-use Rattle.syntax.specs.Verdict.{verdict}
+use Rattle.syntax.specs.Verdict.{verdict, isFine}
 use Rattle.syntax.specs.VerdictLaws.{fine-verdict}
-use Rattle.syntax.specs.Entered.{entered}
-use Rattle.syntax.specs.Build.{Makes, Made}
+use Rattle.syntax.specs.Entered.{entered, length-entered}
+use Rattle.syntax.specs.Build.{outcome, automaton, building}
 use Rattle.reading.specs.Tables.{Row, followWidth, enterWidth}
 use Rattle.reading.specs.Loading.{tables}
 use Rattle.reading.specs.Filling.{InRow, FillsRow, Fills, ReadsRow}
@@ -51,28 +51,52 @@ length-follow e = ap suc (length-follows 1 e)
 row-there : (a w : ℕ) (r t : List ℕ) → length r ≡ w → a + length r ≤ length t → take w (drop a (put a r t)) ≡ r
 row-there a w r t e room = ap (λ n. take n (drop a (put a r t))) (sym e) ∙ row-put a r t room
 
+-- Building leaves both tables as long as they are, and tells whether the text is fine.
+same-follow : (labels : List Bytes) (s : Bytes) (c : Checked) (follow enter : List ℕ) → check labels s ≡ c → 64 ≤ length follow
+    → length (building c follow enter .follow) ≡ length follow
+same-follow labels s (fine e) follow enter h room =
+    omega (
+      arith,
+      length-append (glushkov e .follow) (drop (suc (size e)) follow),
+      length-follow e,
+      length-drop (suc (size e)) follow,
+      fine-cases labels s e h .few,
+    )
+same-follow labels s (faulty r) follow enter h room = length-replicate {A = ℕ} (length follow) 0
+
+same-enter : (c : Checked) (follow enter : List ℕ) → length (building c follow enter .enter) ≡ length enter
+same-enter (fine e) follow enter = length-entered 1 e 0 enter
+same-enter (faulty r) follow enter = length-replicate {A = ℕ} (length enter) 0
+
+told : (c : Checked) (follow enter : List ℕ) → building c follow enter .fine ≡ isFine c
+told (fine e) follow enter = refl
+told (faulty r) follow enter = refl
+
 module _ (labels : List Bytes) (s : Bytes) where
   -- What is built in a row, its enter sets cleared before.
-  pub row-built : (follow enter : List ℕ) (r : Automaton) (follow′ enter′ : List ℕ)
-      → Makes labels s follow (replicate (length enter) 0) r follow′ enter′ → FillsRow labels s follow enter r follow′ enter′
+  pub row-built : (follow enter : List ℕ) (r : Automaton) (follow′ enter′ : List ℕ) → 64 ≤ length follow
+      → outcome r follow′ enter′ ≡ building (check labels s) follow (replicate (length enter) 0)
+      → FillsRow labels s follow enter r follow′ enter′
   unfolding glushkov
-  row-built follow enter r follow′ enter′ m = record {
-    same-follow = m .same-follow;
-    same-enter = m .same-enter ∙ length-replicate {A = ℕ} (length enter) 0;
-    fills = λ e c room.
-        let b : Made e follow (replicate (length enter) 0) r follow′ enter′ = m .makes e c room in
-        record {
-          places = b .places;
-          accepts = b .accepting-sets;
-          follows =
-              ap (take (suc (size e))) (b .follow-sets)
-              ∙ take-at (glushkov e .follow) (drop (suc (size e)) follow) (suc (size e)) (length-follow e);
-          enters = λ a l.
-              ap (λ t. getD t a 0) (b .enter-sets)
-              ∙ getD-cleared e (length enter) a (rw (m .same-enter ∙ length-replicate {A = ℕ} (length enter) 0) at l);
-        };
-    told = m .told;
-  }
+  row-built follow enter r follow′ enter′ room m =
+      let none : List ℕ = replicate (length enter) 0 in
+      let long : length enter′ ≡ length enter =
+      ap (λ o. length (o .enter)) m ∙ same-enter (check labels s) follow none ∙ length-replicate {A = ℕ} (length enter) 0 in
+      record {
+        same-follow = ap (λ o. length (o .follow)) m ∙ same-follow labels s (check labels s) follow none refl room;
+        same-enter = long;
+        fills = λ e c.
+            let b : outcome r follow′ enter′ ≡ automaton e follow none = m ∙ ap (λ x. building x follow none) c in
+            record {
+              places = ap (λ o. o .size) b;
+              accepts = ap (λ o. o .accepting) b;
+              follows =
+                  ap (λ o. take (suc (size e)) (o .follow)) b
+                  ∙ take-at (glushkov e .follow) (drop (suc (size e)) follow) (suc (size e)) (length-follow e);
+              enters = λ a l. ap (λ o. getD (o .enter) a 0) b ∙ getD-cleared e (length enter) a (rw long at l);
+            };
+        told = ap (λ o. o .fine) m ∙ told (check labels s) follow none;
+      }
 
   -- What is built in the rows x.
   pub rows-built : (x : ℕ) (follow enter : List ℕ) (r : Automaton) (row row′ : List ℕ)
@@ -93,8 +117,8 @@ module _ (labels : List Bytes) (s : Bytes) where
         other-enter = λ i h. other-put (enterWidth * x) row′ enter f′ i (rw l′ h);
         fills = λ e c.
             rw (row-there (followWidth * x) followWidth row follow l f, row-there (enterWidth * x) enterWidth row′ enter l′ f′)
-            (m .fills e c (omega (arith, fine-cases labels s e c .few)));
-        told = m .told (omega arith);
+            (m .fills e c);
+        told = m .told;
       }
 
   -- The same with the rows as they come back from being lent.

@@ -3,7 +3,7 @@
 use Prim.Native.Nat.{ℕ, _≤_, _<_}
 use mathlib.Core.List.{List}
 use mathlib.Core.Option.{some}
-use mathlib.Core.Path.{_≡_}
+use mathlib.Core.Path.{_≡_, ap, _∙_}
 use lib.ListN.{length, getD}
 use Rattle.theory.specs.Expression.{Expression, empty}
 use Rattle.theory.specs.Standing.{size}
@@ -11,7 +11,7 @@ use Rattle.syntax.specs.declared.refusal.Refusal.{Refusal}
 use Rattle.syntax.specs.Byte.{Bytes}
 use Rattle.syntax.specs.Some.{isSome}
 use Rattle.syntax.specs.Limits.{mostOccurrences}
-use Rattle.reading.specs.declared.answer.Answer.{Answer}
+use Rattle.reading.specs.declared.answer.ReadAnswer.{ReadAnswer}
 use Rattle.reading.specs.declared.progress.Progress.{Progress as Numbers}
 use Rattle.reading.specs.declared.progress.Given.{Given as Told}
 use Rattle.reading.specs.declared.progress.Given.the-variants.{Good, Bad}
@@ -19,7 +19,7 @@ use Rattle.reading.specs.Text.{mostLabels, mostLists}
 use Rattle.reading.specs.JobText.{NamedJob}
 use Rattle.reading.specs.Refusing.{Progress}
 use Rattle.reading.specs.Read.{Given, good, bad, job, read}
-use Rattle.reading.specs.Answering.{answerOf}
+use Rattle.reading.specs.Answering.{answerOf, readReply, replyOf, reply-answered}
 use Rattle.reading.specs.Tables.{Tables, HoldsSoFar, Holds}
 
 abbrev pub tables : List ℕ → List ℕ → List ℕ → List ℕ → List ℕ → Tables
@@ -54,6 +54,9 @@ pub record GivesName (text : Bytes) (f : Progress → Given) (p : Numbers) (name
       → Gives text f p (tables names follow enter sizes accepting) r (tables names′ follow enter sizes accepting)
 
 -- A text is read: the answer is what reading gives, and where that is a job, the tables hold it.
-pub record Loaded (text : Bytes) (r : Answer) (T : Tables) : Type 0 where
+pub record Loaded (text : Bytes) (r : ReadAnswer) (T : Tables) : Type 0 where
   pub answer : r ≡ answerOf (read text)
   pub holds : (J : NamedJob) → read text ≡ job J → Holds text J T
+
+pub loaded-reply : {text : Bytes} {r : ReadAnswer} {T : Tables} → Loaded text r T → readReply r ≡ replyOf (read text)
+loaded-reply {text} l = ap readReply (l .answer) ∙ reply-answered (read text)

@@ -7,8 +7,8 @@ use native.Mathlib.Omega.{arith}
 use lib.ListN.{length}
 use Rattle.syntax.specs.declared.refusal.Refusal.{Refusal}
 use Rattle.syntax.specs.Byte.{Bytes}
-use Rattle.reading.specs.declared.answer.Answer.{Answer}
-use Rattle.reading.specs.declared.answer.Answer.the-variants.{Job, Refused}
+use Rattle.reading.specs.declared.answer.ReadAnswer.{ReadAnswer}
+use Rattle.reading.specs.declared.answer.ReadAnswer.the-variants.{Job, Refused}
 use Rattle.reading.specs.Text.{mostLists}
 use Rattle.reading.specs.Tables.{followWidth, enterWidth}
 use Rattle.reading.specs.ListStarts.{listStarts}
@@ -27,7 +27,7 @@ pub record HasRows (n : ℕ) (follow enter : List ℕ) : Type 0 where
   pub in-enter : (x : ℕ) → x ≤ n → x ≤ mostLists → enterWidth * x + enterWidth ≤ length enter
 
 -- The rows of a job's lists are in the tables.
-pub record Roomy (r : Answer) (follow enter : List ℕ) : Type 0 where
+pub record Roomy (r : ReadAnswer) (follow enter : List ℕ) : Type 0 where
   pub rows : (labels lists : ℕ) → r ≡ Job labels lists
       → (lists ≤ mostLists) × (followWidth * lists + followWidth ≤ length follow) × (enterWidth * lists + enterWidth ≤ length enter)
 

@@ -14,7 +14,7 @@ use Rattle.syntax.specs.declared.refusal.Refusal.the-variants.{TextTooLong, Bad
 use Rattle.syntax.specs.Byte.{Bytes}
 use Rattle.syntax.specs.Some.{isSome}
 use Rattle.syntax.specs.Resolve.{namesAt}
-use Rattle.reading.specs.declared.answer.Answer.the-variants.{Job, Refused}
+use Rattle.reading.specs.declared.answer.ReadAnswer.the-variants.{Job, Refused}
 use Rattle.reading.specs.declared.progress.Progress.{Progress as Numbers}
 use Rattle.reading.specs.declared.progress.Given.{Given as Told}
 use Rattle.reading.specs.declared.progress.Given.the-variants.{Good, Bad}

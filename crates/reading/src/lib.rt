@@ -7,7 +7,7 @@ mod reader;
 mod row;
 mod scan;
 
-pub use answer::Answer;
+pub use answer::ReadAnswer;
 pub use reader::lists_at_most;
 pub use reader::load;
 pub use reader::load_rows;

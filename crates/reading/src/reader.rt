@@ -1,5 +1,5 @@
 // A job text read into lent tables, line by line.
-use super::answer::Answer;
+use super::answer::ReadAnswer;
 use super::line::line;
 use super::progress::Given;
 use super::progress::Progress;
@@ -9,7 +9,7 @@ ghost use Prim.Native.Nat.{_+_, _*_, _≤_};
 ghost use mathlib.Core.Path.{_≡_};
 ghost use lib.ListN.{length};
 ghost use Rattle.reading.specs.Read.{read};
-ghost use Rattle.reading.specs.Answering.{answerOf};
+ghost use Rattle.reading.specs.Answering.{readReply, replyOf};
 ghost use Rattle.reading.specs.Loading.{tables, Loaded};
 ghost use Rattle.reading.specs.ListStarts.{listStarts};
 ghost use Rattle.reading.specs.RowRoom.{askedRows, AtMost, HasRows, Roomy};
@@ -24,7 +24,7 @@ fn lines(
     enter: &mut [u64],
     sizes: &mut [u64; 17],
     accepting: &mut [u64; 17],
-) -> Answer
+) -> ReadAnswer
     requires { ⌜ (length (now text) ≤ 8192) × HasRows (askedRows (now text)) (now follow) (now enter) ⌝ }
     ensures { λ r.
         ⌜ Loaded (now (text .entry)) r
@@ -41,7 +41,7 @@ fn lines(
     while at < text.len() {
         let size = find_byte(&text[at..], b'\n');
         if text.len() - at <= size {
-            return Answer::Refused(Refusal::BadLine, n);
+            return ReadAnswer::Refused(Refusal::BadLine, n);
         }
         let given = line(
             p,
@@ -55,16 +55,16 @@ fn lines(
             accepting,
         );
         match given {
-            Given::Bad(r) => return Answer::Refused(r, n),
+            Given::Bad(r) => return ReadAnswer::Refused(r, n),
             Given::Good(q) => p = q,
         }
         at = at + size + 1;
         n += 1;
     }
     if p.query {
-        Answer::Job(p.labels, p.lists)
+        ReadAnswer::Job(p.labels, p.lists)
     } else {
-        Answer::Refused(Refusal::BadLine, n)
+        ReadAnswer::Refused(Refusal::BadLine, n)
     }
 }
 
@@ -111,7 +111,7 @@ pub fn load_rows(
     enter: &mut [u64],
     sizes: &mut [u64; 17],
     accepting: &mut [u64; 17],
-) -> Answer
+) -> ReadAnswer
     requires { ⌜ HasRows (askedRows (now text)) (now follow) (now enter) ⌝ }
     ensures { λ r.
         ⌜ Loaded (now (text .entry)) r
@@ -119,7 +119,7 @@ pub fn load_rows(
     ensures roomy { λ r. ⌜ Roomy r (now (follow .exit)) (now (enter .exit)) ⌝ }
 {
     if MOST_TEXT < text.len() {
-        return Answer::Refused(Refusal::TextTooLong, 0);
+        return ReadAnswer::Refused(Refusal::TextTooLong, 0);
     }
     lines(text, names, follow, enter, sizes, accepting)
 }
@@ -132,7 +132,7 @@ pub fn load(
     enter: &mut [u64; 544],
     sizes: &mut [u64; 17],
     accepting: &mut [u64; 17],
-) -> Answer
+) -> ReadAnswer
     ensures { λ r.
         ⌜ Loaded (now (text .entry)) r
         (tables (now (names .exit)) (now (follow .exit)) (now (enter .exit)) (now (sizes .exit)) (now (accepting .exit))) ⌝ }
@@ -141,8 +141,8 @@ pub fn load(
 }
 
 // Read (document 01): how many labels and lists the job has, or the refusal with its line.
-pub fn read(text: &[u8]) -> Answer
-    ensures { λ r. ⌜ r ≡ answerOf (read (now (text .entry))) ⌝ }
+pub fn read(text: &[u8]) -> ReadAnswer
+    ensures { λ r. ⌜ readReply r ≡ replyOf (read (now (text .entry))) ⌝ }
 {
     let mut names = [0; 96];
     let mut follow = [0; 1088];

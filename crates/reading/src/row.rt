@@ -3,21 +3,12 @@ use syntax::Check;
 use syntax::build::Automaton;
 use syntax::build::build;
 use syntax::check_expression;
+use syntax::clear;
 ghost use Prim.Native.Nat.{_+_, _*_, _<_, _≤_};
 ghost use mathlib.Core.Path.{_≡_};
-ghost use lib.ListN.{length, set, replicate};
+ghost use lib.ListN.{length, set};
 ghost use Rattle.syntax.specs.Resolve.{namesAt};
 ghost use Rattle.reading.specs.Filling.{FillsRow, Fills, ReadsRow};
-
-fn clear(table: &mut [u64])
-    ensures { λ _. ⌜ now (table .exit) ≡ replicate (length (now (table .entry))) 0 ⌝ }
-{
-    let mut i = 0;
-    while i < table.len() {
-        table[i] = 0;
-        i += 1;
-    }
-}
 
 // Builds the automaton of the expression s in one row of each table.
 fn fill_row(
@@ -27,6 +18,7 @@ fn fill_row(
     follow: &mut [u64],
     enter: &mut [u64],
 ) -> Automaton
+    requires { ⌜ 64 ≤ length (now follow) ⌝ }
     ensures { λ r.
         ⌜ FillsRow (namesAt (now (text .entry)) (now (labels .entry))) (now (s .entry)) (now (follow .entry)) (now (enter .entry)) r
         (now (follow .exit)) (now (enter .exit)) ⌝ }

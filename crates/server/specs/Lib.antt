@@ -1,4 +1,13 @@
 pub mod Packed
-pub mod PackedLaws
-pub mod PackedKeeping
-pub mod PackedKeepingLaws
+pub mod SameReply
+pub mod NumberSome
+pub mod ReadSmall
+pub mod FindLeft
+pub mod FindLeftLaws
+pub mod VerdictLeft
+pub mod AnswersLeft
+pub mod KeepLeft
+pub mod LeftLaws
+pub mod ReplyNumbers
+pub mod Decoded
+pub mod DecodedLaws

@@ -5,10 +5,10 @@ use mathlib.Core.Bool.{Bool, true, false}
 use mathlib.Core.List.{List, [], _∷_, _++_}
 use mathlib.Core.Path.{_≡_}
 use lib.Dec.{eqb}
-use lib.ListN.{length, take, drop}
+use lib.ListN.{length, take, drop, replicate}
 use Rattle.theory.specs.Expression.{Expression}
 use Rattle.theory.specs.Standing.{size}
-use Rattle.theory.specs.Places.{Member}
+use Rattle.theory.specs.Places.{Member, none}
 use Rattle.theory.specs.Automaton.{nullable, first, last, link, follows, glushkov}
 use Rattle.syntax.specs.declared.build.Automaton.{Automaton as Answer}
 use Rattle.syntax.specs.declared.parts.Part.{Part}
@@ -17,8 +17,7 @@ use Rattle.syntax.specs.Byte.{Bytes, asterisk, question}
 use Rattle.syntax.specs.Grammar.{Tree}
 use Rattle.syntax.specs.Parser.{Parsed, parsed}
 use Rattle.syntax.specs.Limits.{mostNesting, nesting, leaves}
-use Rattle.syntax.specs.Check.{check, fine}
-use Rattle.syntax.specs.Verdict.{isFine}
+use Rattle.syntax.specs.Check.{Checked, fine, faulty}
 use Rattle.syntax.specs.Resolve.{numbered, known}
 use Rattle.syntax.specs.Splice.{splice}
 use Rattle.syntax.specs.Entered.{entered}
@@ -99,18 +98,35 @@ pub record Suffixed (s : Bytes) (p : Part) (follow : List ℕ) (r : Part) (follo
   pub marks : marked (p .last .0) (p .first .0) (drop (p .at) s) (p .nullable) follow
       ≡ record { nullable = r .nullable; follow = follow′; rest = drop (r .at) s }
 
--- The follow and enter tables and the answer r are Glushkov's automaton of e: the follow table from its first entry on, and the places of
--- each label added to the enter table.
-pub record Made (e : Expression) (follow enter : List ℕ) (r : Answer) (follow′ enter′ : List ℕ) : Type 0 where
-  pub places : r .size ≡ size e
-  pub accepting-sets : r .accepting .0 ≡ glushkov e .accepting
-  pub follow-sets : follow′ ≡ glushkov e .follow ++ drop (suc (size e)) follow
-  pub enter-sets : enter′ ≡ entered 1 e 0 enter
+-- What building gives in all: whether the text is an expression, the number of its places, the accepting ones, and both tables.
+pub record Outcome : Type 0 where
+  pub fine : Bool
+  pub size : ℕ
+  pub accepting : ℕ
+  pub follow : List ℕ
+  pub enter : List ℕ
 
--- What building the automaton of the text s promises: the tables stay as long as they are, and where the check finds no fault in the text
--- and the follow table has room, they become the automaton's; with room for all places, the answer tells whether the text is fine.
-pub record Makes (labels : List Bytes) (s : Bytes) (follow enter : List ℕ) (r : Answer) (follow′ enter′ : List ℕ) : Type 0 where
-  pub same-follow : length follow′ ≡ length follow
-  pub same-enter : length enter′ ≡ length enter
-  pub makes : (e : Expression) → check labels s ≡ fine e → size e < length follow → Made e follow enter r follow′ enter′
-  pub told : 64 ≤ length follow → r .fine ≡ isFine (check labels s)
+-- The same, read off the code's answer and the tables that it leaves.
+abbrev pub outcome : Answer → List ℕ → List ℕ → Outcome
+outcome r follow enter = record { fine = r .fine; size = r .size; accepting = r .accepting .0; follow = follow; enter = enter }
+
+-- Of an expression: Glushkov's automaton, the follow table from its first entry on, and the places of each label added to the enter table.
+abbrev pub automaton : Expression → List ℕ → List ℕ → Outcome
+automaton e follow enter =
+    record {
+      fine = true;
+      size = size e;
+      accepting = glushkov e .accepting;
+      follow = glushkov e .follow ++ drop (suc (size e)) follow;
+      enter = entered 1 e 0 enter;
+    }
+
+-- Of a text with a fault: no place, and tables of empty sets.
+abbrev pub cleared : List ℕ → List ℕ → Outcome
+cleared follow enter =
+    record { fine = false; size = 0; accepting = none; follow = replicate (length follow) none; enter = replicate (length enter) none }
+
+-- What building gives where the check of the text gives c.
+abbrev pub building : Checked → List ℕ → List ℕ → Outcome
+building (fine e) follow enter = automaton e follow enter
+building (faulty r) follow enter = cleared follow enter

@@ -9,6 +9,7 @@ pub mod Limits
 pub mod Resolve
 pub mod Number
 pub mod NumberLaws
+pub mod Reply
 pub mod Check
 pub mod Place
 pub mod Unread

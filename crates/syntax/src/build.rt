@@ -10,17 +10,19 @@ use super::leaf::occurrence;
 use super::leaf::suffixes;
 use super::parts::Part;
 use super::parts::when;
+use super::sets::clear;
 use super::sets::link;
 use super::sets::put;
 use places::Places;
 ghost use Prim.Native.Nat.{_≤_, _<_};
 ghost use mathlib.Core.Path.{_≡_};
-ghost use lib.ListN.{drop};
+ghost use lib.ListN.{length, drop};
 ghost use Rattle.syntax.specs.KindTable.{kindTable};
 ghost use Rattle.syntax.specs.Parser.{alternatives, sequences, factors, pastMark};
 ghost use Rattle.syntax.specs.Place.{moved};
 ghost use Rattle.syntax.specs.Resolve.{namesAt};
-ghost use Rattle.syntax.specs.Build.{Builds, Makes};
+ghost use Rattle.syntax.specs.Check.{check};
+ghost use Rattle.syntax.specs.Build.{Builds, outcome, cleared, building};
 
 // The automaton of an expression but for its tables: the number of its places after the start, and the accepting places; and whether the
 // text is an expression.
@@ -30,8 +32,21 @@ pub struct Automaton {
     pub fine: bool,
 }
 
+// What is answered for a text with a fault: no place, and cleared tables.
+fn refused(follow: &mut [u64], enter: &mut [u64]) -> Automaton
+    ensures { λ r. ⌜ outcome r (now (follow .exit)) (now (enter .exit)) ≡ cleared (now (follow .entry)) (now (enter .entry)) ⌝ }
+{
+    clear(follow);
+    clear(enter);
+    Automaton {
+        size: 0,
+        accepting: Places::EMPTY,
+        fine: false,
+    }
+}
+
 // Builds the automaton of the expression s in the lent tables: the follow set of each place, and for each label the places that it may
-// enter. The text and the table `names` say where the labels' names stand.
+// enter. The text and the table `names` say where the labels' names stand. A row of follow sets has 64 words, room for all places.
 pub fn build(
     s: &[u8],
     text: &[u8],
@@ -39,15 +54,13 @@ pub fn build(
     follow: &mut [u64],
     enter: &mut [u64],
 ) -> Automaton
-    ensures { λ r. ⌜ Makes (namesAt (now (text .entry)) (now (names .entry))) (now (s .entry)) (now (follow .entry)) (now (enter .entry)) r
-        (now (follow .exit)) (now (enter .exit)) ⌝ }
+    requires { ⌜ 64 ≤ length (now follow) ⌝ }
+    ensures { λ r. ⌜ outcome r (now (follow .exit)) (now (enter .exit))
+        ≡ building (check (namesAt (now (text .entry)) (now (names .entry))) (now (s .entry)))
+        (now (follow .entry)) (now (enter .entry)) ⌝ }
 {
     if MOST_BYTES < s.len() {
-        return Automaton {
-            size: 0,
-            accepting: Places::EMPTY,
-            fine: false,
-        };
+        return refused(follow, enter);
     }
     let kinds = KINDS;
     let whole = alternative(
@@ -61,6 +74,9 @@ pub fn build(
         0,
         &kinds,
     );
+    if 64 < whole.next || whole.at < s.len() {
+        return refused(follow, enter);
+    }
     let first = whole.first;
     let last = whole.last;
     put(follow, 0, first);
@@ -68,7 +84,7 @@ pub fn build(
     Automaton {
         size: whole.next - 1,
         accepting: accepting,
-        fine: whole.next <= 64 && s.len() <= whole.at,
+        fine: true,
     }
 }
 

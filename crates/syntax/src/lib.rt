@@ -3,7 +3,7 @@ pub mod build;
 mod checks;
 mod cursor;
 mod grammar;
-pub mod kind;
+mod kind;
 mod labels;
 mod leaf;
 mod limits;
@@ -15,8 +15,6 @@ pub mod table;
 
 pub use checks::Check;
 pub use checks::check_expression;
-pub use limits::nesting;
 pub use name::is_name;
-pub use name::same_name;
-pub use parts::Part;
 pub use refusal::Refusal;
+pub use sets::clear;

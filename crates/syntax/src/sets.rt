@@ -1,9 +1,20 @@
 // Tables of sets of places, in lent slices: an entry is a set. A store beyond the table's end does nothing.
 use places::Places;
 ghost use mathlib.Core.Path.{_≡_};
-ghost use lib.ListN.{set, getD};
+ghost use lib.ListN.{length, set, getD, replicate};
 ghost use Rattle.theory.specs.Places.{union};
 ghost use Rattle.theory.specs.Automaton.{link};
+
+// Makes each entry the empty set.
+pub fn clear(table: &mut [u64])
+    ensures { λ _. ⌜ now (table .exit) ≡ replicate (length (now (table .entry))) 0 ⌝ }
+{
+    let mut i = 0;
+    while i < table.len() {
+        table[i] = 0;
+        i += 1;
+    }
+}
 
 // Makes an entry the given set.
 pub fn put(table: &mut [u64], index: u64, places: Places)

@@ -13,7 +13,8 @@ use Rattle.theory.specs.PlacesLaws.{member-below, member-unionOver, unionOver-b
 use Rattle.theory.specs.Closure.{Reaches, here, onward, closure}
 use Rattle.theory.specs.ClosureLaws.{closure-exactly}
 use Rattle.theory.specs.Automaton.{Automaton}
-use Rattle.verdict.specs.Cover.{Rewritten, places, moves, ends, settled, coverStep}
+use Rattle.finding.specs.Rewritten.{Rewritten}
+use Rattle.verdict.specs.Cover.{places, moves, ends, settled, coverStep}
 use Rattle.verdict.specs.Tables.{automataOf, occupied, rewritten, Counted, Proper}
 use Rattle.verdict.specs.CoverBounds.{moves-below, ends-below, state-of-place}
 use Rattle.verdict.specs.CoverPlaces.{split-below, state-below}

@@ -9,13 +9,7 @@ use lib.ListN.{length, getD}
 use Rattle.theory.specs.Places.{member, none, one, union, intersection, when, unionOver}
 use Rattle.theory.specs.Automaton.{Automaton}
 use Rattle.theory.specs.Closure.{closure}
-
--- A rewriting as plain data, wherever it comes from: the number of its states, the next state at 16 × state + list, and a flag for each
--- state, 1 where it accepts.
-pub record Rewritten : Type 0 where
-  pub states : ℕ
-  pub table : List ℕ
-  pub flags : List ℕ
+use Rattle.finding.specs.Rewritten.{Rewritten, nextState}
 
 -- The number of label occurrences of a list's automaton, which has one place more.
 abbrev pub occurrences : Automaton → ℕ
@@ -32,9 +26,6 @@ width lists = suc (allOccurrences lists)
 -- The number of cover places.
 unfoldable pub places : Rewritten → List Automaton → ℕ
 places R lists = R .states * width lists
-
-abbrev pub nextState : Rewritten → ℕ → ℕ → ℕ
-nextState R q v = getD (R .table) (16 * q + v) 0
 
 -- The offsets that a label enters from the start of each list, the first list's occurrences coming after the offset `base`.
 unfoldable pub entered : List Automaton → ℕ → ℕ → ℕ

@@ -12,7 +12,8 @@ use borrow.Author.Tests.{eq-eqb, ne-eqb}
 use Rattle.theory.specs.Automaton.{Automaton}
 use Rattle.theory.specs.Places.{member, one, when}
 use Rattle.theory.specs.PlacesLaws.{union-below, when-below, wider, none-below}
-use Rattle.verdict.specs.Cover.{Rewritten, nextState, width, places, entered, movedWithin, moves, passed, finished, ends}
+use Rattle.finding.specs.Rewritten.{Rewritten, nextState}
+use Rattle.verdict.specs.Cover.{width, places, entered, movedWithin, moves, passed, finished, ends}
 use Rattle.verdict.specs.Tables.{automataFrom, automataOf, occupied, Counted}
 use Rattle.verdict.specs.TablesLaws.{width-exactly, occupied-few}
 use Rattle.verdict.specs.CoverTold.{Moving, Ending}

@@ -16,7 +16,8 @@ use Rattle.theory.specs.Occurrences.{last-within}
 use Rattle.theory.specs.Chain.{Final}
 use Rattle.theory.specs.Automaton.{Automaton, glushkov}
 use Rattle.theory.specs.AutomatonLaws.{member-accepting}
-use Rattle.verdict.specs.Cover.{Rewritten, occurrences, width, nextState, passed, finished, ends}
+use Rattle.finding.specs.Rewritten.{Rewritten, nextState}
+use Rattle.verdict.specs.Cover.{occurrences, width, passed, finished, ends}
 use Rattle.verdict.specs.CoverPlaces.{listAt, base, offsets, numbered, size-exactly, offsets-exactly, offset-below, state-of}
 use Rattle.verdict.specs.CoverPlaces.{offset-of, placed}
 

@@ -20,7 +20,7 @@ use Rattle.theory.specs.StandsAt.{StandsAt}
 use Rattle.theory.specs.GlushkovRelations.{standing-exactly, path-exactly}
 use Rattle.theory.specs.GreatestRewriting.{spells-word}
 use Rattle.finding.specs.Finds.{followed}
-use Rattle.verdict.specs.Cover.{Rewritten, nextState}
+use Rattle.finding.specs.Rewritten.{Rewritten, nextState}
 use Rattle.verdict.specs.Verdicts.{ReachesState, ReachesOccurrence}
 use Rattle.verdict.specs.CoverPlaces.{listAt, offsets, numbered, alone-unique, alone-apart, occurrence-number-unique}
 

@@ -25,8 +25,9 @@ use Rattle.theory.specs.StandsAt.{StandsAt}
 use Rattle.theory.specs.GlushkovRelations.{path-exactly}
 use Rattle.theory.specs.Automaton.{Automaton, glushkov}
 use Rattle.finding.specs.Finds.{followed}
-use Rattle.verdict.specs.Cover.{Rewritten, width, places, nextState, moves, ends, settled, coverStart, coverStep}
-use Rattle.verdict.specs.Verdicts.{Decides, ReachesState, ReachesOccurrence}
+use Rattle.finding.specs.Rewritten.{Rewritten, nextState, Decides}
+use Rattle.verdict.specs.Cover.{width, places, moves, ends, settled, coverStart, coverStep}
+use Rattle.verdict.specs.Verdicts.{ReachesState, ReachesOccurrence}
 use Rattle.verdict.specs.CoverPlaces.{listAt, base, offset, offsets, numbered, offsets-exactly, offset-below, split-below, state-below}
 use Rattle.verdict.specs.CoverMoves.{Moved, moves-back, moves-exactly}
 use Rattle.verdict.specs.CoverEnds.{Ended, ends-back, ends-exactly}

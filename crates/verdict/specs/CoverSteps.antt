@@ -12,7 +12,8 @@ use lib.Pow.{pow-add}
 use borrow.Author.Tests.{le-leb, lt-leb}
 use Rattle.theory.specs.Places.{member, one, union, intersection, when}
 use Rattle.places.specs.UnionLaws.{union-assoc}
-use Rattle.verdict.specs.Cover.{Rewritten, nextState, occurrences, entered, movedWithin, passed, finished}
+use Rattle.finding.specs.Rewritten.{Rewritten, nextState}
+use Rattle.verdict.specs.Cover.{occurrences, entered, movedWithin, passed, finished}
 use Rattle.verdict.specs.Tables.{automatonAt, automataFrom, Counted}
 use Rattle.verdict.specs.TablesLaws.{occurrences-at, follow-at, enter-at}
 

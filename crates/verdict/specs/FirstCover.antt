@@ -15,7 +15,8 @@ use Rattle.theory.specs.Closure.{Reaches}
 use Rattle.theory.specs.ClosureLaws.{closed-under, closure-below, closure-exactly}
 use Rattle.theory.specs.Automaton.{Automaton}
 use Rattle.places.specs.Words.{numberOf}
-use Rattle.verdict.specs.Cover.{Rewritten, places, ends, settled, coverStart}
+use Rattle.finding.specs.Rewritten.{Rewritten}
+use Rattle.verdict.specs.Cover.{places, ends, settled, coverStart}
 use Rattle.verdict.specs.Tables.{automataOf, occupied, rewritten, Counted, Proper}
 use Rattle.verdict.specs.CoverBounds.{ends-below}
 use Rattle.verdict.specs.CoverPlaces.{split-below, split-unique}

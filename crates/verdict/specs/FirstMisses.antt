@@ -16,9 +16,8 @@ use Rattle.theory.specs.Rewriting.{Missed, FirstMissed, Complete}
 use Rattle.theory.specs.Automaton.{Automaton, glushkov}
 use Rattle.theory.specs.Exploration.{Entry}
 use Rattle.theory.specs.Explored.{valueAt, wordAt, Explored}
-use Rattle.verdict.specs.Cover.{Rewritten}
+use Rattle.finding.specs.Rewritten.{Rewritten, Decides}
 use Rattle.verdict.specs.Pairs.{Pair, misses, firstMissed}
-use Rattle.verdict.specs.Verdicts.{Decides}
 use Rattle.verdict.specs.CoverReached.{automata}
 use Rattle.verdict.specs.PairLaws.{pairOf, jobPairs}
 use Rattle.verdict.specs.PairCounts.{pair-reached, reached-pair}

@@ -18,7 +18,7 @@ use Rattle.finding.specs.RowsFit.{RowsFit}
 use Rattle.finding.specs.FindLaws.{find-finds}
 use Rattle.verdict.specs.Verdict.{verdict}
 use Rattle.verdict.specs.VerdictJob.{verdictFound, verdictJob}
-use Rattle.verdict.specs.VerdictJobLaws.{finds-decides}
+use Rattle.finding.specs.RewrittenLaws.{finds-decides}
 use Rattle.verdict.specs.Tables.{automatonAt, automataFrom, automataOf, rewritten}
 use Rattle.verdict.specs.TablesLaws.{follow-at}
 use Rattle.verdict.specs.PairsTold.{lent}

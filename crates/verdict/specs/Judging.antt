@@ -14,7 +14,8 @@ use Rattle.theory.specs.Exploration.{Entry, all, over}
 use Rattle.theory.specs.Explored.{entryAt}
 use Rattle.syntax.specs.declared.refusal.Refusal.the-variants.{TooManyPlaces, TooManyPairs}
 use Rattle.places.specs.Words.{numberOf}
-use Rattle.verdict.specs.Cover.{Rewritten, width, places, yielding}
+use Rattle.finding.specs.Rewritten.{Rewritten}
+use Rattle.verdict.specs.Cover.{width, places, yielding}
 use Rattle.verdict.specs.Pairs.{Pair, pairs, firstMissed}
 use Rattle.verdict.specs.Tables.{automatonAt, automataOf, occupied, rewritten}
 use Rattle.verdict.specs.TablesLaws.{width-exactly}

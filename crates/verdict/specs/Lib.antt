@@ -86,3 +86,4 @@ pub mod Judging
 pub mod VerdictOperation
 pub mod GivenTables
 pub mod VerdictOperationLaws
+pub mod VerdictSmall

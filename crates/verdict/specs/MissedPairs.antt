@@ -17,9 +17,9 @@ use Rattle.theory.specs.PlacesLaws.{member-none, member-one, member-union, memb
 use Rattle.theory.specs.Automaton.{glushkov, standing, accepts}
 use Rattle.theory.specs.Glushkov.{glushkov-accepts}
 use Rattle.finding.specs.Finds.{followed}
-use Rattle.verdict.specs.Cover.{Rewritten, width, yielding}
+use Rattle.finding.specs.Rewritten.{Rewritten, Decides}
+use Rattle.verdict.specs.Cover.{width, yielding}
 use Rattle.verdict.specs.Pairs.{misses}
-use Rattle.verdict.specs.Verdicts.{Decides}
 use Rattle.verdict.specs.CoverReached.{automata, coverOf, cover-state, reached-below}
 use Rattle.verdict.specs.PairLaws.{pairOf}
 

@@ -20,7 +20,8 @@ use Rattle.theory.specs.Automaton.{Automaton, accepts}
 use Rattle.theory.specs.Exploration.{System, Entry}
 use Rattle.theory.specs.Explored.{entryAt}
 use Rattle.places.specs.Words.{numberOf}
-use Rattle.verdict.specs.Cover.{Rewritten, width, yielding}
+use Rattle.finding.specs.Rewritten.{Rewritten}
+use Rattle.verdict.specs.Cover.{width, yielding}
 use Rattle.verdict.specs.CoverTold.{Gains}
 use Rattle.verdict.specs.Coded.{Layout, plain, turned, Sided, StandsAs, Coded}
 use Rattle.verdict.specs.MissedPairs.{member-yielding}

@@ -17,9 +17,10 @@ use Rattle.theory.specs.Automaton.{Automaton, glushkov, step, standingFrom, sta
 use Rattle.theory.specs.Exploration.{Entry, all, over, run}
 use Rattle.theory.specs.Explored.{Tests, Reached, entryAt, valueAt, wordAt, Explored, Exceeds}
 use Rattle.theory.specs.ExplorationLaws.{explored, over-exactly}
-use Rattle.verdict.specs.Cover.{Rewritten, coverStart, coverStep}
+use Rattle.finding.specs.Rewritten.{Rewritten, Decides}
+use Rattle.verdict.specs.Cover.{coverStart, coverStep}
 use Rattle.verdict.specs.Pairs.{Pair, samePair, pairSystem, pairs}
-use Rattle.verdict.specs.Verdicts.{Decides, DistinctPairs, CountsPairs}
+use Rattle.verdict.specs.Verdicts.{DistinctPairs, CountsPairs}
 use Rattle.verdict.specs.CoverReached.{automata}
 use Rattle.verdict.specs.PairLaws.{pairOf, jobPairs, pair-exactly}
 

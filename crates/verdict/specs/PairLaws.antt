@@ -1,6 +1,6 @@
 -- Two paths lead to one pair of numbers exactly when they have the same pair (document 01): the same query standing, and the same cover
 -- places reached.
-use Prim.Native.Nat.{ℕ, _≤_, _<_}
+use Prim.Native.Nat.{ℕ, suc, _≤_, _<_}
 use mathlib.Core.List.{[]}
 use mathlib.Core.Logic.{_↔_, Iff·trans, Iff·symm}
 use mathlib.Core.Path.{_≡_, sym, ap, subst}
@@ -15,9 +15,9 @@ use Rattle.theory.specs.Counting.{pigeonhole}
 use Rattle.theory.specs.Automaton.{glushkov, standing}
 use Rattle.theory.specs.Glushkov.{glushkov-same}
 use Rattle.theory.specs.Exploration.{System}
-use Rattle.verdict.specs.Cover.{Rewritten}
+use Rattle.finding.specs.Rewritten.{Rewritten, Decides}
 use Rattle.verdict.specs.Pairs.{Pair, pairSystem}
-use Rattle.verdict.specs.Verdicts.{Decides, ReachesState, ReachesOccurrence, SamePair, DistinctPairs, CountsPairs}
+use Rattle.verdict.specs.Verdicts.{ReachesState, ReachesOccurrence, SamePair, DistinctPairs, CountsPairs}
 use Rattle.verdict.specs.CoverPlaces.{listAt}
 use Rattle.verdict.specs.CoverMeaning.{Held, alone, within, reading-occurrence, reading-inside}
 use Rattle.verdict.specs.CoverReached.{automata, coverOf, cover-exactly, cover-state, cover-occurrence}
@@ -66,6 +66,10 @@ distinct-at-most {J} {R} {m} {n} d c =
 
 pub counts-unique : {J : Job} {R : Rewritten} {m n : ℕ} → CountsPairs J R m → CountsPairs J R n → m ≡ n
 counts-unique c d = omega (arith, distinct-at-most (c .some) d, distinct-at-most (d .some) c)
+
+-- A count within the allowance and refusal 13 exclude each other.
+pub counted-few : {J : Job} {R : Rewritten} {n allowance : ℕ} → CountsPairs J R n → n ≤ allowance → ¬ DistinctPairs J R (suc allowance)
+counted-few c h d = omega (arith, distinct-at-most d c)
 
 module _ (J : Job) (R : Rewritten) (decides : Decides J R) where
   cover-same : (p r : Path) → SamePair J R p r → coverOf J R p ≡ coverOf J R r

@@ -1,6 +1,6 @@
 -- Pairs (document 01): of a path over the job's labels, its query standing with the set of cover places that it reaches; by exploration.
 use Prim.Native.Nat.{ℕ}
-use mathlib.Core.Bool.{Bool, true, false, _&&_, not}
+use mathlib.Core.Bool.{Bool, true, false, _&&_}
 use mathlib.Core.List.{List, [], _∷_, reverse}
 use mathlib.Core.Option.{Option, some, none}
 use lib.Dec.{eqb}
@@ -8,7 +8,8 @@ use Rattle.theory.specs.Path.{Path}
 use Rattle.theory.specs.Places.{one, intersection}
 use Rattle.theory.specs.Automaton.{Automaton, step, accepts}
 use Rattle.theory.specs.Exploration.{System, Entry, Exploration, explore}
-use Rattle.verdict.specs.Cover.{Rewritten, width, coverStart, coverStep, yielding}
+use Rattle.finding.specs.Rewritten.{Rewritten}
+use Rattle.verdict.specs.Cover.{width, coverStart, coverStep, yielding}
 
 pub record Pair : Type 0 where
   pub standing : ℕ

@@ -11,7 +11,8 @@ use Rattle.theory.specs.PlacesLaws.{member-none, member-one, member-test, membe
 use Rattle.theory.specs.Closure.{Reaches, here, onward}
 use Rattle.theory.specs.ClosureLaws.{closed-under, reaches-step}
 use Rattle.theory.specs.Automaton.{Automaton}
-use Rattle.verdict.specs.Cover.{Rewritten, width, passed, finished, ends}
+use Rattle.finding.specs.Rewritten.{Rewritten}
+use Rattle.verdict.specs.Cover.{width, passed, finished, ends}
 use Rattle.verdict.specs.Tables.{automataFrom, automataOf, occupied, rewritten, Counted}
 use Rattle.verdict.specs.TablesLaws.{width-exactly}
 use Rattle.verdict.specs.CoverSteps.{finished-here, finished-next, passed-next}

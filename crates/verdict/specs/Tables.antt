@@ -7,7 +7,7 @@ use mathlib.Core.Path.{_≡_}
 use lib.ListN.{length, getD, take, drop}
 use Rattle.theory.specs.Automaton.{Automaton}
 use Rattle.finding.specs.Plain.{plain}
-use Rattle.verdict.specs.Cover.{Rewritten}
+use Rattle.finding.specs.Rewritten.{Rewritten}
 
 module _ (follow enter sizes accepting : List ℕ) where
   -- The automaton of expression x.

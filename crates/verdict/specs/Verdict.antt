@@ -10,7 +10,8 @@ use Rattle.theory.specs.Automaton.{Automaton}
 use Rattle.theory.specs.Exploration.{Exploration, all, over}
 use Rattle.syntax.specs.declared.refusal.Refusal.{Refusal}
 use Rattle.syntax.specs.declared.refusal.Refusal.the-variants.{TooManyPlaces, TooManyPairs}
-use Rattle.verdict.specs.Cover.{Rewritten, places}
+use Rattle.finding.specs.Rewritten.{Rewritten}
+use Rattle.verdict.specs.Cover.{places}
 use Rattle.verdict.specs.Pairs.{pairs, firstMissed}
 
 abbrev pub mostPlaces : ℕ

@@ -3,13 +3,9 @@ use Prim.Native.Nat.{ℕ}
 use mathlib.Core.List.{map}
 use Rattle.theory.specs.Job.{Job}
 use Rattle.theory.specs.Automaton.{glushkov}
-use Rattle.finding.specs.Find.{Rewriting, Found, found, find}
-use Rattle.verdict.specs.Cover.{Rewritten}
+use Rattle.finding.specs.Find.{Found, found, find}
+use Rattle.finding.specs.Rewritten.{rewritten}
 use Rattle.verdict.specs.Verdict.{Verdict, refused, verdict, mostPlaces}
-
--- What Find gives, as the plain data of a rewriting.
-abbrev pub rewritten : Rewriting → Rewritten
-rewritten R = record { states = R .states; table = R .table; flags = R .flags }
 
 -- The verdict on what Find gives.
 abbrev pub verdictFound : Job → ℕ → Found → Verdict

@@ -1,45 +1,21 @@
 -- What a verdict on a job means (demand 3, second part): T6 on the rewriting that Find gives.
-use Prim.Native.Nat.{ℕ, _+_, _*_, _≤_, _<_}
-use mathlib.Core.List.{List, [], _∷_, _++_}
+use Prim.Native.Nat.{ℕ, _≤_, _<_}
 use mathlib.Core.Logic.{_⊎_, inl, inr}
 use mathlib.Core.Path.{_≡_, refl, sym, _∙_, ap, subst}
-use lib.ListN.{length, getD}
-use Rattle.theory.specs.Path.{Path, nothing, next}
-use Rattle.theory.specs.Word.{Word}
+use lib.ListN.{length}
+use Rattle.theory.specs.Path.{Path}
 use Rattle.theory.specs.Job.{Job, WellFormed}
 use Rattle.theory.specs.Rewriting.{Complete, FirstMissed}
-use Rattle.theory.specs.PathsBelow.{below-append}
 use Rattle.syntax.specs.declared.refusal.Refusal.{Refusal}
 use Rattle.syntax.specs.declared.refusal.Refusal.the-variants.{TooManyStandings, TooManyStates}
 use Rattle.finding.specs.Find.{Rewriting, Found, found, find}
-use Rattle.finding.specs.Finds.{followed, Finds, DistinctStandings, DistinctStates}
+use Rattle.finding.specs.Finds.{DistinctStandings, DistinctStates}
 use Rattle.finding.specs.FindLaws.{find-finds, find-standings, find-states, find-refusals}
+use Rattle.finding.specs.Rewritten.{rewritten}
+use Rattle.finding.specs.RewrittenLaws.{finds-decides}
 use Rattle.verdict.specs.Verdict.{Verdict, complete, missed, refused, mostPlaces}
-use Rattle.verdict.specs.Verdicts.{Decides}
 use Rattle.verdict.specs.VerdictLaws.{Told, over-places, over-pairs, all-yielded, first-missed, verdict-told}
-use Rattle.verdict.specs.VerdictJob.{rewritten, verdictFound, verdictJob}
-
-pub followed-append : (table : List ℕ) (s : ℕ) (w v : Word) → followed table s (w ++ v) ≡ followed table (followed table s w) v
-unfolding followed
-followed-append table s [] v = refl
-followed-append table s (a ∷ w) v = followed-append table (getD table (16 * s + a) 0) w v
-
--- The table that Find gives is complete, and its accepted words are the job's.
-pub finds-decides : (J : Job) (R : Rewriting) → Finds J R → Decides J (rewritten R)
-unfolding followed
-finds-decides J R F =
-    record {
-      some-state = F .within [] nothing;
-      next = onward;
-      accepted = F .accepted;
-    }
-  where
-    onward : (q v : ℕ) → q < R .states → v < length (J .lists) → getD (R .table) (16 * q + v) 0 < R .states
-    onward q v h k =
-        let (b, e) = F .reached q h in
-        let one : followed (R .table) 0 (F .word q ++ (v ∷ [])) ≡ getD (R .table) (16 * q + v) 0
-        = followed-append (R .table) 0 (F .word q) (v ∷ []) ∙ ap (λ s. getD (R .table) (16 * s + v) 0) e in
-        subst (λ n. n < R .states) one (F .within (F .word q ++ (v ∷ [])) (below-append b (next k nothing)))
+use Rattle.verdict.specs.VerdictJob.{verdictFound, verdictJob}
 
 -- What each answer tells of the job, Find's refusals included.
 pub data JobTold (J : Job) (allowance : ℕ) : Verdict → Type 0 where

@@ -19,10 +19,11 @@ use Rattle.theory.specs.Rewriting.{Missed, FirstMissed, Complete}
 use Rattle.theory.specs.Automaton.{Automaton, glushkov}
 use Rattle.theory.specs.Exploration.{Entry, Exploration, all, over}
 use Rattle.syntax.specs.declared.refusal.Refusal.the-variants.{TooManyPlaces, TooManyPairs}
-use Rattle.verdict.specs.Cover.{Rewritten, places}
+use Rattle.finding.specs.Rewritten.{Rewritten, Decides}
+use Rattle.verdict.specs.Cover.{places}
 use Rattle.verdict.specs.Pairs.{Pair, pairs, firstMissed}
 use Rattle.verdict.specs.Verdict.{Verdict, complete, missed, refused, verdict}
-use Rattle.verdict.specs.Verdicts.{Decides, DistinctPairs, CountsPairs, coverPlaces}
+use Rattle.verdict.specs.Verdicts.{DistinctPairs, CountsPairs, coverPlaces}
 use Rattle.verdict.specs.CoverPlaces.{offsets-exactly}
 use Rattle.verdict.specs.CoverReached.{automata}
 use Rattle.verdict.specs.PairCounts.{pairs-over, pairs-explored, pairs-count}

@@ -2,18 +2,20 @@
 -- the named parts, every other refusal changes nothing, and what lies beyond the named parts never changes.
 use Prim.Native.Nat.{ℕ, _*_, _≤_}
 use mathlib.Core.Bool.{Bool, true, false, _&&_}
-use mathlib.Core.List.{List, [], map}
+use mathlib.Core.List.{List, [], _∷_, map}
 use mathlib.Core.Path.{_≡_}
 use lib.Dec.{leb}
 use lib.ListN.{length, getD, take}
 use Rattle.theory.specs.Job.{Job, WellFormed}
 use Rattle.theory.specs.Automaton.{glushkov}
 use Rattle.syntax.specs.Byte.{Bytes}
+use Rattle.syntax.specs.Reply.{Reply, given, refusing}
 use Rattle.syntax.specs.declared.refusal.Refusal.the-variants.{BadAllowance, BufferTooShort}
 use Rattle.reading.specs.JobText.{jobOf}
 use Rattle.reading.specs.Read.{Reading, job, read}
 use Rattle.finding.specs.Find.{Rewriting, found, find}
-use Rattle.finding.specs.Outcome.{tablePart, flagsPart, cleared, written, Outcome as Finds, leftBy as findLeft}
+use Rattle.finding.specs.Outcome.{Leaving, leftBy as findLeft}
+use Rattle.finding.specs.Named.{tablePart, flagsPart, cleared, written}
 use Rattle.finding.specs.ListRows.{jobTables}
 use Rattle.finding.specs.StatesPart.{Holding}
 use Rattle.verdict.specs.declared.operation.VerdictAnswer.{VerdictAnswer}
@@ -23,9 +25,15 @@ use Rattle.verdict.specs.Verdict.{Verdict, complete, missed, refused}
 use Rattle.verdict.specs.VerdictJob.{verdictJob}
 use Rattle.verdict.specs.VerdictTold.{toldOf, PathAfter}
 
+-- The reply that an answer is: the number of distinct pairs and, where a path is missed, its length.
+abbrev pub verdictReply : VerdictAnswer → Reply
+verdictReply (Complete pairs) = given (pairs ∷ [])
+verdictReply (Missed size pairs) = given (pairs ∷ (size ∷ []))
+verdictReply (Refused r n) = refusing r n
+
 -- What is told, and what the lent buffers hold.
 pub record Outcome : Type 0 where
-  pub answer : VerdictAnswer
+  pub reply : Reply
   pub table : List ℕ
   pub flags : List ℕ
   pub path : List ℕ
@@ -33,7 +41,7 @@ pub record Outcome : Type 0 where
 
 abbrev pub left : VerdictAnswer → (table flags path workspace : List ℕ) → Outcome
 left answer table flags path workspace =
-    record { answer = answer; table = table; flags = flags; path = path; workspace = workspace }
+    record { reply = verdictReply answer; table = table; flags = flags; path = path; workspace = workspace }
 
 abbrev pub mostAllowance : ℕ
 mostAllowance = 4096
@@ -43,7 +51,7 @@ abbrev pub pairWords : ℕ → ℕ
 pairWords allowance = 18 * allowance
 
 -- What a verdict leaves of buffers that are long enough; F is what Find leaves of the first two.
-abbrev pub leftBy : Verdict → Finds → ℕ → (table flags path workspace : List ℕ) → Outcome
+abbrev pub leftBy : Verdict → Leaving → ℕ → (table flags path workspace : List ℕ) → Outcome
 leftBy (complete n) F allowance table flags path workspace =
     left (Complete n) (F .table) (F .flags) (cleared allowance path) (cleared (pairWords allowance) workspace)
 leftBy (missed p n) F allowance table flags path workspace =

@@ -14,8 +14,8 @@ use Rattle.theory.specs.Automaton.{glushkov}
 use Rattle.syntax.specs.Byte.{Bytes}
 use Rattle.syntax.specs.declared.refusal.Refusal.{Refusal}
 use Rattle.syntax.specs.declared.refusal.Refusal.the-variants.{BadAllowance, BufferTooShort}
-use Rattle.reading.specs.declared.answer.Answer.{Answer}
-use Rattle.reading.specs.declared.answer.Answer.the-variants.{Job as Jobs, Refused as Refuses}
+use Rattle.reading.specs.declared.answer.ReadAnswer.{ReadAnswer}
+use Rattle.reading.specs.declared.answer.ReadAnswer.the-variants.{Job as Jobs, Refused as Refuses}
 use Rattle.reading.specs.JobText.{NamedJob, jobOf}
 use Rattle.reading.specs.Read.{Reading, job, read}
 use Rattle.reading.specs.ReadFacts.{read-facts}
@@ -28,10 +28,10 @@ use Rattle.finding.specs.Find.{Rewriting, Found, found, find, findAutomata, ref
 use Rattle.finding.specs.FoundSizes.{job-sizes}
 use Rattle.finding.specs.RowsFit.{RowsFit}
 use Rattle.finding.specs.Padded.{cleared-front, cleared-behind}
-use Rattle.finding.specs.Outcome.{cleared, written, left as findLeft, leftBy as findLeftBy}
-use Rattle.finding.specs.StatesPart.{Room}
+use Rattle.finding.specs.Outcome.{left as findLeft, leftBy as findLeftBy}
+use Rattle.finding.specs.Named.{cleared, written}
 use Rattle.finding.specs.CoreTold.{CoreTold}
-use Rattle.finding.specs.Operation.{holding}
+use Rattle.finding.specs.Operation.{job-told, holding}
 use Rattle.verdict.specs.declared.operation.VerdictAnswer.{VerdictAnswer}
 use Rattle.verdict.specs.declared.operation.VerdictAnswer.the-variants.{Complete, Missed, Refused}
 use Rattle.verdict.specs.declared.verdict.Told.{Told}
@@ -99,20 +99,12 @@ module _ {J : Job} {follow enter sizes accepting : List ℕ} {labels lists : ℕ
             written-behind 256 (R .flags) flags (omega (arith, s .flags, s .few-states)),
           )
 
-module _ {follow enter sizes accepting : List ℕ} {labels lists allowance : ℕ} {table flags path workspace : List ℕ}
-    (z : Sized allowance table flags path workspace) {f : FindAnswer} {table₁ flags₁ : List ℕ}
+module _ {follow enter sizes accepting : List ℕ} {labels lists : ℕ} {table flags : List ℕ} {f : FindAnswer} {table₁ flags₁ : List ℕ}
     (core : CoreTold follow enter sizes accepting labels lists 64 256 table flags f table₁ flags₁) where
   both-left : (J : Job) → JobGiven J follow enter sizes accepting labels lists → findLeft f table₁ flags₁ ≡ findLeftBy (find J) table flags
   unfolding find
   both-left J g =
-      let room : Room labels lists 256 table flags = record {
-        labels = g .few-labels;
-        lists = g .few-lists;
-        states = omega arith;
-        table = z .table-room;
-        flags = z .flags-room;
-      } in
-      core .told room (omega arith) (glushkov (J .query)) (map glushkov (J .lists)) (g .holding)
+      core .told (glushkov (J .query)) (map glushkov (J .lists)) (g .holding)
       ∙ ap (λ k. findLeftBy (findAutomata (glushkov (J .query)) k (map glushkov (J .lists)) 64 256) table flags) (sym (g .labels-told))
 
   buffers-left : (J : Job) → JobGiven J follow enter sizes accepting labels lists
@@ -140,11 +132,11 @@ module _ {follow enter sizes accepting : List ℕ} {labels lists allowance : ℕ
       let (R, q, s) = found-states (S .given-job) (S .given) e in
       omega (arith, job-sizes (S .given-job) R q .few-states)
 
-  pub found-judged : {m n : ℕ} {r : Told} {path₁ workspace₁ : List ℕ} → f .finding ≡ Finding m n
+  pub found-judged : {allowance m n : ℕ} {r : Told} {path workspace path₁ workspace₁ : List ℕ} → f .finding ≡ Finding m n
       → FoundTold follow enter sizes accepting labels lists n table₁ flags₁ allowance path workspace r path₁ workspace₁
       → FindTold follow enter sizes accepting labels lists allowance table flags path workspace r table₁ flags₁ path₁ workspace₁
   unfolding findLeftBy
-  found-judged {n = n} {r = r} {path₁ = path₁} e t =
+  found-judged {allowance} {n = n} {r = r} {path = path} {path₁ = path₁} e t =
       record { told = judging; found-left = buffers-left; beyond = t .beyond }
     where
       judging : (J : Job) → JobGiven J follow enter sizes accepting labels lists
@@ -160,11 +152,11 @@ module _ {follow enter sizes accepting : List ℕ} {labels lists allowance : ℕ
           (ap (take n) (b ∙ ap (λ x. findLeftBy x table flags .flags) q)
           ∙ written-front 256 n (R .flags) flags (omega (arith, sized .flags)))
 
-  pub found-refused : {q : Refusal} {n : ℕ} → f .finding ≡ Unfound q n
+  pub found-refused : {q : Refusal} {allowance n : ℕ} {path workspace : List ℕ} → f .finding ≡ Unfound q n
       → FindTold follow enter sizes accepting labels lists allowance table flags path workspace (Told.Refused q)
       table₁ flags₁ path workspace
   unfolding findLeftBy verdictJob
-  found-refused {q} {n} e =
+  found-refused {q} {allowance} {n} {path = path} e =
       record { told = λ J g. refusing J g (find J) refl; found-left = buffers-left; beyond = λ j h. refl }
     where
       refusing : (J : Job) → JobGiven J follow enter sizes accepting labels lists → (x : Found) → find J ≡ x
@@ -245,13 +237,7 @@ module _ {J : Job} {follow enter sizes accepting : List ℕ} {labels lists : ℕ
 
 -- A text that is read.
 
-job-told : (x : Reading) {labels lists : ℕ} → answerOf x ≡ Jobs labels lists
-    → (J : NamedJob) × (x ≡ job J) × (length (J .labels) ≡ labels) × (length (J .listNames) ≡ lists)
-job-told (job J) e = (J, refl, cc, cc)
-job-told (Reading.refused r n) e = clash (cc)
-
-module _ (text : Bytes) {a : Answer} {T : Tables} (l : Loaded text a T) {allowance : ℕ} {table flags path workspace : List ℕ}
-    (z : Sized allowance table flags path workspace) where
+module _ (text : Bytes) {a : ReadAnswer} {T : Tables} (l : Loaded text a T) where
   read-given : {labels lists : ℕ} → a ≡ Jobs labels lists
       → (J : NamedJob) × (read text ≡ job J) × JobGiven (jobOf J) (T .follow) (T .enter) (T .sizes) (T .accepting) labels lists
   read-given {labels} {lists} e =
@@ -263,7 +249,7 @@ module _ (text : Bytes) {a : Answer} {T : Tables} (l : Loaded text a T) {allowan
         lists-told = f .as-many;
         few-lists = f .few-lists;
         formed = f .well-formed;
-        holding = holding text table flags (z .table-room) (z .flags-room) a T l J q;
+        holding = holding text l J q;
       } in (
         J,
         q,
@@ -274,25 +260,26 @@ module _ (text : Bytes) {a : Answer} {T : Tables} (l : Loaded text a T) {allowan
   pub some-job : {labels lists : ℕ} → a ≡ Jobs labels lists → SomeJob (T .follow) (T .enter) (T .sizes) (T .accepting) labels lists
   some-job e = let (J, q, g) = read-given e in record { given-job = jobOf J; given = g }
 
-  pub read-judged : {labels lists : ℕ} {o : Outcome} → a ≡ Jobs labels lists
-      → ((J : Job) → JobGiven J (T .follow) (T .enter) (T .sizes) (T .accepting) labels lists
-      → o ≡ leftByJob J allowance table flags path workspace)
-      → o ≡ leftByReading (read text) allowance table flags path workspace
-  read-judged e told =
-      let (J, q, g) = read-given e in
-      told (jobOf J) g ∙ ap (λ x. leftByReading x allowance table flags path workspace) (sym q)
+  module _ (allowance : ℕ) (table flags path workspace : List ℕ) where
+    pub read-judged : {labels lists : ℕ} {o : Outcome} → a ≡ Jobs labels lists
+        → ((J : Job) → JobGiven J (T .follow) (T .enter) (T .sizes) (T .accepting) labels lists
+        → o ≡ leftByJob J allowance table flags path workspace)
+        → o ≡ leftByReading (read text) allowance table flags path workspace
+    read-judged e told =
+        let (J, q, g) = read-given e in
+        told (jobOf J) g ∙ ap (λ x. leftByReading x allowance table flags path workspace) (sym q)
 
-  pub read-refused : {q : Refusal} {n : ℕ} → a ≡ Refuses q n
-      → left (Refused q n) table flags path workspace ≡ leftByReading (read text) allowance table flags path workspace
-  read-refused {q} {n} e = go (read text) (sym (l .answer) ∙ e)
-    where
-      go : (x : Reading) → answerOf x ≡ Refuses q n
-          → left (Refused q n) table flags path workspace ≡ leftByReading x allowance table flags path workspace
-      go (job J) p = clash (cc)
-      go (Reading.refused s m) p =
-          let i : q ≡ s = cc in
-          let j : n ≡ m = cc in
-          ap₂ (λ q n. left (Refused q n) table flags path workspace) i j
+    pub read-refused : {q : Refusal} {n : ℕ} → a ≡ Refuses q n
+        → left (Refused q n) table flags path workspace ≡ leftByReading (read text) allowance table flags path workspace
+    read-refused {q} {n} e = go (read text) (sym (l .answer) ∙ e)
+      where
+        go : (x : Reading) → answerOf x ≡ Refuses q n
+            → left (Refused q n) table flags path workspace ≡ leftByReading x allowance table flags path workspace
+        go (job J) p = clash (cc)
+        go (Reading.refused s m) p =
+            let i : q ≡ s = cc in
+            let j : n ≡ m = cc in
+            ap₂ (λ q n. left (Refused q n) table flags path workspace) i j
 
 -- The checks before reading.
 

@@ -1,5 +1,5 @@
 -- What a verdict means (demand 3, second part), for any complete table whose accepted words are the accepted words of the job.
-use Prim.Native.Nat.{ℕ, zero, suc, _+_, _*_, _≤_, _<_}
+use Prim.Native.Nat.{ℕ, suc, _+_, _*_, _<_}
 use mathlib.Core.List.{List, [], _∷_, _++_}
 use mathlib.Core.Logic.{_↔_}
 use mathlib.Core.Path.{_≡_}
@@ -9,16 +9,8 @@ use Rattle.theory.specs.Expression.{Expression, empty}
 use Rattle.theory.specs.Standing.{size, InStanding, SameStanding}
 use Rattle.theory.specs.Word.{Word}
 use Rattle.theory.specs.Job.{Job, IsWord, SpelledBy}
-use Rattle.theory.specs.Rewriting.{Accepted}
 use Rattle.finding.specs.Finds.{followed}
-use Rattle.verdict.specs.Cover.{Rewritten}
-
--- The table is complete: every state has a next one for each list, among R's states; and a word of the job ends at flag 1 exactly when it
--- is accepted.
-pub record Decides (J : Job) (R : Rewritten) : Type 0 where
-  pub some-state : 0 < R .states
-  pub next : (q v : ℕ) → q < R .states → v < length (J .lists) → getD (R .table) (16 * q + v) 0 < R .states
-  pub accepted : (w : Word) → IsWord J w → (getD (R .flags) (followed (R .table) 0 w) 0 ≡ 1) ↔ Accepted J w
+use Rattle.finding.specs.Rewritten.{Rewritten}
 
 -- A path reaches the state q: a list word of that state spells it.
 abbrev pub ReachesState : Job → Rewritten → Path → ℕ → Type 0

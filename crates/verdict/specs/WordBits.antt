@@ -13,7 +13,7 @@ use Rattle.theory.specs.Places.{Member, one}
 use Rattle.theory.specs.PlacesLaws.{member-none, member-zero, members-below}
 use Rattle.places.specs.Words.{numberOf, Words}
 use Rattle.places.specs.WordsLaws.{member-number}
-use Rattle.finding.specs.Outcome.{cleared}
+use Rattle.finding.specs.Named.{cleared}
 
 -- A bit of a word is the set of one place.
 pub one-bit : (q : ℕ) → q < 64 → (1 * 2 ^ q) % 2 ^ 64 ≡ one q

@@ -6,7 +6,7 @@ use finding::clear::clear_bytes;
 use finding::clear::clear_numbers;
 use finding::clear::clear_words;
 use finding::core::find_rows;
-use reading::Answer;
+use reading::ReadAnswer;
 use reading::lists_at_most;
 use reading::load_rows;
 use syntax::Refusal;
@@ -194,8 +194,8 @@ fn verdict_in(
     let mut accepting = [0; 17];
     let told = load_rows(text, &mut names, follow, enter, &mut sizes, &mut accepting);
     match told {
-        Answer::Refused(refusal, line) => VerdictAnswer::Refused(refusal, line),
-        Answer::Job(labels, lists) => job_verdict(
+        ReadAnswer::Refused(refusal, line) => VerdictAnswer::Refused(refusal, line),
+        ReadAnswer::Job(labels, lists) => job_verdict(
             labels,
             lists,
             follow,

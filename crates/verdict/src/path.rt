@@ -5,7 +5,7 @@ ghost use lib.ListN.{getD};
 ghost use Rattle.verdict.specs.PathTold.{DepthTold, PathWritten};
 
 // How the pair number i was reached; 0 where there is no such pair.
-pub fn link(workspace: &[u64], i: usize) -> u64
+fn link(workspace: &[u64], i: usize) -> u64
     ensures { λ r. ⌜ r ≡ getD (now (workspace .entry)) (18 * i + 17) 0 ⌝ }
 {
     if i < workspace.len() / 18 {

@@ -16,7 +16,7 @@ pub fn step_at(follow: &[u64], enter: &[u64], v: usize, o: usize, a: usize) -> u
 }
 
 // The w lowest places of a word.
-pub fn lowest(word: u64, w: u64) -> u64
+fn lowest(word: u64, w: u64) -> u64
     requires { ⌜ (0 < w) × (w ≤ 64) ⌝ }
     ensures { λ r. ⌜ r ≡ word % 2 ^ w ⌝ }
 {

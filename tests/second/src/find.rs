@@ -67,7 +67,7 @@ pub fn find_by(turn: Turn, job: &Job) -> Result<Found, u8> {
 }
 
 /// The query standings after the paths of a list, read from one standing.
-fn after_list(query: &Standings, from: usize, list: &Automaton) -> BTreeSet<usize> {
+pub fn after_list(query: &Standings, from: usize, list: &Automaton) -> BTreeSet<usize> {
     let mut met = vec![vec![false; 1 + list.occurrences()]; query.count()];
     met[from][0] = true;
     let mut waiting = vec![(from, 0)];

@@ -12,17 +12,20 @@ use crate::verdict::Verdict;
 pub const TABLE_NUMBERS: usize = 4096;
 pub const TABLE_ROW: usize = 16;
 pub const FLAG_BYTES: usize = 256;
+/// The named part of the word that is lent to Find: no first word is longer,
+/// for there are at most 256 states.
+pub const WORD_BYTES: usize = 256;
 pub const MOST_ALLOWANCE: usize = 4096;
 pub const WORDS_FOR_A_PAIR: usize = 18;
 pub const WORDS_FOR_A_RECORDING_OF_LINKS: usize = 1;
 pub const WORDS_FOR_A_RECORDING_OF_LISTS: usize = 4;
 
-#[derive(Clone, Debug, PartialEq, Eq)]
+#[derive(Clone, Copy, Debug, PartialEq, Eq)]
 pub struct FindTold {
     pub standings: usize,
     pub states: usize,
-    /// The first accepted word as list numbers.
-    pub first: Option<Vec<usize>>,
+    /// The length of the first accepted word; none if no word is accepted.
+    pub first: Option<usize>,
 }
 
 #[derive(Clone, Copy, Debug, PartialEq, Eq)]
@@ -36,17 +39,24 @@ fn refusal(number: u8) -> Refusal {
     Refusal { number, line: 0 }
 }
 
-pub fn find(text: &[u8], table: &mut [u16], flags: &mut [u8]) -> Result<FindTold, Refusal> {
-    if table.len() < TABLE_NUMBERS || flags.len() < FLAG_BYTES {
+/// Find. The first accepted word stands in `word` as list numbers, with zeros
+/// behind it.
+pub fn find(text: &[u8], table: &mut [u16], flags: &mut [u8], word: &mut [u8]) -> Result<FindTold, Refusal> {
+    if table.len() < TABLE_NUMBERS || flags.len() < FLAG_BYTES || word.len() < WORD_BYTES {
         return Err(refusal(8));
     }
     let job = read(text)?;
 
     table[..TABLE_NUMBERS].fill(0);
     flags[..FLAG_BYTES].fill(0);
+    word[..WORD_BYTES].fill(0);
     let found = crate::find::find(&job).map_err(refusal)?;
     write_found(&found, table, flags);
-    Ok(FindTold { standings: found.standings, states: found.states.len(), first: found.first })
+    for (place, list) in found.first.iter().flatten().enumerate() {
+        word[place] = *list as u8;
+    }
+    let first = found.first.map(|word| word.len());
+    Ok(FindTold { standings: found.standings, states: found.states.len(), first })
 }
 
 /// Writes Find's table and flags over zeros.

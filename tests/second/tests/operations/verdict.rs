@@ -14,7 +14,7 @@ fn verdict_writes_its_buffers() {
             let told = verdict(text.as_bytes(), allowance, &mut table, &mut flags, &mut path, &mut words);
             assert!(zeroed(&words, 18 * allowance, WORD));
             let (mut numbers, mut bytes) = (vec![NUMBER; 4096 + more], vec![BYTE; 256 + more]);
-            find(text.as_bytes(), &mut numbers, &mut bytes).unwrap();
+            find(text.as_bytes(), &mut numbers, &mut bytes, &mut [0; 256]).unwrap();
             assert_eq!(table, numbers);
             assert_eq!(flags, bytes);
             (told.unwrap(), path.clone())

@@ -13,8 +13,8 @@ returns c =
     let at-few-places = c .before in
     λ h l. few-places (at-few-places .few-places .ensures (c .if1 .taken))
 
-standings-requires : tie.Need-standings-requires
-standings-requires c κs = search needs
+count-standings-requires : tie.Need-count-standings-requires
+count-standings-requires c κs = search needs
 
 enum-told : tie.Need-enum-told
 enum-told c = search needs
@@ -24,13 +24,13 @@ enum-told-2 c = search needs
 
 returns-2 : tie.Need-returns-2
 returns-2 c =
-    let at-standings = c .before .before in
-    λ h l. told-few (at-standings .standings .ensures h l (omega arith)) _ (c .enum-told .given .1)
+    let counts = c .before .before in
+    λ h l. told-few _ _ _ (counts .count-standings .ensures) h l _ (c .enum-told .given .1)
 
 returns-3 : tie.Need-returns-3
 returns-3 c =
-    let at-standings = c .before .before in
-    λ h l. told-many (at-standings .standings .ensures h l (omega arith)) (c .enum-told2 .given .1)
+    let counts = c .before .before in
+    λ h l. told-many _ _ _ (counts .count-standings .ensures) h l (c .enum-told2 .given .1)
 
 pub few-standings-spec : {M : Type 1} → statement M
 few-standings-spec =
@@ -38,7 +38,7 @@ few-standings-spec =
     (tie.spec
     few-places-requires
     returns
-    standings-requires
+    count-standings-requires
     enum-told
     enum-told-2
     returns-2

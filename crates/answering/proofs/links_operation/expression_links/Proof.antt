@@ -2,7 +2,7 @@
 use Prim.Native.Nat.{_+_, _*_, _-_}
 use lib.ListN.{getD}
 use Rattle.answering.specs.LinkReading.{table-in-range}
-use Rattle.answering.specs.LinksOperationLaws.{expression-none, expression-marked, expression-over}
+use Rattle.answering.specs.LinksOperationLaws.{expression-marked, expression-over}
 use native.Mathlib.Omega.{arith}
 use borrow.Author.Needs.{needs}
 use Rattle.answering.proofs.links_operation.expression_links.Statement.{statement}
@@ -13,9 +13,6 @@ mul-size c = search needs
 
 element-copy-out-size : tie.Need-element-copy-out-size
 element-copy-out-size c = search needs
-
-returns : tie.Need-returns
-returns c = expression-none (c .if1 .taken)
 
 mul-from : tie.Need-mul-from
 mul-from c = search needs
@@ -64,7 +61,7 @@ element-copy-out-mark-links c = search needs
 
 mark-links-requires : tie.Need-mark-links-requires
 mark-links-requires c κs =
-    let at-start = c .before .before .before .before .before .before .before .before .before .before .before .before .before in
+    let at-start = c .before .before .before .before .before .before .before .before .before .before .before .before in
     let a = at-start .args in
     (table-in-range (a .labels) (a .recordings) (a .table .now) (at-start .pre .4), at-start .pre .5)
 
@@ -80,11 +77,11 @@ same-length c = search needs
 same-length-2 : tie.Need-same-length-2
 same-length-2 c = search needs
 
-returns-2 : tie.Need-returns-2
-returns-2 c =
+returns : tie.Need-returns
+returns c =
     let at-told = c .before in
     let at-mark-links = at-told .before .before .before .before .before .before in
-    let at-start = at-mark-links .before .before .before .before .before .before .before .before .before .before .before .before .before .before in
+    let at-start = at-mark-links .before .before .before .before .before .before .before .before .before .before .before .before .before in
     let a = at-start .args in
     let x = a .x in
     let size = getD (a .sizes .now) x 0 in
@@ -98,10 +95,10 @@ same-length-3 c = search needs
 same-length-4 : tie.Need-same-length-4
 same-length-4 c = search needs
 
-returns-3 : tie.Need-returns-3
-returns-3 c =
+returns-2 : tie.Need-returns-2
+returns-2 c =
     let at-mark-links = c .before .before .before .before .before .before in
-    let at-start = at-mark-links .before .before .before .before .before .before .before .before .before .before .before .before .before .before in
+    let at-start = at-mark-links .before .before .before .before .before .before .before .before .before .before .before .before .before in
     let a = at-start .args in
     let x = a .x in
     let size = getD (a .sizes .now) x 0 in
@@ -115,7 +112,6 @@ expression-links-spec =
     (tie.spec
     mul-size
     element-copy-out-size
-    returns
     mul-from
     add-to
     add-to-2
@@ -136,7 +132,7 @@ expression-links-spec =
     enum-told
     same-length
     same-length-2
-    returns-2
+    returns
     same-length-3
     same-length-4
-    returns-3)
+    returns-2)

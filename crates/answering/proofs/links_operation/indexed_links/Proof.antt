@@ -46,6 +46,7 @@ expression-links-requires c κs =
       sym (p .4) ∙ good,
       p .5 good,
       record { few = p .3 .few; begins = omega arith; marks-fit = p .3 .marks-fit; room = p .3 .room },
+      p .6 (at-start .args .chosen) (omega arith),
     )
 
 same-length : tie.Need-same-length

@@ -1,7 +1,8 @@
 -- `links_in` meets its contract: the text is refused, or the tables hold its job.
 use Rattle.answering.specs.AnswerJob.{linksJob}
 use Rattle.answering.specs.LinksOperation.{left}
-use Rattle.answering.specs.AnswerReading.{read-few, read-answered, read-refused}
+use Rattle.finding.specs.Operation.{read-few}
+use Rattle.answering.specs.AnswerReading.{read-sizes, read-answered, read-refused}
 use native.Mathlib.Omega.{arith}
 use borrow.Author.Needs.{needs}
 use Rattle.answering.proofs.links_operation.links_in.Statement.{statement}
@@ -25,6 +26,7 @@ job-links-requires c κs =
       b,
       record { queryFollow = omega (arith, r .1); queryEnter = omega (arith, r .2); listsFollow = λ h. r .1; listsEnter = λ h. r .2 },
       at-start .pre .1,
+      read-sizes (at-start .args .text .now) (at-load-rows .load-rows .ensures .0) told,
     )
 
 enum-known-told-2 : tie.Need-enum-known-told-2

@@ -14,7 +14,7 @@ returns c =
     let a = at-start .args in
     λ J w g.
     lists-bad-table J (a .recordings) (a .table .now) (a .start) (a .marks .now) (a .workspace .now)
-    (ap (λ k. isTable (a .recordings) k (a .table .now)) (g .lists-told) ∙ sym (at-start .pre .4) ∙ not-true _ (c .if1 .taken))
+    (ap (λ k. isTable (a .recordings) k (a .table .now)) (g .lists-told) ∙ sym (at-start .pre .5) ∙ not-true _ (c .if1 .taken))
 
 returns-2 : tie.Need-returns-2
 returns-2 c =
@@ -22,7 +22,7 @@ returns-2 c =
     let a = at-start .args in
     λ J w g.
     lists-bad-start J (a .recordings) (a .table .now) (a .start) (a .marks .now) (a .workspace .now)
-    (ap (λ k. isTable (a .recordings) k (a .table .now)) (g .lists-told) ∙ sym (at-start .pre .4) ∙ not-false _ (c .before .if1 .left))
+    (ap (λ k. isTable (a .recordings) k (a .table .now)) (g .lists-told) ∙ sym (at-start .pre .5) ∙ not-false _ (c .before .if1 .left))
     (omega arith)
 
 rewriting-lists-requires : tie.Need-rewriting-lists-requires
@@ -33,10 +33,11 @@ rewriting-lists-requires c κs =
     let good = not-false (at-start .args .fine) (at-if1 .if1 .left) in (
       p .0,
       p .1,
-      sym (p .4) ∙ good,
-      p .5 good,
+      sym (p .5) ∙ good,
+      p .6 good,
       record { few = p .2 .few; begins = omega arith; marks-fit = p .2 .marks-fit; room = p .2 .room },
       p .3,
+      p .4,
     )
 
 same-length : tie.Need-same-length
@@ -54,7 +55,7 @@ returns-3 c =
     let a = at-start .args in
     λ J w g.
     lists-marked-job J (a .recordings) (a .table .now) (a .start) (a .marks .now) (a .workspace .now)
-    (ap (λ k. isTable (a .recordings) k (a .table .now)) (g .lists-told) ∙ sym (at-start .pre .4) ∙ not-false _ (at-if1 .if1 .left))
+    (ap (λ k. isTable (a .recordings) k (a .table .now)) (g .lists-told) ∙ sym (at-start .pre .5) ∙ not-false _ (at-if1 .if1 .left))
     (at-if2 .if2 .left) (at-rewriting-lists .rewriting-lists .ensures J w g)
 
 pub indexed-lists-spec : {M : Type 1} → statement M

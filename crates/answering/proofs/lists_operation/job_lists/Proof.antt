@@ -19,7 +19,7 @@ indexed-lists-requires c κs =
     let at-index-table = c .before .before .before .before in
     let p = at-index-table .before .before .before .before .before .before .before .before .pre in
     let tested = at-index-table .index-table .ensures in
-    (p .0, p .1, p .2, p .3, tested .0, tested .1)
+    (p .0, p .1, p .2, p .3, p .4, tested .0, tested .1)
 
 same-length : tie.Need-same-length
 same-length c = search needs
@@ -46,7 +46,7 @@ indexed-lists-requires-2 c κs =
     let at-index-table = c .before .before .before .before in
     let p = at-index-table .before .before .before .before .before .before .before .before .pre in
     let tested = at-index-table .index-table2 .ensures in
-    (p .0, p .1, p .2, p .3, tested .0, tested .1)
+    (p .0, p .1, p .2, p .3, p .4, tested .0, tested .1)
 
 same-length-3 : tie.Need-same-length-3
 same-length-3 c = search needs

@@ -1,7 +1,8 @@
 -- `lists_in` meets its contract: the text is refused, or the tables hold its job.
+use Rattle.finding.specs.Operation.{read-few, holds-job}
 use Rattle.answering.specs.AnswerJob.{listsJob}
 use Rattle.answering.specs.ListsOperation.{listsLeft}
-use Rattle.answering.specs.AnswerReading.{read-few, read-answered, read-refused}
+use Rattle.answering.specs.AnswerReading.{read-answered, read-refused}
 use native.Mathlib.Omega.{arith}
 use borrow.Author.Needs.{needs}
 use Rattle.answering.proofs.lists_operation.lists_in.Statement.{statement}
@@ -25,6 +26,7 @@ job-lists-requires c κs =
       b,
       start .pre .1,
       record { queryFollow = omega (arith, r .1); queryEnter = omega (arith, r .2); listsFollow = λ h. r .1; listsEnter = λ h. r .2 },
+      holds-job (start .args .text .now) (at-load .load-rows .ensures .0) told,
     )
 
 enum-known-told-2 : tie.Need-enum-known-told-2

@@ -1,5 +1,5 @@
 -- `rewriting_lists` meets its contract: Find runs on zeroed memory, and what it tells and leaves there gives the marks.
-use mathlib.Core.Path.{refl}
+use native.Mathlib.Omega.{arith}
 use Rattle.finding.specs.Find.{find}
 use Rattle.answering.specs.LinkReading.{table-in-range}
 use Rattle.answering.specs.FoundTables.{found-given}
@@ -14,7 +14,11 @@ slice-aggregate-find-rows-2 : tie.Need-slice-aggregate-find-rows-2
 slice-aggregate-find-rows-2 c = search needs
 
 find-rows-requires : tie.Need-find-rows-requires
-find-rows-requires c κs = search needs
+find-rows-requires c κs =
+    let p = c .before .before .before .before .before .before .before .before .pre in (
+      p .5,
+      (record { labels = p .0; lists = p .1; states = omega arith; table = omega arith; flags = omega arith }, (omega arith, p .6)),
+    )
 
 slice-aggregate-finding-lists : tie.Need-slice-aggregate-finding-lists
 slice-aggregate-finding-lists c = search needs
@@ -41,7 +45,7 @@ returns c =
     let p = start .pre in
     λ J w g.
     at-finding-lists .finding-lists .ensures (find J)
-    (found-given J w g (p .0) (p .1) refl refl (at-find-rows .find-rows .ensures) (p .2))
+    (found-given J w g (p .1) (at-find-rows .find-rows .ensures) (p .2))
 
 pub rewriting-lists-spec : {M : Type 1} → statement M
 rewriting-lists-spec =

@@ -5,7 +5,7 @@ use mathlib.Core.List.{_++_}
 use mathlib.Core.Path.{_≡_, refl, sym, subst}
 use lib.ListN.{length, drop, length-set}
 use borrow.Author.Tests.{not-true, not-false}
-use Rattle.answering.specs.Product.{ones}
+use Rattle.answering.specs.Marked.{ones}
 use Rattle.answering.specs.Pairs.{row-below}
 use Rattle.answering.specs.Marks.{meets, marksOf, Markable}
 use Rattle.answering.specs.MarksSteps.{mark-at-most, marks-stored, marks-counted}

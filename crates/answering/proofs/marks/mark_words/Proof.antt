@@ -6,7 +6,7 @@ use mathlib.Core.Logic.{⊎-elim}
 use mathlib.Core.Path.{_≡_, refl, sym, ap, _∙_}
 use lib.ListN.{length, getD, drop, length-set}
 use Rattle.theory.specs.Places.{intersection}
-use Rattle.answering.specs.Product.{ones}
+use Rattle.answering.specs.Marked.{ones}
 use Rattle.answering.specs.MarksLaws.{markOf}
 use Rattle.answering.specs.Marks.{meets, marksOf}
 use Rattle.answering.specs.MarksSteps.{meets-word, mark-none, mark-some, marks-stored, marks-counted}

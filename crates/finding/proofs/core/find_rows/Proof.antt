@@ -35,11 +35,13 @@ returns : tie.Need-returns
 returns c =
     let matched = c .before .before .before .before .before .before .before .before .before .before in
     let explored = matched .before .before in
-    let a = explored .before .before .before .before .before .before .before .args in
+    let start = explored .before .before .before .before .before .before .before in
+    let a = start .args in
     let q = explored .query-standings in
     let s = c .before .before .before .before .find-states in
-    core-all (a .follow .now) (a .enter .now) (a .sizes .now) (a .accepting .now) (a .labels) (a .lists) (a .most-standings) (a .most-states)
-    (a .table .now) (a .marks .now) (q .result) (q .last .1 .1 .1 .1 .1 .0) (q .last .1 .1 .1 .1 .1 .1 .0) (q .ensures) _ (s .result)
+    core-all (a .follow .now) (a .enter .now) (a .sizes .now) (a .accepting .now) (a .labels) (a .lists) (a .most-standings)
+    (a .most-states) (a .table .now) (a .marks .now) (q .result) (q .last .1 .1 .1 .1 .1 .0) (q .last .1 .1 .1 .1 .1 .1 .0) (q .ensures)
+    (start .pre .1 .0) (start .pre .1 .1 .0) _ (s .result)
     (s .last .1 .1 .1 .1 .1 .1 .1 .1 .1 .1 .0) (s .last .1 .1 .1 .1 .1 .1 .1 .1 .1 .1 .1 .0) (matched .told .given .1) (s .ensures)
 
 same-length-3 : tie.Need-same-length-3
@@ -52,13 +54,15 @@ returns-2 : tie.Need-returns-2
 returns-2 c =
     let matched = c .before .before .before .before .before .before .before .before .before in
     let explored = matched .before .before in
-    let a = explored .before .before .before .before .before .before .before .args in
+    let start = explored .before .before .before .before .before .before .before in
+    let a = start .args in
     let q = explored .query-standings in
     let numbers = c .before .before .before .before .before .before .before .clear-numbers in
     let bytes = c .before .before .before .clear-bytes in
-    core-over (a .follow .now) (a .enter .now) (a .sizes .now) (a .accepting .now) (a .labels) (a .lists) (a .most-standings) (a .most-states)
-    (a .table .now) (a .marks .now) (q .result) (q .last .1 .1 .1 .1 .1 .0) (q .last .1 .1 .1 .1 .1 .1 .0) (q .ensures) (c .refused .result)
-    (numbers .last .0) (bytes .last .0) (matched .enum-told .given .1) (numbers .ensures .enough) (bytes .ensures .enough) (c .refused .ensures)
+    core-over (a .follow .now) (a .enter .now) (a .sizes .now) (a .accepting .now) (a .labels) (a .lists) (a .most-standings)
+    (a .most-states) (a .table .now) (a .marks .now) (q .result) (q .last .1 .1 .1 .1 .1 .0) (q .last .1 .1 .1 .1 .1 .1 .0) (q .ensures)
+    (start .pre .1 .0) (start .pre .1 .1 .0) (c .refused .result) (numbers .last .0) (bytes .last .0) (matched .enum-told .given .1)
+    (numbers .ensures .enough) (bytes .ensures .enough) (c .refused .ensures)
 
 pub find-rows-spec : {M : Type 1} → statement M
 find-rows-spec =

@@ -37,7 +37,7 @@ returns-2 c =
     let a = c .before .before .before .before .before .before .before .before .before .args in
     query-told (a .follow .now) (a .enter .now) (a .sizes .now) (a .labels) (a .limit) (c .standings .last .1 .1 .1 .1 .0)
     (c .standings .last .1 .1 .1 .1 .1 .0) (c .standings .result) (getD (a .sizes .now) 0 0 + 1) 32 (add-one _) refl
-    (λ k m. c .standings .ensures k (omega (arith, length-take 32 (a .enter .now))) m)
+    (λ k m. c .standings .ensures .0 k (omega (arith, length-take 32 (a .enter .now))) m)
 
 pub query-standings-spec : {M : Type 1} → statement M
 query-standings-spec =

@@ -1,6 +1,6 @@
 -- The code is the definition.
 use borrow.Author.Needs.{needs}
-use Rattle.finding.specs.FirstWords.{firstWord}
+use Rattle.finding.specs.WordTold.{firstWord}
 use Rattle.finding.proofs.first.no_word.Statement.{statement}
 use Rattle.finding.proofs.first.no_word.Tie as tie
 

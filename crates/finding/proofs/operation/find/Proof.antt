@@ -1,6 +1,8 @@
 -- The buffers are measured first; then Find runs in tables of four rows, of six or of 17.
+use mathlib.Core.Path.{ap}
 use native.Mathlib.Omega.{arith}
 use Rattle.reading.specs.RowRoom.{enough-rows, all-rows}
+use Rattle.finding.specs.Outcome.{told}
 use Rattle.finding.specs.Operation.{short-table, short-flags}
 use borrow.Author.Needs.{needs}
 use Rattle.finding.proofs.operation.find.Statement.{statement}
@@ -12,7 +14,7 @@ refused-requires c κs = search needs
 returns : tie.Need-returns
 returns c =
     let a = c .before .before .before .before .before .args in
-    short-table (a .text .now) (a .table .now) (a .marks .now) (c .refused .result) (c .before .if1 .taken) (c .refused .ensures)
+    ap told (short-table (a .text .now) (a .table .now) (a .marks .now) (c .refused .result) (c .before .if1 .taken) (c .refused .ensures))
 
 refused-requires-2 : tie.Need-refused-requires-2
 refused-requires-2 c κs = search needs
@@ -20,7 +22,7 @@ refused-requires-2 c κs = search needs
 returns-2 : tie.Need-returns-2
 returns-2 c =
     let a = c .before .before .before .before .before .before .args in
-    short-flags (a .text .now) (a .table .now) (a .marks .now) (c .refused2 .result) (c .before .if2 .taken) (c .refused2 .ensures)
+    ap told (short-flags (a .text .now) (a .table .now) (a .marks .now) (c .refused2 .result) (c .before .if2 .taken) (c .refused2 .ensures))
 
 lists-at-most-requires : tie.Need-lists-at-most-requires
 lists-at-most-requires c κs = search needs
@@ -47,7 +49,7 @@ same-length-2 : tie.Need-same-length-2
 same-length-2 c = search needs
 
 returns-3 : tie.Need-returns-3
-returns-3 c = c .before .before .before .before .before .before .find-in .ensures
+returns-3 c = ap told (c .before .before .before .before .before .before .find-in .ensures)
 
 slice-aggregate-find-in-3 : tie.Need-slice-aggregate-find-in-3
 slice-aggregate-find-in-3 c = search needs
@@ -71,7 +73,7 @@ same-length-4 : tie.Need-same-length-4
 same-length-4 c = search needs
 
 returns-4 : tie.Need-returns-4
-returns-4 c = c .before .before .before .before .before .before .find-in2 .ensures
+returns-4 c = ap told (c .before .before .before .before .before .before .find-in2 .ensures)
 
 slice-aggregate-find-in-5 : tie.Need-slice-aggregate-find-in-5
 slice-aggregate-find-in-5 c = search needs
@@ -94,7 +96,7 @@ same-length-6 : tie.Need-same-length-6
 same-length-6 c = search needs
 
 returns-5 : tie.Need-returns-5
-returns-5 c = c .before .before .before .before .before .before .find-in3 .ensures
+returns-5 c = ap told (c .before .before .before .before .before .before .find-in3 .ensures)
 
 pub find-spec : {M : Type 1} → statement M
 find-spec =

@@ -1,7 +1,7 @@
 -- The text is read into the tables, and Find runs on them.
 use native.Mathlib.Omega.{arith}
 use Rattle.reading.specs.Loading.{tables}
-use Rattle.finding.specs.Operation.{reading-refused, reading-found}
+use Rattle.finding.specs.Operation.{read-few, holds-job, reading-refused, reading-found}
 use borrow.Author.Needs.{needs}
 use Rattle.finding.proofs.operation.find_in.Statement.{statement}
 use Rattle.finding.proofs.operation.find_in.Tie as tie
@@ -22,8 +22,17 @@ find-rows-requires : tie.Need-find-rows-requires
 find-rows-requires c κs =
     let told = c .before .before .before .before .before .before .before in
     let loaded = told .before .before .before .before .before .before in
-    let r = loaded .load-rows .ensures .1 .rows _ _ (told .told2 .given .1) in
-    record { queryFollow = omega (arith, r .1); queryEnter = omega (arith, r .2); listsFollow = λ h. r .1; listsEnter = λ h. r .2 }
+    let start = loaded .before .before .before .before .before .before .before .before .before .before .before in
+    let text = start .args .text .now in
+    let e = told .told2 .given .1 in
+    let r = loaded .load-rows .ensures .1 .rows _ _ e in
+    let (few-labels, few-lists) = read-few text (loaded .load-rows .ensures .0) e in (
+      record { queryFollow = omega (arith, r .1); queryEnter = omega (arith, r .2); listsFollow = λ h. r .1; listsEnter = λ h. r .2 },
+      (
+        record { labels = few-labels; lists = few-lists; states = omega arith; table = start .pre .1; flags = start .pre .2 },
+        (omega arith, holds-job text (loaded .load-rows .ensures .0) e),
+      ),
+    )
 
 same-length : tie.Need-same-length
 same-length c = search needs

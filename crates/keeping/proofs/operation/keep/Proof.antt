@@ -1,6 +1,7 @@
 -- The output is measured first; then the text is read into tables, and Keep runs on them.
-use Rattle.reading.specs.Loading.{tables}
-use Rattle.keeping.specs.KeepOperationLaws.{out-short, text-refused, text-kept}
+use mathlib.Core.Path.{sym, _∙_, subst}
+use Rattle.reading.specs.Loading.{tables, Loaded}
+use Rattle.keeping.specs.KeepOperationLaws.{out-short, out-long, text-refused}
 use borrow.Author.Needs.{needs}
 use Rattle.keeping.proofs.operation.keep.Statement.{statement}
 use Rattle.keeping.proofs.operation.keep.Tie as tie
@@ -20,7 +21,17 @@ enum-known-told-2 : tie.Need-enum-known-told-2
 enum-known-told-2 c = search needs
 
 keep-job-requires : tie.Need-keep-job-requires
-keep-job-requires c κs = search needs
+keep-job-requires c κs =
+    let matched = c .before .before .before .before .before .before .before in
+    let loaded = matched .before .before in
+    let measured = loaded .before .before .before .before .before .before in
+    let a = measured .before .before .before .args in
+    let l = loaded .load in (
+      measured .if1 .left,
+      subst (λ b. Loaded (a .text .now) b
+          (tables (l .last .1 .0) (l .last .1 .1 .0) (l .last .1 .1 .1 .0) (l .last .1 .1 .1 .1 .0) (l .last .1 .1 .1 .1 .1 .0)))
+          (matched .told2 .given .1) (l .ensures),
+    )
 
 returns-2 : tie.Need-returns-2
 returns-2 c =
@@ -42,10 +53,7 @@ returns-3 c =
     let loaded = matched .before .before in
     let measured = loaded .before .before .before .before .before .before in
     let a = measured .before .before .before .args in
-    let l = loaded .load in
-    text-kept (a .text .now) (a .out .now) (measured .if1 .left) (l .result)
-    (tables (l .last .1 .0) (l .last .1 .1 .0) (l .last .1 .1 .1 .0) (l .last .1 .1 .1 .1 .0) (l .last .1 .1 .1 .1 .1 .0))
-    (l .ensures) _ _ (kept .keep-job .result) (kept .keep-job .last .1 .1 .1 .1 .1 .1 .1 .1 .0) (matched .told2 .given .1) (kept .keep-job .ensures)
+    kept .keep-job .ensures ∙ sym (out-long (a .text .now) (a .out .now) (measured .if1 .left))
 
 pub keep-spec : {M : Type 1} → statement M
 keep-spec =

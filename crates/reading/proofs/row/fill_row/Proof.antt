@@ -1,7 +1,4 @@
 -- `fill_row` meets its contract: the automaton is built over cleared enter sets.
-use mathlib.Core.List.{List}
-use mathlib.Core.Path.{_≡_, sym, ap, _∙_}
-use lib.ListN.{length, replicate}
 use Rattle.reading.specs.FillingLaws.{row-built}
 use borrow.Author.Needs.{needs}
 use Rattle.reading.proofs.row.fill_row.Statement.{statement}
@@ -21,8 +18,12 @@ same-length-2 c = search needs
 
 returns : tie.Need-returns
 returns c =
-    let a = c .before .before .before .before .before .before .before .before .before .before .before .before .before .before .before .before .args in
-    row-built _ (a .s .now) (a .follow .now) (a .enter .now) (c .before .before .before .before .build .result) _ _ (rw (c .before .before .before .before .before .before .before .before .before .clear .ensures) at (c .before .before .before .before .build .ensures))
+    let built = c .before .before .before .before in
+    let emptied = built .before .before .before .before .before in
+    let start = emptied .before .before .before .before .before .before .before in
+    let a = start .args in
+    row-built _ (a .s .now) (a .follow .now) (a .enter .now) (built .build .result) _ _ (start .pre)
+    (rw (emptied .clear .ensures) at (built .build .ensures))
 
 pub fill-row-spec : {M : Type 1} → statement M
 fill-row-spec =

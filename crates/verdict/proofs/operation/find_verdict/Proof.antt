@@ -6,7 +6,16 @@ use Rattle.verdict.proofs.operation.find_verdict.Statement.{statement}
 use Rattle.verdict.proofs.operation.find_verdict.Tie as tie
 
 find-rows-requires : tie.Need-find-rows-requires
-find-rows-requires c κs = c .before .before .before .before .before .before .before .before .pre .1
+find-rows-requires c κs =
+    let p = c .before .before .before .before .before .before .before .before .pre in
+    let g = p .0 .given in
+    let z = p .2 in (
+      p .1,
+      (
+        record { labels = g .few-labels; lists = g .few-lists; states = omega arith; table = z .table-room; flags = z .flags-room },
+        (omega arith, record { query = _; listed = _; holding = g .holding }),
+      ),
+    )
 
 enum-known-finding : tie.Need-enum-known-finding
 enum-known-finding c = search needs
@@ -17,7 +26,7 @@ found-verdict-requires c κs =
     let at-find-rows = matched .before .before .before .before .before .before in
     let start = at-find-rows .before .before .before .before .before .before .before .before .before in
     let z = start .pre .2 in (
-      few-states z (at-find-rows .find-rows .ensures) (start .pre .0) (matched .finding .given .1),
+      few-states (at-find-rows .find-rows .ensures) (start .pre .0) (matched .finding .given .1),
       start .pre .1,
       record { few = z .few; table-room = omega arith; flags-room = omega arith; path-room = z .path-room; room = z .room },
     )
@@ -42,8 +51,7 @@ returns c =
     let at-found-verdict = c .before .before .before .before in
     let matched = at-found-verdict .before .before .before .before .before .before in
     let at-find-rows = matched .before .before .before .before .before .before in
-    let start = at-find-rows .before .before .before .before .before .before .before .before .before in
-    found-judged (start .pre .2) (at-find-rows .find-rows .ensures) (matched .finding .given .1) (at-found-verdict .found-verdict .ensures)
+    found-judged (at-find-rows .find-rows .ensures) (matched .finding .given .1) (at-found-verdict .found-verdict .ensures)
 
 same-length-5 : tie.Need-same-length-5
 same-length-5 c = search needs
@@ -55,8 +63,7 @@ returns-2 : tie.Need-returns-2
 returns-2 c =
     let matched = c .before in
     let at-find-rows = matched .before .before .before .before .before .before in
-    let start = at-find-rows .before .before .before .before .before .before .before .before .before in
-    found-refused (start .pre .2) (at-find-rows .find-rows .ensures) (matched .finding2 .given .1)
+    found-refused (at-find-rows .find-rows .ensures) (matched .finding2 .given .1)
 
 pub find-verdict-spec : {M : Type 1} → statement M
 find-verdict-spec =

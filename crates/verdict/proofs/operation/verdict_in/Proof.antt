@@ -21,7 +21,7 @@ job-verdict-requires c κs =
     let start = at-load .before .before .before .before .before .before .before .before .before .before .before .before .before in
     let told = matched .told2 .given .1 in
     let r = at-load .load-rows .ensures .1 .rows _ _ told in (
-      some-job (start .args .text .now) (at-load .load-rows .ensures .0) (start .pre .1) told,
+      some-job (start .args .text .now) (at-load .load-rows .ensures .0) told,
       record { queryFollow = omega (arith, r .1); queryEnter = omega (arith, r .2); listsFollow = λ h. r .1; listsEnter = λ h. r .2 },
       start .pre .1,
     )
@@ -36,7 +36,9 @@ returns : tie.Need-returns
 returns c =
     let at-load = c .before .before .before .before .before .before .before in
     let start = at-load .before .before .before .before .before .before .before .before .before .before .before .before .before in
-    read-refused (start .args .text .now) (at-load .load-rows .ensures .0) (start .pre .1) (c .before .told .given .1)
+    let a = start .args in
+    read-refused (a .text .now) (at-load .load-rows .ensures .0) (a .allowance) (a .table .now) (a .flags .now) (a .path .now)
+    (a .workspace .now) (c .before .told .given .1)
 
 same-length-3 : tie.Need-same-length-3
 same-length-3 c = search needs
@@ -62,8 +64,9 @@ returns-2 c =
     let matched = at-job-verdict .before .before .before .before .before .before .before .before .before .before in
     let at-load = matched .before .before .before .before .before .before in
     let start = at-load .before .before .before .before .before .before .before .before .before .before .before .before .before in
-    read-judged (start .args .text .now) (at-load .load-rows .ensures .0) (start .pre .1) (matched .told2 .given .1)
-    (at-job-verdict .job-verdict .ensures)
+    let a = start .args in
+    read-judged (a .text .now) (at-load .load-rows .ensures .0) (a .allowance) (a .table .now) (a .flags .now) (a .path .now)
+    (a .workspace .now) (matched .told2 .given .1) (at-job-verdict .job-verdict .ensures)
 
 pub verdict-in-spec : {M : Type 1} → statement M
 verdict-in-spec =

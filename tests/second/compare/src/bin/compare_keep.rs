@@ -48,7 +48,7 @@ fn main() {
             Ok(length) => (length as u64) << 32,
             Err(refusal) => u64::from(refusal.number) | u64::from(refusal.line) << 8,
         };
-        let number = compare::keep(&text, &mut theirs);
+        let number = server::keep(&text, &mut theirs);
         if number != answer || ours != theirs {
             println!("difference after {inputs} equal answers: {}", text.escape_ascii());
             println!("cezhappu_keep: {number:#x}; second: {answer:#x}; same bytes: {}", ours == theirs);

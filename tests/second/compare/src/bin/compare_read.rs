@@ -42,7 +42,7 @@ fn argument(given: Option<String>, otherwise: u64) -> u64 {
 
 fn call(text: &[u8]) -> u64 {
     let lent = [text, BEHIND].concat();
-    compare::read(&lent[..text.len()])
+    server::read(&lent[..text.len()])
 }
 
 /// The answer as one number: bits 0 to 7 the refusal (0: none), bits 8 to 31

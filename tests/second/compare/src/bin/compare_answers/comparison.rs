@@ -110,8 +110,8 @@ impl Comparison {
         let (marks, workspace) = (self.marks.theirs(), self.workspace.theirs());
         let (text, table) = (&text[..asked.text.len()], &table[..asked.table.len()]);
         match asked.chosen {
-            Some(chosen) => compare::links(text, asked.recordings, chosen, table, asked.start, marks, workspace),
-            None => compare::lists(text, asked.recordings, table, asked.start, marks, workspace),
+            Some(chosen) => server::links(text, asked.recordings, chosen, table, asked.start, marks, workspace),
+            None => server::lists(text, asked.recordings, table, asked.start, marks, workspace),
         }
     }
 
@@ -125,9 +125,9 @@ impl Comparison {
         let name = match asked.chosen {
             Some(chosen) => {
                 println!("expression {chosen}");
-                "cezhappu_test_links"
+                "cezhappu_answer_from_links"
             }
-            None => "cezhappu_test_lists",
+            None => "cezhappu_answer_from_lists",
         };
         println!("table of {} numbers {:?}", asked.table.len(), asked.table);
         println!("{name}: {}", unpacked(theirs));

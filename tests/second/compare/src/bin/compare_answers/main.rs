@@ -1,4 +1,4 @@
-//! Compares `cezhappu_test_links` and `cezhappu_test_lists` of libexports.a
+//! Compares `cezhappu_answer_from_links` and `cezhappu_answer_from_lists` of libserver.a
 //! with the second implementation: the returned number and every cell of both
 //! lent buffers, which are filled with a pattern first and are as short as may
 //! be, longer, or too short. On lists that are exact on the links, the marks of

@@ -1,9 +1,6 @@
 //! The lent buffers of Find, and what both implementations make of them.
 
-use second::operations::{find, FLAG_BYTES, TABLE_NUMBERS, TABLE_ROW};
-
-/// The least length of the word that is lent to the library's function.
-pub const WORD_BYTES: usize = 256;
+use second::operations::{find, FLAG_BYTES, TABLE_NUMBERS, TABLE_ROW, WORD_BYTES};
 
 /// How much longer than asked the buffers are; -1 is one less.
 #[derive(Clone, Copy, Debug)]
@@ -22,10 +19,7 @@ pub const ENOUGH: [Shape; 4] = [shape(0, 0, 0), shape(1, 0, 1), shape(0, 1, 9), 
 
 /// Buffers that are too short.
 pub const SHORT: [Shape; 4] =
-    [shape(-1, 0, 0), shape(0, -1, 0), shape(-1, -1, 0), shape(-(TABLE_NUMBERS as isize), 9, 0)];
-
-/// A word that is too short.
-pub const NO_WORD: Shape = shape(0, 0, -1);
+    [shape(-1, 0, 0), shape(0, -1, 0), shape(0, 0, -1), shape(-(TABLE_NUMBERS as isize), 9, 0)];
 
 /// What one implementation tells and leaves.
 #[derive(PartialEq)]
@@ -86,7 +80,6 @@ impl std::fmt::Display for Left {
     fn fmt(&self, out: &mut std::fmt::Formatter) -> std::fmt::Result {
         match self.refusal() {
             0 => write!(out, "{} standings, {} states, first {:?}", self.standings(), self.states(), self.first()),
-            255 => write!(out, "no room for a word"),
             number => write!(out, "refused {number} line {}", self.line()),
         }
     }
@@ -95,26 +88,18 @@ impl std::fmt::Display for Left {
 /// What the library tells and leaves.
 pub fn library(text: &[u8], shape: Shape) -> Left {
     let mut left = Left::lent(shape);
-    left.number = compare::find(text, &mut left.table, &mut left.flags, &mut left.word);
+    left.number = server::find(text, &mut left.table, &mut left.flags, &mut left.word);
     left
 }
 
 /// What the second implementation tells and leaves, in the same form.
 pub fn second(text: &[u8], shape: Shape) -> Left {
     let mut left = Left::lent(shape);
-    if left.word.len() < WORD_BYTES {
-        left.number = u64::MAX;
-        return left;
-    }
-    left.number = match find(text, &mut left.table, &mut left.flags) {
+    left.number = match find(text, &mut left.table, &mut left.flags, &mut left.word) {
         Err(refusal) => u64::from(refusal.number) | u64::from(refusal.line) << 8,
         Ok(told) => {
             let counts = (told.standings as u64) << 32 | (told.states as u64) << 40;
-            let word = told.first.as_ref().map_or(0, |word| 1 + word.len() as u64);
-            for (place, list) in told.first.iter().flatten().enumerate() {
-                left.word[place] = *list as u8;
-            }
-            counts | word << 52
+            counts | told.first.map_or(0, |length| length as u64 + 1) << 52
         }
     };
     left

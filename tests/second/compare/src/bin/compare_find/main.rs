@@ -1,4 +1,4 @@
-//! Compares Find of libexports.a with the second implementation: the returned
+//! Compares Find of libserver.a with the second implementation: the returned
 //! number, the table, the flags and the first word, all of them whole and
 //! filled with a pattern first. Options: `--count N`, how many random jobs,
 //! `--seed S`, and `--judged FILE`, to which small jobs are written with what

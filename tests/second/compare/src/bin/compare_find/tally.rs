@@ -1,6 +1,6 @@
 //! Counts of what a run met, and the least that a run must meet.
 
-use crate::lent::{compared, Left, Shape, ENOUGH, NO_WORD, SHORT};
+use crate::lent::{compared, Left, Shape, ENOUGH, SHORT};
 use second::automaton::Automaton;
 use second::read::read;
 
@@ -38,9 +38,6 @@ impl Tally {
         };
         let left = call(ENOUGH[place]);
         assert_eq!(call(SHORT[place]).number, 8, "{}", text.escape_ascii());
-        if self.inputs % 50 == 0 {
-            assert_eq!(call(NO_WORD).number, u64::MAX);
-        }
         let number = usize::from(left.refusal());
         self.inputs += 1;
         self.refused[number] += 1;

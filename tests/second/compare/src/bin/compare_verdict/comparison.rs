@@ -104,7 +104,7 @@ impl Comparison {
         let lent = [text, b"\nquery a\n"].concat();
         let (table, flags) = (self.table.theirs(), self.flags.theirs());
         let (path, workspace) = (self.path.theirs(), self.workspace.theirs());
-        compare::verdict(&lent[..text.len()], allowance, table, flags, path, workspace)
+        server::verdict(&lent[..text.len()], allowance, table, flags, path, workspace)
     }
 
     fn wrong_buffers(&self) -> Vec<String> {
@@ -129,7 +129,7 @@ impl Comparison {
             self.path.len(),
             self.workspace.len()
         );
-        println!("cezhappu_test_verdict: {}", unpacked(theirs));
+        println!("cezhappu_verdict: {}", unpacked(theirs));
         println!("second: {}", unpacked(packed(ours)));
         for line in wrong {
             println!("{line}");

@@ -1,4 +1,4 @@
-//! Compares `cezhappu_test_verdict` of libexports.a with the second
+//! Compares `cezhappu_verdict` of libserver.a with the second
 //! implementation: the returned number and every cell of the four lent
 //! buffers, which are filled with a pattern first and are as short as may be,
 //! longer, or too short. Small jobs are put before an outside judge beside.

@@ -4,8 +4,8 @@
 //! from the seed and its own number alone, so that
 //! `--seed S --from NUMBER --count 1` meets it again.
 
-mod exports;
 mod input;
+mod lending;
 mod operations;
 mod tally;
 

@@ -30,7 +30,7 @@ pub struct Lent {
 
 /// Every operation.
 pub fn all() -> Vec<Operation> {
-    [READ, KEEP].into_iter().chain(crate::exports::ALL).collect()
+    [READ, KEEP].into_iter().chain(crate::lending::ALL).collect()
 }
 
 /// The answer, or where the two differ.
@@ -78,7 +78,7 @@ const READ: Operation = Operation {
     has_missed: false,
     lend: |_| Lent::default(),
     second: |input, _| packed(read(&input.job), |job| (job.labels.len() as u64) << 32 | (job.lists.len() as u64) << 40),
-    library: |input, _| compare::read(&input.job),
+    library: |input, _| server::read(&input.job),
 };
 
 const KEEP: Operation = Operation {
@@ -87,5 +87,5 @@ const KEEP: Operation = Operation {
     has_missed: false,
     lend: |input| Lent { bytes: filled_bytes(length(KEPT_BYTES, input.spare[0])), ..Lent::default() },
     second: |input, lent| packed(keep(&input.job, &mut lent.bytes), |length| (length as u64) << 32),
-    library: |input, lent| compare::keep(&input.job, &mut lent.bytes),
+    library: |input, lent| server::keep(&input.job, &mut lent.bytes),
 };

@@ -1,7 +1,0 @@
-//! Links libexports.a.
-
-include!("../link.rs");
-
-fn main() {
-    link("exports");
-}
