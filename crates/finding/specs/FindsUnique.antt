@@ -10,7 +10,7 @@ use native.Mathlib.Omega.{arith}
 use lib.ListN.{length, getD}
 use lib.Seq.{ext-getD}
 use Rattle.theory.specs.Path.{Before, nothing, next}
-use Rattle.theory.specs.PathOrder.{compared, before-irreflexive, before-transitive}
+use Rattle.theory.specs.PathOrder.{compared, before-irreflexive, before-transitive, first-both}
 use Rattle.theory.specs.PathsBelow.{below-append}
 use Rattle.theory.specs.Counting.{pigeonhole, increasing}
 use Rattle.theory.specs.Expression.{Expression}
@@ -39,12 +39,6 @@ counts-once C D = omega (arith, counts-distinct C (D .some), counts-distinct D (
 
 pub counts-exclude : {e : Expression} {k n a : ℕ} → CountsStandings e k n → n ≤ a → ¬ DistinctStandings e k (suc a)
 counts-exclude C h D = omega (arith, counts-distinct C D)
-
--- Neither of two words comes after the other.
-first-both : {v w : Word} → (v ≡ w) ⊎ Before v w → (w ≡ v) ⊎ Before w v → v ≡ w
-first-both (inl e) r = e
-first-both (inr h) (inl e) = sym e
-first-both {v} {w} (inr h) (inr k) = absurd (before-irreflexive v (before-transitive v w v h k))
 
 module _ (J : Job) {R S : Rewriting} (F : Finds J R) (G : Finds J S) where
   -- The state of S to which the first word of a state of R leads.

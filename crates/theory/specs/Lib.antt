@@ -6,12 +6,21 @@ pub mod Word
 pub mod Job
 pub mod Rewriting
 pub mod Graph
+pub mod Deterministic
+pub mod Classes
 -- Mechanism: what computes.
 pub mod Places
 pub mod Automaton
 pub mod Exploration
 pub mod Explored
 pub mod Closure
+pub mod FirstBelow
+pub mod NumberLists
+pub mod Leader
+pub mod Leaders
+pub mod Quotient
+pub mod Refinement
+pub mod Minimized
 -- Glushkov's theorem.
 pub mod Positions
 pub mod Occurrences
@@ -46,3 +55,10 @@ pub mod PathsBelow
 pub mod Images
 pub mod GreatestRewriting
 pub mod Answers
+-- Minimal tables.
+pub mod DeterministicLaws
+pub mod Minimal
+pub mod ClassesLaws
+pub mod QuotientLaws
+pub mod RefinementLaws
+pub mod MinimizedLaws

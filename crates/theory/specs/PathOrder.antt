@@ -70,3 +70,9 @@ pub nothing-before : (p : Path) → ¬ Before p []
 nothing-before p (inl h) = omega arith
 nothing-before [] (inr h) = label-irreflexive (h .1) refl
 nothing-before (a ∷ p) (inr h) = omega arith
+
+-- Of two paths neither comes after the other: they are one.
+pub first-both : {p q : Path} → (p ≡ q) ⊎ Before p q → (q ≡ p) ⊎ Before q p → p ≡ q
+first-both (inl e) r = e
+first-both (inr h) (inl e) = sym e
+first-both {p} {q} (inr h) (inr k) = absurd (before-irreflexive p (before-transitive p q p h k))

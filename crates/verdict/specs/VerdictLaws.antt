@@ -3,15 +3,15 @@
 -- accepted words of the job, wherever it comes from, and for any limits.
 use Prim.Native.Nat.{ℕ, suc, _*_, _≤_, _<_}
 use mathlib.Core.List.{List}
-use mathlib.Core.Logic.{_↔_, _⊎_, inl, inr}
+use mathlib.Core.Logic.{_↔_}
 use mathlib.Core.Option.{Option, some, none}
-use mathlib.Core.Path.{_≡_, refl, sym, ap, subst}
+use mathlib.Core.Path.{_≡_, refl, ap, subst}
 use native.Mathlib.Decide.{decLe}
 use native.Mathlib.Omega.{arith}
 use lib.ListN.{length}
 use borrow.Author.Tests.{le-leb, lt-leb}
-use Rattle.theory.specs.Path.{Path, Below, Before}
-use Rattle.theory.specs.PathOrder.{before-irreflexive, before-transitive}
+use Rattle.theory.specs.Path.{Path, Below}
+use Rattle.theory.specs.PathOrder.{first-both}
 use Rattle.theory.specs.PathsBelow.{query-below}
 use Rattle.theory.specs.WordLengths.{word-short}
 use Rattle.theory.specs.Job.{Job, WellFormed}
@@ -36,12 +36,7 @@ places-exactly J R = ap (λ n. R .states * n) (offsets-exactly (J .lists))
 
 -- There is one first missed path.
 pub first-unique : (J : Job) (p q : Path) → FirstMissed J p → FirstMissed J q → p ≡ q
-first-unique J p q f g = side (f .1 q (g .0)) (g .1 p (f .0))
-  where
-    side : (p ≡ q) ⊎ Before p q → (q ≡ p) ⊎ Before q p → p ≡ q
-    side (inl e) d = e
-    side (inr b) (inl e) = sym e
-    side (inr b) (inr c) = absurd (before-irreflexive p (before-transitive p q p b c))
+first-unique J p q f g = first-both (f .1 q (g .0)) (g .1 p (f .0))
 
 -- The four ways through the definition.
 
