@@ -6,6 +6,7 @@ pub mod answer;
 pub mod automaton;
 pub mod cases;
 pub mod conditions;
+pub mod counts;
 pub mod cover;
 pub mod explore;
 pub mod faults;

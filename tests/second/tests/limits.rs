@@ -1,16 +1,14 @@
 //! The scope document's jobs on each side of a limit, and its printed form.
 
 use second::answer::{from_links, from_lists};
-use second::automaton::{Automaton, Standings};
 use second::cases::EXAMPLE;
-use second::explore::Explored;
-use second::find::{after_list, find};
+use second::counts::{all_standings, all_states};
+use second::find::find;
 use second::jobs::many;
 use second::keep::keep;
 use second::print::printed;
 use second::read::{read, Job, Refusal};
 use second::verdict::verdict;
-use std::collections::BTreeSet;
 
 const ALLOWANCE: usize = 4096;
 
@@ -116,23 +114,6 @@ fn p6() {
     assert_eq!(found.states.len(), 1);
     assert_eq!(found.first, Some(vec![]));
     assert_eq!(verdict(&job, ALLOWANCE).unwrap().missed, Some(vec![0]));
-}
-
-/// The number of the query's standings, whatever the limit.
-fn all_standings(job: &Job) -> usize {
-    let query = Automaton::new(&job.query);
-    let step = |here: &BTreeSet<usize>, label| query.after(here, label);
-    Explored::new(query.start(), job.labels.len(), usize::MAX, step).expect("no limit").values.len()
-}
-
-/// The number of states, whatever the limit.
-fn all_states(job: &Job) -> usize {
-    let query = Standings::new(&Automaton::new(&job.query), job.labels.len()).expect("few standings");
-    let lists: Vec<Automaton> = job.lists.iter().map(|list| Automaton::new(&list.expr)).collect();
-    let step = |state: &BTreeSet<usize>, list: usize| -> BTreeSet<usize> {
-        state.iter().flat_map(|from| after_list(&query, *from, &lists[list])).collect()
-    };
-    Explored::new(BTreeSet::from([0]), lists.len(), usize::MAX, step).expect("no limit").values.len()
 }
 
 #[test]

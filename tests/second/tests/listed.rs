@@ -2,6 +2,7 @@
 //! texts spelled here anew.
 
 use second::answer::{from_links, from_lists};
+use second::counts::{all_standings, all_states};
 use second::print::printed_at;
 use second::read::read;
 use second::turn::Turn;
@@ -56,6 +57,16 @@ fn cases() -> Vec<(String, String, usize)> {
     cases
 }
 
+/// The count that document 01 gives of a refused case.
+fn counted(title: &str, text: &str) -> String {
+    let job = || read(text.as_bytes()).expect("a job");
+    match title {
+        "63 a's" | "(a|b)*.a followed by 5" => format!("counted {} standings\n", all_standings(&job())),
+        "21 a's, lists a and a?" => format!("counted {} states\n", all_states(&job())),
+        _ => String::new(),
+    }
+}
+
 /// The marks of P8, as the program shows them.
 fn marks(word: &str, marks: &[bool]) -> String {
     let shown = marks.iter().map(|mark| format!(" {}", u8::from(*mark)));
@@ -68,6 +79,7 @@ fn the_stored_output_is_that_of_the_cases() {
     for (title, text, allowance) in cases() {
         out += &format!("case {title}, allowance {allowance}\n");
         out += &printed_at(Turn::Right, text.as_bytes(), allowance);
+        out += &counted(&title, &text);
     }
     let job = read(P1.as_bytes()).expect("P1 is a job");
     let links = from_links(&job, 3, &[0, 0, 1, 1, 1, 0, 1, 2, 2], 0, 0).expect("an answer from links");
