@@ -48,20 +48,26 @@ pub same-words-trans : {D E F : Deterministic} → SameWords D E → SameWords E
 same-words-trans s t =
     record { symbols = s .symbols ∙ t .symbols; words = λ w b. Iff·trans (s .words w b) (t .words w (same-words-below s b)) }
 
+-- In tables that agree, a word leads to the same state.
+pub agree-run : {D E : Deterministic} → Complete D → Agree D E → (q : ℕ) {w : List ℕ} → q < D .states → Below (D .symbols) w
+    → run D q w ≡ run E q w
+unfolding run
+agree-run C A q h nothing = refl
+agree-run {D} {E} C A q h (next {a} {p} l b) =
+    agree-run C A (D .next q a) (C .next q a h l) b ∙ ap (λ r. run E r p) (A .next q a h l)
+
+-- It is accepted in both or in none.
+pub agree-accepting : {D E : Deterministic} → Complete D → Agree D E → (q : ℕ) {w : List ℕ} → q < D .states → Below (D .symbols) w
+    → D .accepting (run D q w) ≡ E .accepting (run E q w)
+agree-accepting {D} {E} C A q {w} h b = A .accepting (run D q w) (run-within C h b) ∙ ap (E .accepting) (agree-run C A q h b)
+
 -- Tables that agree accept the same words.
 pub agree-words : {D E : Deterministic} → Complete D → Agree D E → SameWords D E
-unfolding run
-agree-words {D} {E} C A =
+agree-words C A =
     record {
       symbols = A .symbols;
-      words = λ w b.
-          let same = A .accepting (run D 0 w) (run-within C (C .start) b) ∙ ap (E .accepting) (follow 0 (C .start) b) in
-          (λ t. sym same ∙ t, λ t. same ∙ t);
+      words = λ w b. let same = agree-accepting C A 0 (C .start) b in (λ t. sym same ∙ t, λ t. same ∙ t);
     }
-  where
-    follow : (q : ℕ) {w : List ℕ} → q < D .states → Below (D .symbols) w → run D q w ≡ run E q w
-    follow q h nothing = refl
-    follow q h (next {a} {p} l b) = follow (D .next q a) (C .next q a h l) b ∙ ap (λ r. run E r p) (A .next q a h l)
 
 -- Words that lead to one state of E lead to states of D with the same continuations.
 pub same-end : {D E : Deterministic} {u v : List ℕ} → SameWords D E → Below (D .symbols) u → Below (D .symbols) v → run E 0 u ≡ run E 0 v

@@ -39,3 +39,21 @@ first-least test (suc n) (suc i) e = go (test zero) (firstBelow (λ j. test (suc
     go : (b : Bool) (f : ℕ) → f ≤ i → elim b [ true ↦ zero | false ↦ suc f ] ≤ suc i
     go true f h = omega arith
     go false f h = omega arith
+
+-- What is found below m is found below a greater bound.
+pub first-kept : (test : ℕ → Bool) (m n : ℕ) → m ≤ n → firstBelow test m < m → firstBelow test n ≡ firstBelow test m
+first-kept test m n h l =
+    let f : ℕ = firstBelow test m in
+    let g : ℕ = firstBelow test n in
+    let up : g ≤ f = first-least test n f (first-passes test m l) in
+    let down : f ≤ g = first-least test m g (first-passes test n (omega arith)) in
+    omega arith
+
+-- Tests that agree below n find the same there.
+pub first-same : (f g : ℕ → Bool) (n : ℕ) → ((i : ℕ) → i < n → f i ≡ g i) → firstBelow f n ≡ firstBelow g n
+unfolding firstBelow
+first-same f g zero h = refl
+first-same f g (suc n) h =
+    let head = h zero (omega arith) in
+    let rest = first-same (λ i. f (suc i)) (λ i. g (suc i)) n (λ i l. h (suc i) (omega arith)) in
+    λ i. elim (head i) [ true ↦ zero | false ↦ suc (rest i) ]

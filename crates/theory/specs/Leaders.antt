@@ -1,7 +1,7 @@
 -- Partitions c whose classes are named by their first members: their leaders are the numbers q with c q ≡ q.
 use Prim.Native.Nat.{ℕ, zero, suc, _≤_, _<_}
 use mathlib.Core.Bool.{true, false}
-use mathlib.Core.Path.{_≡_}
+use mathlib.Core.Path.{_≡_, sym, ap, _∙_}
 use native.Mathlib.Decide.{ℕ-discrete, decLt}
 use native.Mathlib.Omega.{arith}
 use lib.Dec.{eqb}
@@ -11,6 +11,19 @@ use borrow.Author.Tests.{eq-eqb, ne-eqb}
 pub record Led (n : ℕ) (c : ℕ → ℕ) : Type 0 where
   pub at-most : (q : ℕ) → q < n → c q ≤ q
   pub leads : (q : ℕ) → q < n → c (c q) ≡ c q
+
+pub led-below : {n : ℕ} {c : ℕ → ℕ} → Led n c → (m : ℕ) → m ≤ n → Led m c
+led-below L m h = record { at-most = λ q l. L .at-most q (omega arith); leads = λ q l. L .leads q (omega arith) }
+
+-- A partition that agrees with c below n.
+pub led-agree : {n : ℕ} {c d : ℕ → ℕ} → Led n c → ((q : ℕ) → q < n → c q ≡ d q) → Led n d
+led-agree {n} {c} {d} L same =
+    record {
+      at-most = λ q h. omega (arith, same q h, L .at-most q h);
+      leads = λ q h.
+          let k : c q < n = omega (arith, L .at-most q h) in
+          ap d (sym (same q h)) ∙ sym (same (c q) k) ∙ L .leads q h ∙ same q h;
+    }
 
 -- The number of leaders below n.
 unfoldable pub leaders : (ℕ → ℕ) → ℕ → ℕ
@@ -85,3 +98,8 @@ leaders-same c d (suc n) h l q k e =
     go (yes f) (no a) (no b) rest = absurd (b (rw f at e))
     go (no f) (yes a) b rest = rest (omega (arith, leaders-one c n a, leaders-one d n (h n (omega arith) a))) f
     go (no f) (no a) b rest = rest (omega (arith, leaders-none c n a, leaders-rise d n (suc n) (omega arith))) f
+
+-- Partitions that agree below n have as many leaders there.
+pub leaders-agree : (c d : ℕ → ℕ) (n : ℕ) → ((q : ℕ) → q < n → c q ≡ d q) → leaders c n ≡ leaders d n
+leaders-agree c d n same =
+    omega (arith, leaders-more c d n (λ q h e. sym (same q h) ∙ e), leaders-more d c n (λ q h e. same q h ∙ e))

@@ -61,4 +61,6 @@ pub mod Minimal
 pub mod ClassesLaws
 pub mod QuotientLaws
 pub mod RefinementLaws
+pub mod Level
+pub mod Splitting
 pub mod MinimizedLaws

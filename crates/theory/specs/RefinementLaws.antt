@@ -152,6 +152,10 @@ module _ (D : Deterministic) where
   unfolding classes
   classes-led = rounds-led D (D .states)
 
+  pub classes-length : length (classes D) ≡ D .states
+  unfolding classes
+  classes-length = rounds-length D (D .states)
+
   pub classes-coarse : Complete D → Coarse D (classAt (classes D))
   unfolding classes
   classes-coarse C = rounds-coarse D C (D .states)

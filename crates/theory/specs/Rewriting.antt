@@ -1,5 +1,6 @@
 -- Rewritings of a job's query in terms of its lists (document 001, Definitions 1 to 3; document 01, "State" and "Yielded"). A set of list
 -- words is a predicate on words.
+use mathlib.Core.List.{_++_}
 use mathlib.Core.Logic.{_↔_, _⊎_}
 use mathlib.Core.Path.{_≡_}
 use Rattle.theory.specs.Path.{Path, Language, Before}
@@ -22,6 +23,10 @@ SameState J v w = StateWithin J v w × StateWithin J w v
 -- An accepted word: all query standings after the paths that it spells accept.
 abbrev pub Accepted : Job → Word → Type 0
 Accepted J w = (p : Path) → SpelledBy J w p → Accepts (J .query) p
+
+-- Two words have the same continuations: behind both the same words are accepted.
+abbrev pub SameContinuations : Job → Word → Word → Type 0
+SameContinuations J v w = (u : Word) → IsWord J u → Accepted J (v ++ u) ↔ Accepted J (w ++ u)
 
 -- Definition 1: a set of list words is a rewriting if all its words are sound.
 abbrev pub IsRewriting : Job → (Word → Type 0) → Type 0
