@@ -51,9 +51,9 @@ enum cezhappu_refusal {
     CEZHAPPU_EXPRESSION_LIMIT = 7,    /* an expression over 512 bytes, over 16 parentheses deep, or with over 63 label occurrences */
     CEZHAPPU_BUFFER_TOO_SHORT = 8,    /* a lent buffer that is too short */
     CEZHAPPU_TOO_MANY_STANDINGS = 9,  /* over 64 standings of the expression */
-    CEZHAPPU_TOO_MANY_STATES = 10,    /* over 256 states of the rewriting */
+    CEZHAPPU_TOO_MANY_STATES = 10,    /* over 256 states of the rewriting, before they are merged */
     CEZHAPPU_BAD_ALLOWANCE = 11,      /* an allowance of 0 or over 4,096 */
-    CEZHAPPU_TOO_MANY_PLACES = 12,    /* over 1,024 cover places */
+    CEZHAPPU_TOO_MANY_PLACES = 12,    /* over 1,024 cover places, of the merged states */
     CEZHAPPU_TOO_MANY_PAIRS = 13,     /* more distinct pairs than the allowance */
     CEZHAPPU_BAD_RECORDINGS = 14,     /* no recordings or over 4,096 */
     CEZHAPPU_BAD_TABLE = 15,          /* a length no multiple of three, over 16,384 links, an end or a label out of range, or not rising */
@@ -82,8 +82,9 @@ static inline unsigned cezhappu_lists(uint64_t answer) { return (unsigned)(answe
 /*
  * Find: the greatest rewriting of the query in terms of the lists. The table gets at CEZHAPPU_TABLE_ROW * state + list the next state, the
  * flags get 1 for each accepting state, the word gets the list numbers of the shortest accepted word, first in list order; all else in the
- * named parts is zero. It tells the numbers of standings and of states, and one more than the length of that word: 0 where no word is
- * accepted. Refusals: 8, then 1 to 7, 9, 10.
+ * named parts is zero. States are merged: two words end at one state exactly if the same words may follow them, and no complete table with
+ * fewer states accepts the same words. It tells the numbers of standings and of states, and one more than the length of that word: 0 where
+ * no word is accepted. Refusals: 8, then 1 to 7, 9, 10, which counts the states before they are merged.
  */
 uint64_t cezhappu_find(const uint8_t *job, size_t length, uint16_t *table, size_t table_length, uint8_t *flags, size_t flags_length,
                        uint8_t *word, size_t word_length);
@@ -138,8 +139,9 @@ static inline unsigned cezhappu_ones(uint64_t answer) { return (unsigned)(answer
 #define CEZHAPPU_KEPT_LENGTH 8728
 
 /*
- * Keep: the rewriting written to the output as a kept file, with zeros behind it. It tells how many bytes the kept file has. Refusals: 8,
- * then 1 to 7, 9, 10.
+ * Keep: the table and the flags of cezhappu_find, with the lists' names, written to the output as a kept file, with zeros behind it. Of two
+ * jobs with the same list names in the same order, the kept files are equal exactly where the accepted words are. It tells how many bytes
+ * the kept file has. Refusals: 8, then 1 to 7, 9, 10.
  */
 uint64_t cezhappu_keep(const uint8_t *job, size_t length, uint8_t *out, size_t out_length);
 

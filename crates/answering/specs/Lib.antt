@@ -50,7 +50,6 @@ pub mod SetMarks
 pub mod PlaceSearch
 pub mod FewPlaces
 pub mod PlaceRows
-pub mod Useful
 pub mod Ranks
 pub mod StateSets
 pub mod LentMachine

@@ -11,7 +11,7 @@ use native.Mathlib.Omega.{arith}
 use lib.ListN.{length, getD, replicate}
 use Rattle.answering.specs.ProductLaws.{node-below, same-node}
 use Rattle.answering.specs.Pairs.{place, Has, put, row-below, has-put-there, has-put-new, has-put-kept, zeros-idle}
-use Rattle.answering.specs.Useful.{nextOf}
+use Rattle.answering.specs.Ranks.{nextOf}
 
 -- q is the rank of the next state, over the list v, of the state with rank r.
 abbrev pub RankedStep : List ℕ → ℕ → List ℕ → List ℕ → ℕ → ℕ → ℕ → ℕ → Type 0

@@ -20,7 +20,6 @@ mod state_sets;
 mod table;
 mod turned_back;
 mod turned_search;
-mod useful;
 mod word_search;
 
 pub use links_operation::LinksAnswer;

@@ -1,7 +1,7 @@
 // Marks by the states of a rewriting, on plain data: its next states and flags, a table of links over lists and a start.
 use super::marks::mark;
 use super::ranks::accept_ranks;
-use super::ranks::rank_useful;
+use super::ranks::rank_states;
 use super::state_search::search_states;
 use finding::clear::clear_words;
 ghost use mathlib.Core.Bool.{true};
@@ -56,9 +56,9 @@ pub(super) fn mark_lists(
     if !has_rows(next, states, lists) {
         return 0;
     }
-    let mut ranks: [u16; 256] = [256; 256];
+    let mut ranks: [u16; 256] = [0; 256];
     let mut kept: [u16; 256] = [0; 256];
-    let count = rank_useful(
+    let count = rank_states(
         next,
         flags,
         lists as usize,

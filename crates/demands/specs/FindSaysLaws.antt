@@ -119,6 +119,9 @@ module _ (J : Job) {R : Rewriting} (F : Finds J R) (few : R .states ≤ 256) (fi
         flags = ap (λ S. written 256 (S .flags) flags) (sym same-held);
       }
 
+pub course-finds : {J : Job} {R : Rewriting} → FindCourse J (found R) → Finds J R
+course-finds (answered n m F) = F
+
 pub find-says : (text : Bytes) (table flags : List ℕ) → outcome text table flags .reply .number ≡ 0
     → (J : NamedJob) × IsJob text J × FindSays (jobOf J) table flags (outcome text table flags)
 unfolding leftBy
@@ -130,12 +133,9 @@ find-says text table flags z =
       a .named,
       read-job text (a .named) .0 (a .reads),
       subst (FindSays (jobOf (a .named)) table flags) (sym (a .leaves))
-          (found-says (jobOf (a .named)) (finds (subst (FindCourse (jobOf (a .named))) (a .gives) c)) few
+          (found-says (jobOf (a .named)) (course-finds (subst (FindCourse (jobOf (a .named))) (a .gives) c)) few
           (omega (arith, f .few-lists, f .as-many)) table flags),
     )
-  where
-    finds : {J : Job} {R : Rewriting} → FindCourse J (found R) → Finds J R
-    finds (answered n m F) = F
 
 pub find-determined : (J : Job) (table flags : List ℕ) {o p : Outcome} → FindSays J table flags o → FindSays J table flags p → o ≡ p
 find-determined J table flags {o} {p} a b =

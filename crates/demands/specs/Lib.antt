@@ -24,3 +24,5 @@ pub mod Demand2
 pub mod VerdictSaysLaws
 pub mod MarksSayLaws
 pub mod Demand3
+-- Merged states.
+pub mod SameMeaning

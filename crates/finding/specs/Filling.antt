@@ -1,12 +1,13 @@
 -- A list that is filled from the front, one store a turn.
 use Prim.Native.Nat.{ℕ, zero, suc, _+_, _-_, _<_}
 use mathlib.Core.List.{List, [], _∷_, _++_, map}
-use mathlib.Core.Path.{_≡_, refl, ap, _∙_, sym}
+use mathlib.Core.Path.{_≡_, refl, ap, _∙_, sym, subst}
 use native.Mathlib.Nat.{sub-zero, zero-sub}
+use native.Mathlib.Decide.{ℕ-discrete}
 use native.Mathlib.Numerals.{add-one}
 use native.Mathlib.Omega.{arith}
 use lib.ListN.{length, getD, take, drop, set, replicate, length-map}
-use lib.Seq.{drop-cons, set-at, append-snoc, take-suc, length-take-le}
+use lib.Seq.{drop-cons, set-at, append-snoc, take-suc, length-take-le, getD-set-same, getD-set-other}
 
 -- A store behind what was filled in.
 pub fill-next : (xs d : List ℕ) (i v : ℕ) → length xs ≡ i → i < length d → set (xs ++ drop i d) i v ≡ (xs ++ (v ∷ [])) ++ drop (i + 1) d
@@ -35,3 +36,12 @@ drop-replicate (suc n) zero x = rw zero-sub
 drop-replicate (suc n) (suc m) x =
     let e : suc m - suc n ≡ m - n = omega arith in
     drop-replicate n m x ∙ ap (λ k. replicate k x) (sym e)
+
+-- What holds of each number filled in, and of the one stored next, holds of each filled in then.
+pub filled-more : (P : ℕ → ℕ → Type 0) (l : List ℕ) (i a : ℕ) → i < length l → ((k : ℕ) → k < i → P k (getD l k 0)) → P i a
+    → (k : ℕ) → k < i + 1 → P k (getD (set l i a) k 0)
+filled-more P l i a h all here k below = side (ℕ-discrete k i)
+  where
+    side : Dec (k ≡ i) → P k (getD (set l i a) k 0)
+    side (yes e) = rw e (subst (P i) (sym (getD-set-same l i a 0 h)) here)
+    side (no e) = subst (P k) (sym (getD-set-other l i k a 0 e)) (all k (omega arith))

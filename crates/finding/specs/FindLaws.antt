@@ -1,12 +1,12 @@
 -- What Find gives (document 01, "Find"): where Find answers, its answer is the greatest rewriting of the job's query; it refuses with 9 exactly
 -- when there are more than 64 standings, with 10 exactly when there are not and there are more than 256 states, and with nothing else.
--- First for any limits, then for those of document 01.
+-- States are counted before they are merged. First for any limits, then for those of document 01.
 use Prim.Native.Nat.{ℕ, suc, _≤_}
 use mathlib.Core.List.{List, map}
 use mathlib.Core.Logic.{_↔_, _⊎_, inl, inr, Iff·trans}
-use mathlib.Core.Path.{_≡_, refl, sym, _∙_, subst}
+use mathlib.Core.Path.{_≡_, refl, sym, ap, _∙_, subst}
 use native.Mathlib.Omega.{arith}
-use lib.ListN.{length, getD}
+use lib.ListN.{length, getD, length-map}
 use Rattle.theory.specs.Word.{Word}
 use Rattle.theory.specs.Job.{Job, WellFormed, IsWord}
 use Rattle.theory.specs.Rewriting.{Sound}
@@ -19,7 +19,8 @@ use Rattle.syntax.specs.declared.refusal.Refusal.the-variants.{TooManyStandings
 use Rattle.finding.specs.Standings.{standings, values}
 use Rattle.finding.specs.ListImage.{imageTable}
 use Rattle.finding.specs.States.{states, acceptingStandings}
-use Rattle.finding.specs.Find.{Rewriting, Found, found, refused, findStates, findAutomata, find, rowWidth, mostStandings, mostStates}
+use Rattle.finding.specs.Find.{Rewriting, Found, found, refused, findStates, exploreAutomata, merged, mergedFound, findAutomata, find}
+use Rattle.finding.specs.Find.{rowWidth, mostStandings, mostStates}
 use Rattle.finding.specs.Finds.{DistinctStandings, DistinctStates, CountsStandings, followed, Finds}
 use Rattle.finding.specs.Numbers.{length-values}
 use Rattle.finding.specs.StandingsLaws.{standings-over, standings-all}
@@ -27,35 +28,52 @@ use Rattle.finding.specs.Numbering.{standings-numbering}
 use Rattle.finding.specs.ImageTable.{jobImages}
 use Rattle.finding.specs.StatesLaws.{states-over, states-explored}
 use Rattle.finding.specs.FindStates.{rewriting, states-finds}
+use Rattle.finding.specs.MergedLaws.{merged-finds}
 
 -- How Find goes: too many standings, too many states, or an answer.
 pub data Course (A : Automaton) (k : ℕ) (lists : List Automaton) (mostA mostB : ℕ) : Type 0 where
-  standings-exceeded : standings A k mostA ≡ over → findAutomata A k lists mostA mostB ≡ refused TooManyStandings
-      → Course A k lists mostA mostB
+  standings-exceeded : standings A k mostA ≡ over → exploreAutomata A k lists mostA mostB ≡ refused TooManyStandings
+      → findAutomata A k lists mostA mostB ≡ refused TooManyStandings → Course A k lists mostA mostB
   states-exceeded : (l : List (Entry ℕ)) → standings A k mostA ≡ all l
       → states (imageTable A (values l) k lists) (length (values l)) mostB ≡ over
+      → exploreAutomata A k lists mostA mostB ≡ refused TooManyStates
       → findAutomata A k lists mostA mostB ≡ refused TooManyStates → Course A k lists mostA mostB
   answered : (l r : List (Entry ℕ)) → standings A k mostA ≡ all l
       → states (imageTable A (values l) k lists) (length (values l)) mostB ≡ all r
-      → findAutomata A k lists mostA mostB
+      → exploreAutomata A k lists mostA mostB
       ≡ found (rewriting (imageTable A (values l) k lists) (length (values l)) (acceptingStandings A (values l)) r)
+      → findAutomata A k lists mostA mostB
+      ≡ found (merged (length lists)
+      (rewriting (imageTable A (values l) k lists) (length (values l)) (acceptingStandings A (values l)) r))
       → Course A k lists mostA mostB
 
 pub course : (A : Automaton) (k : ℕ) (lists : List Automaton) (mostA mostB : ℕ) → Course A k lists mostA mostB
-unfolding findAutomata findStates
+unfolding exploreAutomata findAutomata mergedFound findStates
 course A k lists mostA mostB = first (standings A k mostA) refl
   where
+    -- Merging goes on from what is explored.
+    whole : {f : Found} → exploreAutomata A k lists mostA mostB ≡ f → findAutomata A k lists mostA mostB ≡ mergedFound (length lists) f
+    whole e = ap (mergedFound (length lists)) e
+
     second : (l : List (Entry ℕ)) → standings A k mostA ≡ all l
-        → findAutomata A k lists mostA mostB
+        → exploreAutomata A k lists mostA mostB
         ≡ findStates (imageTable A (values l) k lists) (length (values l)) (acceptingStandings A (values l)) mostB
         → (t : Exploration ℕ) → states (imageTable A (values l) k lists) (length (values l)) mostB ≡ t → Course A k lists mostA mostB
-    second l e f over g = states-exceeded l e g (f ∙ rw (findStates, g))
-    second l e f (all r) g = answered l r e g (f ∙ rw (findStates, g))
+    second l e f over g =
+        let h : exploreAutomata A k lists mostA mostB ≡ refused TooManyStates = f ∙ rw (findStates, g) in
+        states-exceeded l e g h (whole h)
+    second l e f (all r) g =
+        let h : exploreAutomata A k lists mostA mostB
+        ≡ found (rewriting (imageTable A (values l) k lists) (length (values l)) (acceptingStandings A (values l)) r) =
+        f ∙ rw (findStates, g) in
+        answered l r e g h (whole h)
 
     first : (t : Exploration ℕ) → standings A k mostA ≡ t → Course A k lists mostA mostB
-    first over e = standings-exceeded e (rw (findAutomata, e))
+    first over e =
+        let h : exploreAutomata A k lists mostA mostB ≡ refused TooManyStandings = rw (exploreAutomata, e) in
+        standings-exceeded e h (whole h)
     first (all l) e =
-        second l e (rw (findAutomata, e, length-values l)) (states (imageTable A (values l) k lists) (length (values l)) mostB) refl
+        second l e (rw (exploreAutomata, e, length-values l)) (states (imageTable A (values l) k lists) (length (values l)) mostB) refl
 
 -- The two refusals and an answer are three things.
 clash : {A : Type 0} → _≡_ {A = ℕ} 0 1 → A
@@ -82,24 +100,24 @@ automata-standings q k lists mostA mostB =
   where
     there : Course (glushkov q) k lists mostA mostB → findAutomata (glushkov q) k lists mostA mostB ≡ refused TooManyStandings
         → DistinctStandings q k (suc mostA)
-    there (standings-exceeded e f) h = standings-over q k mostA .0 e
-    there (states-exceeded l e g f) h = standings-states h f
-    there (answered l r e g f) h = answer-refusal f h
+    there (standings-exceeded e u f) h = standings-over q k mostA .0 e
+    there (states-exceeded l e g u f) h = standings-states h f
+    there (answered l r e g u f) h = answer-refusal f h
 
     back : standings (glushkov q) k mostA ≡ over → Course (glushkov q) k lists mostA mostB
         → findAutomata (glushkov q) k lists mostA mostB ≡ refused TooManyStandings
-    back d (standings-exceeded e f) = f
-    back d (states-exceeded l e g f) = all-over e d
-    back d (answered l r e g f) = all-over e d
+    back d (standings-exceeded e u f) = f
+    back d (states-exceeded l e g u f) = all-over e d
+    back d (answered l r e g u f) = all-over e d
 
 pub automata-refusals : (A : Automaton) (k : ℕ) (lists : List Automaton) (mostA mostB : ℕ) (r : Refusal)
     → findAutomata A k lists mostA mostB ≡ refused r → (r ≡ TooManyStandings) ⊎ (r ≡ TooManyStates)
 automata-refusals A k lists mostA mostB r h = side (course A k lists mostA mostB)
   where
     side : Course A k lists mostA mostB → (r ≡ TooManyStandings) ⊎ (r ≡ TooManyStates)
-    side (standings-exceeded e f) = inl (cc)
-    side (states-exceeded l e g f) = inr (cc)
-    side (answered l s e g f) = answer-refusal f h
+    side (standings-exceeded e u f) = inl (cc)
+    side (states-exceeded l e g u f) = inr (cc)
+    side (answered l s e g u f) = answer-refusal f h
 
 -- Find with any limits.
 abbrev pub findWithin : Job → ℕ → ℕ → Found
@@ -124,28 +142,30 @@ module _ (J : Job) (formed : WellFormed J) (mostA mostB : ℕ) where
 
       there : JobCourse → findWithin J mostA mostB ≡ refused TooManyStates
           → (¬ DistinctStandings (J .query) (J .labels) (suc mostA)) × DistinctStates J (suc mostB)
-      there (standings-exceeded e f) h = standings-states f h
-      there (states-exceeded l e g f) h = (within l e, job-states l e .0 g)
-      there (answered l r e g f) h = answer-refusal f h
+      there (standings-exceeded e u f) h = standings-states f h
+      there (states-exceeded l e g u f) h = (within l e, job-states l e .0 g)
+      there (answered l r e g u f) h = answer-refusal f h
 
       back : ¬ DistinctStandings (J .query) (J .labels) (suc mostA) → DistinctStates J (suc mostB) → JobCourse
           → findWithin J mostA mostB ≡ refused TooManyStates
-      back n d (standings-exceeded e f) = absurd (n (standings-over (J .query) (J .labels) mostA .0 e))
-      back n d (states-exceeded l e g f) = f
-      back n d (answered l r e g f) = all-over g (job-states l e .1 d)
+      back n d (standings-exceeded e u f) = absurd (n (standings-over (J .query) (J .labels) mostA .0 e))
+      back n d (states-exceeded l e g u f) = f
+      back n d (answered l r e g u f) = all-over g (job-states l e .1 d)
 
   pub automata-finds : length (J .lists) ≤ rowWidth → (R : Rewriting)
       → findWithin J mostA mostB ≡ found R → Finds J R
   automata-finds fits R h = side (course (glushkov (J .query)) (J .labels) (map glushkov (J .lists)) mostA mostB)
     where
       side : JobCourse → Finds J R
-      side (standings-exceeded e f) = answer-refusal h f
-      side (states-exceeded l e g f) = answer-refusal h f
-      side (answered l r e g f) =
+      side (standings-exceeded e u f) = answer-refusal h f
+      side (states-exceeded l e g u f) = answer-refusal h f
+      side (answered l r e g u f) =
           subst (Finds J) (same-answer f h)
-          (states-finds J formed fits (values l) (standings-numbering (glushkov (J .query)) (J .labels) mostA l e) r
+          (subst (λ n. Finds J (merged n (rewriting (jobImages J (values l)) (length (values l))
+          (acceptingStandings (glushkov (J .query)) (values l)) r))) (sym (length-map (J .lists) glushkov))
+          (merged-finds J _ fits (states-finds J formed fits (values l) (standings-numbering (glushkov (J .query)) (J .labels) mostA l e) r
           (states-explored (jobImages J (values l)) (length (values l)) mostB r g)
-          (subst (CountsStandings (J .query) (J .labels)) (sym (length-values l)) (standings-all (J .query) (J .labels) mostA l e)))
+          (subst (CountsStandings (J .query) (J .labels)) (sym (length-values l)) (standings-all (J .query) (J .labels) mostA l e)))))
 
   -- Where neither limit is exceeded, Find answers.
   pub automata-answers : ¬ DistinctStandings (J .query) (J .labels) (suc mostA) → ¬ DistinctStates J (suc mostB)
@@ -153,10 +173,13 @@ module _ (J : Job) (formed : WellFormed J) (mostA mostB : ℕ) where
   automata-answers n m = side (course (glushkov (J .query)) (J .labels) (map glushkov (J .lists)) mostA mostB)
     where
       side : JobCourse → (R : Rewriting) × (findWithin J mostA mostB ≡ found R)
-      side (standings-exceeded e f) = absurd (n (standings-over (J .query) (J .labels) mostA .0 e))
-      side (states-exceeded l e g f) = absurd (m (job-states l e .0 g))
-      side (answered l r e g f) =
-          (rewriting (jobImages J (values l)) (length (values l)) (acceptingStandings (glushkov (J .query)) (values l)) r, f)
+      side (standings-exceeded e u f) = absurd (n (standings-over (J .query) (J .labels) mostA .0 e))
+      side (states-exceeded l e g u f) = absurd (m (job-states l e .0 g))
+      side (answered l r e g u f) = (
+        merged (length (map glushkov (J .lists)))
+            (rewriting (jobImages J (values l)) (length (values l)) (acceptingStandings (glushkov (J .query)) (values l)) r),
+        f,
+      )
 
 -- Document 01's limits. The table has room for 16 lists.
 pub find-finds : (J : Job) → WellFormed J → length (J .lists) ≤ 16 → (R : Rewriting) → find J ≡ found R → Finds J R

@@ -40,7 +40,7 @@ told-small n R table flags s =
   where
     word : (o : Option Word) → R .first ≡ o → firstWord o .length < mostStates
     word none e = omega arith
-    word (some w) e = omega (arith, s .short w e, s .few-states)
+    word (some w) e = omega (arith, s .short w e)
 
 pub find-small : (text : Bytes) (table flags : List ℕ) → Small (outcome text table flags)
 unfolding leaving leftByReading leftBy find

@@ -1,5 +1,5 @@
 -- What Find answers from the states (Find): where all standings and all states were found, the counts, the table, the flags and the first
--- word are the greatest rewriting of the job's query, as document 01 has it (Finds).
+-- word are the greatest rewriting of the job's query, as document 01 has it, before states are merged (FindsUnmerged).
 use Prim.Native.Nat.{ℕ, _<_, _≤_}
 use mathlib.Core.Bool.{true, false, false≢true}
 use mathlib.Core.List.{List, map}
@@ -21,7 +21,7 @@ use Rattle.theory.specs.DistinctWords.{reached-value}
 use Rattle.finding.specs.Standings.{values}
 use Rattle.finding.specs.States.{acceptingStandings, stateAccepts, firstAccepted}
 use Rattle.finding.specs.Find.{rowWidth, rows, flag, Rewriting}
-use Rattle.finding.specs.Finds.{CountsStandings, followed, Finds}
+use Rattle.finding.specs.Finds.{CountsStandings, followed, FindsUnmerged}
 use Rattle.finding.specs.Numbers.{length-values, value-at, values-start}
 use Rattle.finding.specs.Numbering.{Numbering}
 use Rattle.finding.specs.ImageTable.{jobImages, length-jobImages}
@@ -151,7 +151,7 @@ module _ (J : Job) (formed : WellFormed J) (fits : length (J .lists) ≤ rowWidt
       false≢true (sym no-flag ∙ end-accepts w b .1 a)
 
   pub states-finds : CountsStandings (J .query) (J .labels) (length found)
-      → Finds J (rewriting (jobImages J found) (length found) (acceptingStandings (glushkov (J .query)) found) l)
+      → FindsUnmerged J (rewriting (jobImages J found) (length found) (acceptingStandings (glushkov (J .query)) found) l)
   unfolding end accepting
   states-finds counts =
       record {

@@ -10,7 +10,7 @@ use Rattle.theory.specs.Expression.{Expression}
 use Rattle.theory.specs.Standing.{SameStanding}
 use Rattle.theory.specs.Word.{Word}
 use Rattle.theory.specs.Job.{Job, IsWord}
-use Rattle.theory.specs.Rewriting.{SameState, Accepted, AcceptedWord}
+use Rattle.theory.specs.Rewriting.{SameState, SameContinuations, Accepted, AcceptedWord}
 use Rattle.finding.specs.Find.{Rewriting, rowWidth}
 
 -- Paths over k labels with pairwise different standings: n of them.
@@ -37,8 +37,9 @@ unfoldable pub followed : List ℕ → ℕ → Word → ℕ
 followed table s [] = s
 followed table s (v ∷ w) = followed table (getD table (rowWidth * s + v) 0) w
 
--- `Finds J R`: R is the greatest rewriting of the job's query, as document 01 has it. This determines R (FindsUnique).
-pub record Finds (J : Job) (R : Rewriting) : Type 0 where
+-- R is the greatest rewriting of the job's query, as document 01 has it, where words with one state are those of which `Same` holds. This
+-- determines R (FindsUnique).
+pub record FindsBy (Same : Word → Word → Type 0) (J : Job) (R : Rewriting) : Type 0 where
   pub standings : CountsStandings (J .query) (J .labels) (R .standings)
   -- each state has a row of the table, of 16 numbers, with zeros behind those of the lists
   pub rows : length (R .table) ≡ rowWidth * R .states
@@ -50,8 +51,8 @@ pub record Finds (J : Job) (R : Rewriting) : Type 0 where
   pub within : (w : Word) → IsWord J w → followed (R .table) 0 w < R .states
   -- it ends at flag 1 exactly when it is accepted
   pub accepted : (w : Word) → IsWord J w → (getD (R .flags) (followed (R .table) 0 w) 0 ≡ 1) ↔ Accepted J w
-  -- two words end at one number exactly when their states are equal
-  pub same : (v w : Word) → IsWord J v → IsWord J w → (followed (R .table) 0 v ≡ followed (R .table) 0 w) ↔ SameState J v w
+  -- two words end at one number exactly when they have one state
+  pub same : (v w : Word) → IsWord J v → IsWord J w → (followed (R .table) 0 v ≡ followed (R .table) 0 w) ↔ Same v w
   -- the states are numbered by the shortest word reaching them, ties by list order
   pub word : ℕ → Word
   pub reached : (s : ℕ) → s < R .states → IsWord J (word s) × (followed (R .table) 0 (word s) ≡ s)
@@ -60,3 +61,11 @@ pub record Finds (J : Job) (R : Rewriting) : Type 0 where
   -- `first` is the first accepted word, and there is none exactly when no word is accepted
   pub first : (w : Word) → R .first ≡ some w → AcceptedWord J w × ((v : Word) → AcceptedWord J v → (w ≡ v) ⊎ Before w v)
   pub nothing : R .first ≡ none → (w : Word) → ¬ AcceptedWord J w
+
+-- What Find gives, with states merged: two words end at one state exactly when they have the same continuations.
+abbrev pub Finds : Job → Rewriting → Type 0
+Finds J = FindsBy (SameContinuations J) J
+
+-- Before states are merged: two words have one state exactly when they have the same set of query standings.
+abbrev pub FindsUnmerged : Job → Rewriting → Type 0
+FindsUnmerged J = FindsBy (SameState J) J

@@ -19,11 +19,16 @@ pub mod StatesLaws
 pub mod Table
 pub mod FirstAccepted
 pub mod FindStates
-pub mod FindLaws
 pub mod RewrittenLaws
+pub mod TableOfLaws
+pub mod FindsCanonical
+pub mod MergedLaws
+pub mod FindLaws
+pub mod Tabled
 pub mod FindsUnique
 -- What the code keeps and promises.
 pub mod Cleared
+pub mod ClearedLaws
 pub mod StandingBelow
 pub mod PlaceOfLaws
 pub mod CollectLaws
@@ -55,6 +60,16 @@ pub mod FirstWords
 pub mod Filling
 pub mod Padded
 pub mod FoundSizes
+-- Merging states.
+pub mod TableLent
+pub mod LevelTold
+pub mod LevelLaws
+pub mod ClassesTold
+pub mod ClassesLaws
+pub mod MergeTold
+pub mod MergeLaws
+pub mod MergeWritten
+pub mod MergedAnswer
 -- Find on the tables of a job.
 pub mod StoredAutomata
 pub mod StoredImages
@@ -67,5 +82,6 @@ pub mod QueryTold
 pub mod FoundTold
 pub mod StatesPart
 pub mod CoreTold
+pub mod MergedCore
 pub mod Operation
 pub mod FindSmall

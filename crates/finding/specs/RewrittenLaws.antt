@@ -8,7 +8,7 @@ use Rattle.theory.specs.Word.{Word}
 use Rattle.theory.specs.Job.{Job}
 use Rattle.theory.specs.PathsBelow.{below-append}
 use Rattle.finding.specs.Find.{Rewriting}
-use Rattle.finding.specs.Finds.{followed, Finds}
+use Rattle.finding.specs.Finds.{followed, FindsBy}
 use Rattle.finding.specs.Rewritten.{rewritten, Decides}
 
 pub followed-append : (table : List ℕ) (s : ℕ) (w v : Word) → followed table s (w ++ v) ≡ followed table (followed table s w) v
@@ -17,7 +17,7 @@ followed-append table s [] v = refl
 followed-append table s (a ∷ w) v = followed-append table (getD table (16 * s + a) 0) w v
 
 -- The table that Find gives is complete, and its accepted words are the job's.
-pub finds-decides : (J : Job) (R : Rewriting) → Finds J R → Decides J (rewritten R)
+pub finds-decides : {Same : Word → Word → Type 0} (J : Job) (R : Rewriting) → FindsBy Same J R → Decides J (rewritten R)
 unfolding followed
 finds-decides J R F =
     record {

@@ -1,12 +1,14 @@
 -- Find's table and flags (Find): the entry at 16 × state + list is the number of the next state, so the table, followed from a state by a
 -- word, ends at the number of the set that the word leads to.
 use Prim.Native.Nat.{ℕ, zero, suc, _+_, _*_, _-_, _≤_, _<_}
-use mathlib.Core.Bool.{Bool, true, false}
+use mathlib.Core.Bool.{Bool, true, false, true≢false}
 use mathlib.Core.List.{List, [], _∷_, _++_, map, append-assoc}
 use mathlib.Core.Logic.{_↔_, _⊎_, inl, inr}
 use mathlib.Core.Path.{_≡_, refl, sym, _∙_, ap, ap₂}
 use native.Mathlib.Nat.{add-zero, zero-add}
 use native.Mathlib.Omega.{arith}
+use borrow.Author.Tests.{eq-eqb, ne-eqb}
+use lib.Dec.{eqb}
 use lib.ListN.{length, getD, replicate, length-append, length-replicate, getD-replicate, List·getD-append}
 use lib.Seq.{getD-append-add}
 use Rattle.theory.specs.Path.{Below, nothing, next}
@@ -103,6 +105,13 @@ pub flag-value : (b : Bool) → (flag b ≡ 0) ⊎ (flag b ≡ 1)
 unfolding flag
 flag-value true = inr refl
 flag-value false = inl refl
+
+-- Two such flags are the same where they accept alike.
+pub flag-same : (a b : ℕ) → (a ≡ 0) ⊎ (a ≡ 1) → (b ≡ 0) ⊎ (b ≡ 1) → eqb a 1 ≡ eqb b 1 → a ≡ b
+flag-same a b (inl x) (inl y) e = x ∙ sym y
+flag-same a b (inr x) (inr y) e = x ∙ sym y
+flag-same a b (inl x) (inr y) e = absurd (true≢false (sym (eq-eqb b 1 y) ∙ sym e ∙ ne-eqb a 1 (λ z. omega arith)))
+flag-same a b (inr x) (inl y) e = absurd (true≢false (sym (eq-eqb a 1 x) ∙ e ∙ ne-eqb b 1 (λ z. omega arith)))
 
 pub flag-exactly : (b : Bool) → (flag b ≡ 1) ↔ (b ≡ true)
 unfolding flag

@@ -8,6 +8,7 @@ use crate::first::first;
 use crate::flags::accepting_standings;
 use crate::flags::flags;
 use crate::list_images::list_images;
+use crate::merge::merge;
 use crate::standings::Explored;
 use crate::standings::standings;
 use crate::states::states;
@@ -20,7 +21,8 @@ ghost use Rattle.finding.specs.ListRows.{jobTables};
 ghost use Rattle.finding.specs.QueryTold.{QueryTold};
 ghost use Rattle.finding.specs.FoundTold.{FoundTold};
 ghost use Rattle.finding.specs.StatesPart.{Room, StatesPart};
-ghost use Rattle.finding.specs.CoreTold.{HoldsJob, CoreTold};
+ghost use Rattle.finding.specs.CoreTold.{HoldsJob, UnmergedTold, CoreTold};
+ghost use Rattle.finding.specs.MergedAnswer.{FoundLent, MergedAnswer};
 
 // The standings of the query, whose automaton is number 0.
 fn query_standings(
@@ -246,9 +248,9 @@ fn find_states(
     }
 }
 
-// Find, with at most so many standings and states; there is room for 64 and 256. Where there are more, the named parts of the table and of
-// the flags are zeros.
-pub fn find_rows(
+// The rewriting before states are merged, with at most so many standings and states; there is room for 64 and 256. Where there are more,
+// the named parts of the table and of the flags are zeros.
+fn explore_rows(
     labels: u64,
     lists: u64,
     follow: &[u64],
@@ -266,9 +268,7 @@ pub fn find_rows(
     requires { ⌜ Room labels lists «most_states» (now table) (now marks) ⌝ }
     // There is room for 64 standings.
     requires { ⌜ «most_standings» ≤ 64 ⌝ }
-    // The job in memory is what reading left there.
-    requires { ⌜ HoldsJob (now follow) (now enter) (now sizes) (now accepting) labels lists ⌝ }
-    ensures { λ r. ⌜ CoreTold (now (follow .entry)) (now (enter .entry)) (now (sizes .entry)) (now (accepting .entry)) labels lists
+    ensures { λ r. ⌜ UnmergedTold (now (follow .entry)) (now (enter .entry)) (now (sizes .entry)) (now (accepting .entry)) labels lists
         «most_standings» «most_states» (now (table .entry)) (now (marks .entry)) r (now (table .exit)) (now (marks .exit)) ⌝ }
 {
     let mut found = [0; 64];
@@ -303,4 +303,70 @@ pub fn find_rows(
             refused(Refusal::TooManyStandings, 0)
         }
     }
+}
+
+// The states of an answer are merged; a refusal stays.
+fn merge_found(told: FindAnswer, lists: u64, table: &mut [u16], marks: &mut [u8]) -> FindAnswer
+    requires { ⌜ FoundLent told lists (now table) (now marks) ⌝ }
+    ensures { λ r. ⌜ MergedAnswer told lists (now (table .entry)) (now (marks .entry)) r (now (table .exit)) (now (marks .exit)) ⌝ }
+{
+    let finding = told.finding;
+    let first = told.first;
+    match finding {
+        Finding::Refused(refusal, line) => {
+            let refused = Finding::Refused(refusal, line);
+            FindAnswer {
+                finding: refused,
+                first,
+            }
+        }
+        Finding::Found(count, states) => {
+            let merged = merge(table, marks, lists as usize, states as usize);
+            let found = Finding::Found(count, merged as u64);
+            FindAnswer {
+                finding: found,
+                first,
+            }
+        }
+    }
+}
+
+// Find, with at most so many standings and states; there is room for 64 and 256. Where there are more, the named parts of the table and of
+// the flags are zeros. States are counted before they are merged.
+pub fn find_rows(
+    labels: u64,
+    lists: u64,
+    follow: &[u64],
+    enter: &[u64],
+    sizes: &[u64; 17],
+    accepting: &[u64; 17],
+    most_standings: u64,
+    most_states: u64,
+    table: &mut [u16],
+    marks: &mut [u8],
+) -> FindAnswer
+    // The tables that reading filled have a row for the query and for each list.
+    requires { ⌜ RowsFit lists (now follow) (now enter) ⌝ }
+    // Reading refuses more labels and lists, there is room for 256 states, and the callers lend the named parts.
+    requires { ⌜ Room labels lists «most_states» (now table) (now marks) ⌝ }
+    // There is room for 64 standings.
+    requires { ⌜ «most_standings» ≤ 64 ⌝ }
+    // The job in memory is what reading left there.
+    requires { ⌜ HoldsJob (now follow) (now enter) (now sizes) (now accepting) labels lists ⌝ }
+    ensures { λ r. ⌜ CoreTold (now (follow .entry)) (now (enter .entry)) (now (sizes .entry)) (now (accepting .entry)) labels lists
+        «most_standings» «most_states» (now (table .entry)) (now (marks .entry)) r (now (table .exit)) (now (marks .exit)) ⌝ }
+{
+    let told = explore_rows(
+        labels,
+        lists,
+        follow,
+        enter,
+        sizes,
+        accepting,
+        most_standings,
+        most_states,
+        table,
+        marks,
+    );
+    merge_found(told, lists, table, marks)
 }

@@ -10,13 +10,18 @@ use Rattle.syntax.specs.Byte.{Bytes}
 -- One sentence of a case. Verdicts have their allowance, answers from links the chosen expression.
 pub data Claim : Type 0 where
   standings : ℕ → Claim
+  -- document 01's states, before they are merged
   states : ℕ → Claim
   -- the same with a greater limit, which comes first, where 64 or 256 is exceeded
   standings-within : ℕ → ℕ → Claim
   states-within : ℕ → ℕ → Claim
-  -- the next states of each state in list order, row after row
+  -- the next states of each state in list order, row after row, and the flags, before states are merged
   next-states : List ℕ → Claim
   flags : List ℕ → Claim
+  -- the same of the states that Find gives, merged
+  merged-states : ℕ → Claim
+  merged-next-states : List ℕ → Claim
+  merged-flags : List ℕ → Claim
   first : Option Word → Claim
   complete : ℕ → Claim
   missed : ℕ → Path → Claim
@@ -66,15 +71,15 @@ abbrev pub p7 : Bytes
 p7 =
     108 ∷ (97 ∷ (98 ∷ (101 ∷ (108 ∷ (32 ∷ (97 ∷ (10 ∷ (113 ∷ (117 ∷ (101 ∷ (114 ∷ (121 ∷ (32 ∷ (97 ∷ (46 ∷ (97 ∷ (46 ∷ (97 ∷ (10 ∷ (108 ∷ (105 ∷ (115 ∷ (116 ∷ (32 ∷ (108 ∷ (32 ∷ (97 ∷ (10 ∷ (108 ∷ (105 ∷ (115 ∷ (116 ∷ (32 ∷ (109 ∷ (32 ∷ (97 ∷ (63 ∷ (10 ∷ []))))))))))))))))))))))))))))))))))))))
 
--- P1 to P8, in order.
+-- P1 to P8, in order: what document 01 says, and what Find gives with its states merged.
 abbrev pub cases : List Case
 cases =
-    (record { text = p1; claims = standings 5 ∷ (states 4 ∷ (next-states (1 ∷ (2 ∷ (2 ∷ (3 ∷ (2 ∷ (2 ∷ (2 ∷ (2 ∷ [])))))))) ∷ (flags (0 ∷ (0 ∷ (0 ∷ (1 ∷ [])))) ∷ (first (some (0 ∷ (1 ∷ []))) ∷ (missed 11 (0 ∷ (2 ∷ [])) ∷ (pairs 11 11 ∷ (refused 10 13 ∷ []))))))) })
-    ∷ ((record { text = p2; claims = standings 6 ∷ (states 6 ∷ (complete 4096 ∷ [])) })
-    ∷ ((record { text = p3; claims = states 5 ∷ (missed 4096 (0 ∷ (2 ∷ [])) ∷ []) })
-    ∷ ((record { text = p4; claims = states 2 ∷ (flags (1 ∷ (1 ∷ [])) ∷ (first (some []) ∷ (complete 4096 ∷ []))) })
-    ∷ ((record { text = p5; claims = first none ∷ (missed 4096 (0 ∷ []) ∷ []) })
-    ∷ ((record { text = p6; claims = states 1 ∷ (first (some []) ∷ (missed 4096 (0 ∷ []) ∷ [])) })
-    ∷ ((record { text = p7; claims = standings 5 ∷ (states 15 ∷ []) })
+    (record { text = p1; claims = standings 5 ∷ (states 4 ∷ (next-states (1 ∷ (2 ∷ (2 ∷ (3 ∷ (2 ∷ (2 ∷ (2 ∷ (2 ∷ [])))))))) ∷ (flags (0 ∷ (0 ∷ (0 ∷ (1 ∷ [])))) ∷ (first (some (0 ∷ (1 ∷ []))) ∷ (missed 11 (0 ∷ (2 ∷ [])) ∷ (pairs 11 11 ∷ (refused 10 13 ∷ (merged-states 4 ∷ (merged-next-states (1 ∷ (2 ∷ (2 ∷ (3 ∷ (2 ∷ (2 ∷ (2 ∷ (2 ∷ [])))))))) ∷ (merged-flags (0 ∷ (0 ∷ (0 ∷ (1 ∷ [])))) ∷ [])))))))))) })
+    ∷ ((record { text = p2; claims = standings 6 ∷ (states 6 ∷ (complete 4096 ∷ (merged-states 3 ∷ (merged-next-states (1 ∷ (0 ∷ (2 ∷ (2 ∷ (2 ∷ (1 ∷ (2 ∷ (2 ∷ (2 ∷ []))))))))) ∷ (merged-flags (0 ∷ (1 ∷ (0 ∷ []))) ∷ (pairs 4096 14 ∷ [])))))) })
+    ∷ ((record { text = p3; claims = states 5 ∷ (missed 4096 (0 ∷ (2 ∷ [])) ∷ (merged-states 3 ∷ (pairs 4096 12 ∷ []))) })
+    ∷ ((record { text = p4; claims = states 2 ∷ (flags (1 ∷ (1 ∷ [])) ∷ (first (some []) ∷ (complete 4096 ∷ (merged-states 1 ∷ (merged-flags (1 ∷ []) ∷ []))))) })
+    ∷ ((record { text = p5; claims = first none ∷ (missed 4096 (0 ∷ []) ∷ (merged-states 1 ∷ (merged-flags (0 ∷ []) ∷ []))) })
+    ∷ ((record { text = p6; claims = states 1 ∷ (first (some []) ∷ (missed 4096 (0 ∷ []) ∷ (merged-states 1 ∷ []))) })
+    ∷ ((record { text = p7; claims = standings 5 ∷ (states 15 ∷ (merged-states 5 ∷ [])) })
     ∷ ((record { text = p1; claims = links 3 0 (0 ∷ (0 ∷ (1 ∷ (1 ∷ (1 ∷ (0 ∷ (1 ∷ (2 ∷ (2 ∷ []))))))))) 0 (1 ∷ (0 ∷ (1 ∷ []))) ∷ (lists 3 (0 ∷ (0 ∷ (1 ∷ (1 ∷ (1 ∷ (0 ∷ [])))))) 0 (1 ∷ (0 ∷ (0 ∷ []))) ∷ []) })
     ∷ [])))))))

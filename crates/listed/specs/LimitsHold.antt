@@ -35,7 +35,7 @@ limits =
     ∷ [])))))
 
 pub limits-hold : CasesHold limits
-unfolding Places.collect Places.unionOver Automaton.nullable Automaton.first Automaton.last Automaton.link Automaton.follows Automaton.labelled Automaton.glushkov Automaton.nexts Automaton.step Automaton.accepts Exploration.known Exploration.grow Exploration.extend Exploration.row Exploration.sweep Exploration.explore Closure.closure Byte.kind Name.nameBytes Name.isName Name.sameName Name.find Parser.run Parser.pastRun Parser.pastMark Parser.suffixes Parser.named Parser.suffixed Parser.closed Parser.joined Parser.parse Parser.alternatives Limits.balance Limits.nesting Limits.leaves Limits.runs Resolve.numbered Resolve.known Resolve.namesAt Check.checkTree Check.check Read.cutAt Read.after Read.fresh Read.givenLabel Read.givenQuery Read.givenList Read.early Read.late Read.given Read.ended Read.readLines Read.read Standings.standings Standings.values Standings.placeFrom Standings.placeOf Standings.move ListImage.onwards ListImage.nextNodes ListImage.reachedNodes ListImage.placesAt ListImage.image ListImage.imagesFrom ListImage.imageTable States.stateStep States.states Find.findStates Find.findAutomata Find.find verdictJob Texts.repeated Texts.sequenceOf Texts.sequenceText Texts.followedText Texts.optionalText
+unfolding Places.collect Places.unionOver Automaton.nullable Automaton.first Automaton.last Automaton.link Automaton.follows Automaton.labelled Automaton.glushkov Automaton.nexts Automaton.step Automaton.accepts Exploration.known Exploration.grow Exploration.extend Exploration.row Exploration.sweep Exploration.explore Closure.closure Byte.kind Name.nameBytes Name.isName Name.sameName Name.find Parser.run Parser.pastRun Parser.pastMark Parser.suffixes Parser.named Parser.suffixed Parser.closed Parser.joined Parser.parse Parser.alternatives Limits.balance Limits.nesting Limits.leaves Limits.runs Resolve.numbered Resolve.known Resolve.namesAt Check.checkTree Check.check Read.cutAt Read.after Read.fresh Read.givenLabel Read.givenQuery Read.givenList Read.early Read.late Read.given Read.ended Read.readLines Read.read Standings.standings Standings.values Standings.placeFrom Standings.placeOf Standings.move ListImage.onwards ListImage.nextNodes ListImage.reachedNodes ListImage.placesAt ListImage.image ListImage.imagesFrom ListImage.imageTable States.stateStep States.states Find.findStates Find.exploreAutomata Find.mergedFound Find.unmerged Find.findAutomata Find.find verdictJob Texts.repeated Texts.sequenceOf Texts.sequenceText Texts.followedText Texts.optionalText
 limits-hold = ((refl, tt), ((refl, (refl, tt)), ((refl, tt), ((refl, (refl, tt)), ((refl, tt), ((refl, (refl, tt)), tt))))))
 
 -- 64 a's are refusal 7, in line 2.

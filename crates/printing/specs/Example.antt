@@ -5,6 +5,13 @@ use Rattle.theory.specs.Places
 use Rattle.theory.specs.Automaton
 use Rattle.theory.specs.Exploration
 use Rattle.theory.specs.Closure
+use Rattle.theory.specs.NumberLists
+use Rattle.theory.specs.FirstBelow
+use Rattle.theory.specs.Leader
+use Rattle.theory.specs.Leaders
+use Rattle.theory.specs.Refinement
+use Rattle.theory.specs.Quotient
+use Rattle.theory.specs.Minimized
 use Rattle.syntax.specs.Byte
 use Rattle.syntax.specs.Name
 use Rattle.syntax.specs.Parser
@@ -49,5 +56,5 @@ examplePrinted =
     ++ ((112 ∷ (97 ∷ (105 ∷ (114 ∷ (115 ∷ (32 ∷ (49 ∷ (49 ∷ (10 ∷ [])))))))))))))))))
 
 pub example : Printed.printed exampleJob ≡ examplePrinted
-unfolding Places.collect Places.unionOver Automaton.nullable Automaton.first Automaton.last Automaton.link Automaton.follows Automaton.labelled Automaton.glushkov Automaton.nexts Automaton.step Automaton.standingFrom Automaton.standing Automaton.accepts Exploration.run Exploration.known Exploration.grow Exploration.extend Exploration.row Exploration.sweep Exploration.explore Closure.closure Byte.kind Name.nameBytes Name.isName Name.sameName Name.find Parser.run Parser.pastRun Parser.pastMark Parser.suffixes Parser.named Parser.suffixed Parser.closed Parser.joined Parser.parse Parser.alternatives Limits.balance Limits.nesting Limits.leaves Limits.runs Resolve.numbered Resolve.known Resolve.namesAt Check.checkTree Check.check Read.cutAt Read.after Read.fresh Read.givenLabel Read.givenQuery Read.givenList Read.early Read.late Read.given Read.ended Read.readLines Read.read Standings.standings Standings.values Standings.placeFrom Standings.placeOf Standings.move ListImage.onwards ListImage.nextNodes ListImage.reachedNodes ListImage.placesAt ListImage.image ListImage.imagesFrom ListImage.imageTable States.stateStep States.states States.acceptingStandings States.stateAccepts States.firstAccepted Find.row Find.rows Find.flag Find.findStates Find.findAutomata Find.find Cover.allOccurrences Cover.width Cover.places Cover.entered Cover.movedWithin Cover.moves Cover.passed Cover.finished Cover.ends Cover.settled Cover.coverStart Cover.coverStep Cover.yielding Pairs.samePair Pairs.pairs Pairs.misses Pairs.firstMissed Verdict.verdict verdictJob Decimal.digits Decimal.decimal Lines.inLine Lines.refusalLine Lines.countLine Lines.spelled Lines.namedLine Lines.nexts Lines.row Lines.rows Lines.firstLine Lines.rewritingLines Printed.verdictLines Printed.printedFound Printed.printedReading Printed.printedAt
+unfolding Places.collect Places.unionOver Automaton.nullable Automaton.first Automaton.last Automaton.link Automaton.follows Automaton.labelled Automaton.glushkov Automaton.nexts Automaton.step Automaton.standingFrom Automaton.standing Automaton.accepts Exploration.run Exploration.known Exploration.grow Exploration.extend Exploration.row Exploration.sweep Exploration.explore Closure.closure Byte.kind Name.nameBytes Name.isName Name.sameName Name.find Parser.run Parser.pastRun Parser.pastMark Parser.suffixes Parser.named Parser.suffixed Parser.closed Parser.joined Parser.parse Parser.alternatives Limits.balance Limits.nesting Limits.leaves Limits.runs Resolve.numbered Resolve.known Resolve.namesAt Check.checkTree Check.check Read.cutAt Read.after Read.fresh Read.givenLabel Read.givenQuery Read.givenList Read.early Read.late Read.given Read.ended Read.readLines Read.read Standings.standings Standings.values Standings.placeFrom Standings.placeOf Standings.move ListImage.onwards ListImage.nextNodes ListImage.reachedNodes ListImage.placesAt ListImage.image ListImage.imagesFrom ListImage.imageTable States.stateStep States.states States.acceptingStandings States.stateAccepts States.firstAccepted Find.row Find.rows Find.flag Find.findStates Find.exploreAutomata Find.entryOf Find.tableOf Find.flagsOf Find.mergedFound Find.findAutomata Find.find NumberLists.tabulate NumberLists.equal FirstBelow.firstBelow Leader.leader Leaders.leaders Refinement.flagNumber Refinement.signature Refinement.round Refinement.rounds Refinement.classes Quotient.quotient Minimized.classNumber Minimized.firstMember Minimized.merged Minimized.minimized Cover.allOccurrences Cover.width Cover.places Cover.entered Cover.movedWithin Cover.moves Cover.passed Cover.finished Cover.ends Cover.settled Cover.coverStart Cover.coverStep Cover.yielding Pairs.samePair Pairs.pairs Pairs.misses Pairs.firstMissed Verdict.verdict verdictJob Decimal.digits Decimal.decimal Lines.inLine Lines.refusalLine Lines.countLine Lines.spelled Lines.namedLine Lines.nexts Lines.row Lines.rows Lines.firstLine Lines.rewritingLines Printed.verdictLines Printed.printedFound Printed.printedReading Printed.printedAt
 example = refl

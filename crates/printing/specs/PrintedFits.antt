@@ -53,7 +53,7 @@ rewriting-length names short few n R small =
       count-length 2 queryWord (R .standings) (omega (arith, small .few-standings)),
       count-length 2 statesWord (R .states) (omega (arith, small .few-states)),
       rows-length (R .table) (R .flags) (λ i. omega (arith, small .entries i, small .few-states)) (length names) few (R .states) 0 (omega (arith, small .few-states)),
-      first-length names short (R .first) (λ w e. omega (arith, small .short w e, small .few-states)),
+      first-length names short (R .first) (λ w e. omega (arith, small .short w e)),
       small .few-states,
     )
 

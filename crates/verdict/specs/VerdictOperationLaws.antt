@@ -6,8 +6,8 @@ use mathlib.Core.Path.{_≡_, refl, sym, ap, ap₂, _∙_, subst}
 use native.Mathlib.Omega.{arith}
 use borrow.Author.Tests.{le-leb, lt-leb}
 use lib.Dec.{leb}
-use lib.ListN.{length, take, drop, replicate, length-append, length-replicate, take-append-drop}
-use lib.Seq.{take-at, drop-at}
+use lib.ListN.{length, take, drop, replicate, take-append-drop}
+use lib.Seq.{take-at}
 use Rattle.theory.specs.Path.{Path}
 use Rattle.theory.specs.Job.{Job}
 use Rattle.theory.specs.Automaton.{glushkov}
@@ -30,6 +30,7 @@ use Rattle.finding.specs.RowsFit.{RowsFit}
 use Rattle.finding.specs.Padded.{cleared-front, cleared-behind}
 use Rattle.finding.specs.Outcome.{left as findLeft, leftBy as findLeftBy}
 use Rattle.finding.specs.Named.{cleared, written}
+use Rattle.finding.specs.WrittenLaws.{written-behind}
 use Rattle.finding.specs.CoreTold.{CoreTold}
 use Rattle.finding.specs.Operation.{job-told, holding}
 use Rattle.verdict.specs.declared.operation.VerdictAnswer.{VerdictAnswer}
@@ -75,11 +76,6 @@ module _ {follow enter sizes accepting : List ℕ} {labels lists : ℕ} (long : 
 written-front : (n k : ℕ) (xs lent : List ℕ) → length xs ≡ k → take k (written n xs lent) ≡ xs
 written-front n k xs lent e =
     ap (take k) (append-assoc xs (replicate (n - length xs) 0) (drop n lent)) ∙ take-at xs (replicate (n - length xs) 0 ++ drop n lent) k e
-
-written-behind : (n : ℕ) (xs lent : List ℕ) → length xs ≤ n → drop n (written n xs lent) ≡ drop n lent
-written-behind n xs lent h =
-    drop-at (xs ++ replicate (n - length xs) 0) (drop n lent) n
-    (omega (arith, length-append xs (replicate (n - length xs) 0), length-replicate {A = ℕ} (n - length xs) 0))
 
 module _ {J : Job} {follow enter sizes accepting : List ℕ} {labels lists : ℕ}
     (g : JobGiven J follow enter sizes accepting labels lists) where

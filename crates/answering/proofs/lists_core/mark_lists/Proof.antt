@@ -2,7 +2,7 @@
 use mathlib.Core.Bool.{false≢true}
 use mathlib.Core.Path.{refl, sym, _∙_}
 use borrow.Author.Tests.{not-true, not-false}
-use Rattle.answering.specs.Ranks.{unranked, accepted-none}
+use Rattle.answering.specs.Ranks.{accepted-none}
 use Rattle.answering.specs.ListsCoreLaws.{lists-marked}
 use native.Mathlib.Omega.{arith}
 use borrow.Author.Needs.{needs}
@@ -21,17 +21,26 @@ returns-2 c =
     absurd
     (false≢true (sym (not-true _ (c .if2 .taken)) ∙ c .before .has-rows .ensures .1 (g .some, g .most, g .few-lists, g .rows)))
 
-slice-aggregate-rank-useful : tie.Need-slice-aggregate-rank-useful
-slice-aggregate-rank-useful c = search needs
+slice-aggregate-rank-states : tie.Need-slice-aggregate-rank-states
+slice-aggregate-rank-states c = search needs
 
-slice-aggregate-rank-useful-2 : tie.Need-slice-aggregate-rank-useful-2
-slice-aggregate-rank-useful-2 c = search needs
+slice-aggregate-rank-states-2 : tie.Need-slice-aggregate-rank-states-2
+slice-aggregate-rank-states-2 c = search needs
 
-rank-useful-requires : tie.Need-rank-useful-requires
-rank-useful-requires c κs =
+rank-states-requires : tie.Need-rank-states-requires
+rank-states-requires c κs =
     let at-if2 = c .before .before in
     let (some, few, lists, rows) = at-if2 .before .has-rows .ensures .0 (not-false _ (at-if2 .if2 .left)) in
-    (unranked few, some, lists, rows)
+    record {
+      some = some;
+      few = few;
+      few-lists = lists;
+      rows = rows;
+      ranks-fit = omega arith;
+      kept-fit = omega arith;
+      first = refl;
+      start = refl;
+    }
 
 slice-aggregate-accept-ranks : tie.Need-slice-aggregate-accept-ranks
 slice-aggregate-accept-ranks c = search needs
@@ -41,10 +50,10 @@ slice-aggregate-accept-ranks-2 c = search needs
 
 accept-ranks-requires : tie.Need-accept-ranks-requires
 accept-ranks-requires c κs =
-    let at-rank-useful = c .before .before .before .before in
-    let at-if2 = at-rank-useful .before .before .before in
+    let at-rank-states = c .before .before .before .before in
+    let at-if2 = at-rank-states .before .before .before in
     let (some, few, lists, rows) = at-if2 .before .has-rows .ensures .0 (not-false _ (at-if2 .if2 .left)) in
-    let f = at-rank-useful .rank-useful in
+    let f = at-rank-states .rank-states in
     let k = f .ensures in (
       omega (arith, k .few),
       omega (arith, k .few),
@@ -55,10 +64,10 @@ accept-ranks-requires c κs =
 
 add-words : tie.Need-add-words
 add-words c =
-    let at-rank-useful = c .before .before .before .before .before .before in
-    let at-if2 = at-rank-useful .before .before .before in
+    let at-rank-states = c .before .before .before .before .before .before in
+    let at-if2 = at-rank-states .before .before .before in
     let (some, few, lists, rows) = at-if2 .before .has-rows .ensures .0 (not-false _ (at-if2 .if2 .left)) in
-    omega (arith, at-rank-useful .rank-useful .ensures .few)
+    omega (arith, at-rank-states .rank-states .ensures .few)
 
 slice-aggregate-search-states : tie.Need-slice-aggregate-search-states
 slice-aggregate-search-states c = search needs
@@ -68,10 +77,10 @@ slice-aggregate-search-states-2 c = search needs
 
 search-states-requires : tie.Need-search-states-requires
 search-states-requires c κs =
-    let at-rank-useful = c .before .before .before .before .before .before .before .before .before in
-    let at-if2 = at-rank-useful .before .before .before in
+    let at-rank-states = c .before .before .before .before .before .before .before .before .before in
+    let at-if2 = at-rank-states .before .before .before in
     let (some, few, lists, rows) = at-if2 .before .has-rows .ensures .0 (not-false _ (at-if2 .if2 .left)) in
-    let k = at-rank-useful .rank-useful .ensures in
+    let k = at-rank-states .rank-states .ensures in
     let n = k .few in
     let p = at-if2 .before .before .before .before .before .before .before .before .pre in (
       record {
@@ -111,9 +120,9 @@ returns-3 c =
     let at-known = at-mark .before .before .before .before in
     let at-search = at-known .before .before in
     let at-accept-ranks = at-search .before .before .before .before .before in
-    let at-rank-useful = at-accept-ranks .before .before .before .before .before in
+    let at-rank-states = at-accept-ranks .before .before .before .before .before in
     λ l R g.
-    lists-marked g l (at-rank-useful .rank-useful .ensures) (at-accept-ranks .accept-ranks .ensures) refl
+    lists-marked g l (at-rank-states .rank-states .ensures) (at-accept-ranks .accept-ranks .ensures) refl
     (at-search .search-states .ensures) (λ i. at-known .slice-known3 .given i .fits) (at-mark .mark .ensures)
     (at-clear-words .clear-words .ensures)
 
@@ -124,9 +133,9 @@ mark-lists-spec =
     returns
     has-rows-requires
     returns-2
-    slice-aggregate-rank-useful
-    slice-aggregate-rank-useful-2
-    rank-useful-requires
+    slice-aggregate-rank-states
+    slice-aggregate-rank-states-2
+    rank-states-requires
     slice-aggregate-accept-ranks
     slice-aggregate-accept-ranks-2
     accept-ranks-requires

@@ -1,84 +1,73 @@
--- `rank_states` meets its contract. The loop's invariant: the states of the set below s have their ranks.
-use Prim.Native.Nat.{_-_, _≤_}
+-- `rank_states` meets its contract. The loop's invariant: the states below s have their ranks.
+use Prim.Native.Nat.{_-_, _≤_, _<_}
 use mathlib.Core.Logic.{⊎-elim}
 use mathlib.Core.Path.{_≡_, refl}
 use lib.ListN.{length, length-set}
-use Rattle.answering.specs.Ranks.{Ranked, rows-less, ranked-none, ranked-out, ranked-alike, ranked-next}
+use Rattle.answering.specs.Ranks.{Ranks, ranks-start, ranks-out, ranks-next}
 use native.Mathlib.Omega.{arith}
 use borrow.Author.Needs.{needs}
 use Rattle.answering.proofs.ranks.rank_states.Statement.{statement}
 use Rattle.answering.proofs.ranks.rank_states.Tie as tie
 
 abbrev Inv-loop : tie.InvT-loop
-Inv-loop next flags lists set states ranks₀ kept₀ count₀ s₀ ranks kept count s =
-    (s ≤ states) × (length ranks ≡ length ranks₀) × (length kept ≡ length kept₀)
-    × Ranked next lists flags set states s ranks kept count
+Inv-loop next flags lists states ranks₀ kept₀ count₀ s₀ ranks kept count s =
+    (s ≤ states) × (length ranks ≡ length ranks₀) × (length kept ≡ length kept₀) × Ranks next lists s flags ranks kept count
 
 abbrev μ-loop : tie.MeasureT-loop
-μ-loop next flags lists set states ranks₀ kept₀ count₀ s₀ ranks kept count s = states - s
+μ-loop next flags lists states ranks₀ kept₀ count₀ s₀ ranks kept count s = states - s
 
 loop-holds : tie.Need-loop-holds Inv-loop μ-loop
-loop-holds c = (omega arith, refl, refl, ranked-none (c .before .before .before .before .pre .0))
+loop-holds c =
+    let at-start = c .before .before .before in
+    let p = at-start .pre in (omega (arith, p .some), refl, refl, ranks-start (at-start .args .flags .now) p)
 
-shared-slice-read-if1 : tie.Need-shared-slice-read-if1 Inv-loop μ-loop
-shared-slice-read-if1 c =
-    let at-loop = c .before .before in
-    let at-start = at-loop .before .before .before .before .before in omega (arith, at-start .pre .2)
-
-rank-alike-requires : tie.Need-rank-alike-requires Inv-loop μ-loop
-rank-alike-requires c κs =
-    let at-loop = c .before .before .before .before in
-    let at-start = at-loop .before .before .before .before .before in
+-- What is known in the loop: there is room for the rank of s, and for s among those that are kept.
+fits : (c : tie.After-leads-nowhere Inv-loop μ-loop)
+    → let l = c .before .before .loop in
+    (l .s < 256) × (l .s < length (l .ranks)) × (l .count ≤ l .s) × (l .count < length (l .kept))
+fits c =
+    let l = c .before .before .loop in
+    let at-start = c .before .before .before .before .before .before in
     let p = at-start .pre in
-    let v = at-loop .loop .inv in
-    record {
-      few = omega (arith, p .0 .few);
-      rows = rows-less (omega arith) (p .1);
-      kept-fit = omega (arith, v .2, v .3 .few, p .0 .kept-fit);
-      inside = v .3 .inside;
-    }
+    let v = l .inv in
+    let h = c .before .loop-test .taken in (
+      omega (arith, p .few),
+      omega (arith, v .1, p .ranks-fit),
+      v .3 .few,
+      omega (arith, v .2, p .kept-fit, v .3 .few),
+    )
 
-cast-ranks : tie.Need-cast-ranks Inv-loop μ-loop
-cast-ranks c =
-    let at-loop = c .before .before .before .before .before in
-    let at-start = at-loop .before .before .before .before .before in
-    omega (arith, at-start .pre .0 .few, at-loop .loop .inv .3 .few, c .rank-alike .ensures .most)
+leads-nowhere-requires : tie.Need-leads-nowhere-requires Inv-loop μ-loop
+leads-nowhere-requires c κs =
+    let p = c .before .before .before .before .before .pre in
+    (omega (arith, p .few), omega (arith, p .few-lists, p .rows))
 
 mul-ranks : tie.Need-mul-ranks Inv-loop μ-loop
-mul-ranks c =
-    let at-loop = c .before .before .before .before .before in
-    let at-start = at-loop .before .before .before .before .before in
-    omega (arith, at-start .pre .0 .few)
+mul-ranks c = search needs
 
 slice-write-ranks : tie.Need-slice-write-ranks Inv-loop μ-loop
-slice-write-ranks c =
-    let at-loop = c .before .before .before .before .before in
-    let at-start = at-loop .before .before .before .before .before in
-    omega (arith, at-start .pre .0 .ranks-fit)
+slice-write-ranks c = omega (arith, fits (c .before))
+
+cast-ranks : tie.Need-cast-ranks Inv-loop μ-loop
+cast-ranks c = omega (arith, fits (c .before))
+
+mul-ranks-2 : tie.Need-mul-ranks-2 Inv-loop μ-loop
+mul-ranks-2 c = search needs
+
+slice-write-ranks-2 : tie.Need-slice-write-ranks-2 Inv-loop μ-loop
+slice-write-ranks-2 c = omega (arith, fits (c .before))
 
 cast-kept : tie.Need-cast-kept Inv-loop μ-loop
-cast-kept c =
-    let at-loop = c .before .before .before .before .before .before in
-    let at-start = at-loop .before .before .before .before .before in
-    omega (arith, at-start .pre .0 .few)
+cast-kept c = search needs
 
 mul-kept : tie.Need-mul-kept Inv-loop μ-loop
-mul-kept c =
-    let at-loop = c .before .before .before .before .before .before in
-    let at-start = at-loop .before .before .before .before .before in
-    omega (arith, at-start .pre .0 .few, at-loop .loop .inv .3 .few)
+mul-kept c = omega (arith, fits (c .before))
 
 slice-write-kept : tie.Need-slice-write-kept Inv-loop μ-loop
-slice-write-kept c =
-    let at-loop = c .before .before .before .before .before .before in
-    let at-start = at-loop .before .before .before .before .before in
-    omega (arith, at-start .pre .0 .kept-fit, at-loop .loop .inv .3 .few)
+slice-write-kept c = omega (arith, fits (c .before))
 
 add-count : tie.Need-add-count Inv-loop μ-loop
-add-count c =
-    let at-loop = c .before .before .before .before .before .before in
-    let at-start = at-loop .before .before .before .before .before in
-    omega (arith, at-start .pre .0 .few, at-loop .loop .inv .3 .few)
+add-count c = omega (arith, fits (c .before))
 
 add-s : tie.Need-add-s Inv-loop μ-loop
 add-s c = search needs
@@ -88,28 +77,23 @@ loop-less c = search needs
 
 loop-again : tie.Need-loop-again Inv-loop μ-loop
 loop-again c =
-    let at-loop-test = c .before .before in
-    let at-loop = at-loop-test .before in
-    let at-start = at-loop .before .before .before .before .before in
-    let b = at-start .pre .0 in
-    let v = at-loop .loop .inv in
-    let f = v .3 .few in
-    let h = at-loop-test .loop-test .taken in
+    let at-leads-nowhere = c .before in
+    let at-loop-test = at-leads-nowhere .before in
+    let (few, ranks-fit, most, kept-fit) = fits at-leads-nowhere in
+    let v = at-loop-test .before .loop .inv in
     ⊎-elim
-    (λ w. rw (w .4, w .5, w .6) (
-      omega arith,
-      simp length-set (v .1),
-      simp length-set (v .2),
-      ranked-next (v .3) (omega (arith, b .ranks-fit)) (w .0 .taken) (w .2 .ensures) (omega (arith, b .kept-fit)) (w .3 .taken),
-    ))
-    (⊎-elim
-    (λ w. rw (w .4, w .5, w .6) (
+    (λ w. rw (w .1, w .2, w .3) (
       omega arith,
       simp length-set (v .1),
       v .2,
-      ranked-alike (v .3) (omega (arith, b .ranks-fit)) (w .0 .taken) (w .2 .ensures) (w .3 .left),
+      ranks-out (v .3) few ranks-fit (at-leads-nowhere .leads-nowhere .ensures .0 (w .0 .taken)),
     ))
-    (λ w. rw (w .1, w .2, w .3) (omega arith, v .1, v .2, ranked-out (v .3) (w .0 .left))))
+    (λ w. rw (w .1, w .2, w .3) (
+      omega arith,
+      simp length-set (v .1),
+      simp length-set (v .2),
+      ranks-next (v .3) few ranks-fit kept-fit,
+    ))
     (c .if1 .came)
 
 same-length : tie.Need-same-length Inv-loop μ-loop
@@ -121,7 +105,7 @@ same-length-2 c = search needs
 returns : tie.Need-returns Inv-loop μ-loop
 returns c =
     let at-loop = c .before in
-    let at-start = at-loop .before .before .before .before .before in
+    let at-start = at-loop .before .before .before .before in
     let e : at-loop .loop .s ≡ at-start .args .states = omega arith in
     rw e at (at-loop .loop .inv .3)
 
@@ -132,11 +116,12 @@ rank-states-spec =
     Inv-loop
     μ-loop
     loop-holds
-    shared-slice-read-if1
-    rank-alike-requires
-    cast-ranks
+    leads-nowhere-requires
     mul-ranks
     slice-write-ranks
+    cast-ranks
+    mul-ranks-2
+    slice-write-ranks-2
     cast-kept
     mul-kept
     slice-write-kept

@@ -2,7 +2,7 @@
 use Prim.Native.Nat.{_<_}
 use mathlib.Core.Path.{_≡_, sym, ap, _∙_, subst}
 use lib.ListN.{getD}
-use Rattle.answering.specs.Useful.{nextOf}
+use Rattle.answering.specs.Ranks.{nextOf}
 use Rattle.answering.specs.StateSets.{rows-few, row-room, step-none, step-put}
 use native.Mathlib.Omega.{arith}
 use borrow.Author.Needs.{needs}
