@@ -15,6 +15,9 @@
 static const char example[] =
     "label episode\nlabel mix\nlabel master\nquery episode.(mix|master)\nlist episodes episode\nlist mixes mix\n";
 
+/* P2, the example of document 001: six states, of which three are left when they are merged. */
+static const char p2[] = "label a\nlabel b\nlabel c\nquery a.(b.a|c)*\nlist e1 a\nlist e2 a.c*.b\nlist e3 c\n";
+
 /* Texts that are made when the program begins. */
 static char too_long[8194], labels_33[1024], lists_17[1024], bytes_513[1024], deep_17[256], a_64[256];
 static char a_63[256], a_21[256], places_1088[512], everywhere[64];
@@ -45,9 +48,13 @@ static const struct refused refused_texts[] = {
 static const uint16_t example_table[] = {
     [0] = 1, [1] = 2, [16] = 2, [17] = 3, [32] = 2, [33] = 2, [48] = 2, [49] = 2,
 };
-static const uint16_t both_to_1[] = {[0] = 1, [16] = 1};
+static const uint16_t p2_table[] = {[0] = 1, [2] = 2, [16] = 2, [17] = 2, [18] = 1, [32] = 2, [33] = 2, [34] = 2};
+static const uint8_t p2_flags[] = {0, 1, 0}, p2_word[] = {0};
 static const uint8_t example_flags[] = {0, 0, 0, 1}, example_word[] = {0, 1}, example_missed[] = {0, 2};
 static const uint8_t example_kept[] = "LRW\0\1\2\0\4\10episodes\5mixes\0\0\1\0\2\0\0\2\0\3\0\0\2\0\2\1\0\2\0\2";
+static const uint8_t p2_kept[] = "LRW\0\1\3\0\3\2e1\2e2\2e3\0\0\1\0\0\0\2\1\0\2\0\2\0\1\0\0\2\0\2\0\2";
+/* One a or more, however it is said. */
+static const uint8_t alike_kept[] = "LRW\0\1\1\0\2\1l\0\0\1\1\0\1";
 
 /* P8: N = 3, and links or lists from 0. */
 static const uint16_t links[] = {0, 0, 1, 1, 1, 0, 1, 2, 2}, lists[] = {0, 0, 1, 1, 1, 0};
@@ -66,14 +73,14 @@ static const struct call find_calls[] = {
      .left = {CELLS(example_table), CELLS(example_flags), CELLS(example_word)}},
     {.what = "the same, longer buffers", .job = example, .spare = {7, 5, 3}, .told = {5, 4, 3},
      .left = {CELLS(example_table), CELLS(example_flags), CELLS(example_word)}},
-    {.what = "P5, no accepted word", .job = "label a\nquery a\nlist l a*\n", .spare = {1, 1, 1}, .told = {3, 2, 0},
-     .left = {CELLS(both_to_1)}},
+    {.what = "P2, merged", .job = p2, .told = {6, 3, 2}, .left = {CELLS(p2_table), CELLS(p2_flags), CELLS(p2_word)}},
+    {.what = "P5, no accepted word", .job = "label a\nquery a\nlist l a*\n", .spare = {1, 1, 1}, .told = {3, 1, 0}},
     {.what = "a short table", .job = example, .spare = {-1, 0, 0}, .refusal = 8},
     {.what = "short flags", .job = example, .spare = {0, -1, 0}, .refusal = 8},
     {.what = "a short word", .job = example, .spare = {0, 0, -1}, .refusal = 8},
     {.what = "a short word and a text that is refused", .job = "", .spare = {0, 0, -1}, .refusal = 8},
     {.what = "65 standings", .job = a_63, .spare = {9, 9, 9}, .refusal = 9},
-    {.what = "276 states", .job = a_21, .spare = {9, 9, 9}, .refusal = 10},
+    {.what = "276 states before merging", .job = a_21, .spare = {9, 9, 9}, .refusal = 10},
 };
 
 static const struct call verdict_calls[] = {
@@ -81,6 +88,8 @@ static const struct call verdict_calls[] = {
      .left = {CELLS(example_table), CELLS(example_flags), CELLS(example_missed)}},
     {.what = "the same, the most allowed, longer buffers", .job = example, .number = 4096, .spare = {7, 5, 3, 1}, .told = {11, 3},
      .left = {CELLS(example_table), CELLS(example_flags), CELLS(example_missed)}},
+    {.what = "P2, merged", .job = p2, .number = 14, .told = {14, 0}, .left = {CELLS(p2_table), CELLS(p2_flags)}},
+    {.what = "P2, 13 pairs allowed", .job = p2, .number = 13, .spare = {9, 9, 9, 9}, .refusal = 13},
     {.what = "no pair allowed", .job = example, .number = 0, .spare = {1, 1, 1, 1}, .refusal = 11},
     {.what = "4,097 pairs allowed", .job = example, .number = 4097, .refusal = 11},
     {.what = "no pair allowed and short buffers", .job = "", .number = 0, .spare = {-1, -1, 1, 1}, .refusal = 11},
@@ -89,7 +98,7 @@ static const struct call verdict_calls[] = {
     {.what = "a short path", .job = example, .number = 11, .spare = {0, 0, -1, 0}, .refusal = 8},
     {.what = "a short workspace", .job = "", .number = 11, .spare = {0, 0, 0, -1}, .refusal = 8},
     {.what = "65 standings", .job = a_63, .number = 5, .spare = {9, 9, 9, 9}, .refusal = 9},
-    {.what = "276 states", .job = a_21, .number = 5, .spare = {9, 9, 9, 9}, .refusal = 10},
+    {.what = "276 states before merging", .job = a_21, .number = 5, .spare = {9, 9, 9, 9}, .refusal = 10},
     {.what = "1,088 places", .job = places_1088, .number = 1, .spare = {9, 9, 9, 9}, .refusal = 12},
     {.what = "10 pairs allowed", .job = example, .number = 10, .spare = {9, 9, 9, 9}, .refusal = 13},
 };
@@ -131,7 +140,7 @@ static const struct call lists_calls[] = {
     {.what = "a pair twice", .job = a_63, .number = 3, .triples = CELLS(twice), .refusal = 15},
     {.what = "a start that is no recording", .job = a_63, .number = 3, .start = 3, .refusal = 16},
     {.what = "65 standings", .job = a_63, .number = 3, .spare = {9, 9}, .refusal = 9},
-    {.what = "276 states", .job = a_21, .number = 3, .spare = {9, 9}, .refusal = 10},
+    {.what = "276 states before merging", .job = a_21, .number = 3, .spare = {9, 9}, .refusal = 10},
 };
 
 static const struct call read_calls[] = {
@@ -141,9 +150,13 @@ static const struct call read_calls[] = {
 static const struct call keep_calls[] = {
     {.what = "document 01's job", .job = example, .told = {43}, .left = {{example_kept, 43}}},
     {.what = "the same, a longer output", .job = example, .spare = {5}, .told = {43}, .left = {{example_kept, 43}}},
+    {.what = "P2, merged", .job = p2, .told = {38}, .left = {{p2_kept, 38}}},
+    {.what = "a.a*", .job = "label a\nquery a.a*\nlist l a\n", .told = {16}, .left = {{alike_kept, 16}}},
+    {.what = "a*.a", .job = "label a\nquery a*.a\nlist l a\n", .told = {16}, .left = {{alike_kept, 16}}},
+    {.what = "a|a.a.a*", .job = "label a\nquery a|a.a.a*\nlist l a\n", .told = {16}, .left = {{alike_kept, 16}}},
     {.what = "a short output", .job = "", .spare = {-1}, .refusal = 8},
     {.what = "65 standings", .job = a_63, .spare = {9}, .refusal = 9},
-    {.what = "276 states", .job = a_21, .spare = {9}, .refusal = 10},
+    {.what = "276 states before merging", .job = a_21, .spare = {9}, .refusal = 10},
 };
 
 static const struct {
@@ -222,28 +235,50 @@ static void deep_call(enum which operation, const struct deep *d)
     check(operation, &call);
 }
 
-/* 253 states in terms of 16 lists, 14 of them with 63 names: the front of what is kept, and the numbers that are told. */
-static void longest_call(enum which operation)
+/*
+ * Many states in terms of 16 lists, 14 of them with 63 names. The query has a beginning, a front n times, an end, and a back m times. What
+ * Find tells of it, the states merged.
+ */
+struct longest {
+    const char *what, *begin, *front;
+    unsigned n;
+    const char *end, *back;
+    unsigned m, told[TOLD];
+};
+
+static const struct longest longest[] = {
+    {"253 states before merging, 16 lists", "a", ".a", 19, "", "", 0, {22, 22, 21}},
+    {"227 states before merging, 16 lists", "(a", ".a", 14, ")*", ".a?", 13, {16, 211, 1}},
+};
+
+static void make_longest(char *job, const struct longest *l)
 {
-    static const uint8_t kept[] = "LRW\0\1\20\0\375\1l\1m\3n00";
-    char job[4096], *at = append(job, "label a\nquery a", 1);
-    struct call call = {.what = "253 states, 16 lists", .job = job, .front = 1};
+    char *at = append(job, "label a\nquery ", 1);
     unsigned i;
-    at = append(at, ".a", 19);
+    at = append(append(at, l->begin, 1), l->front, l->n);
+    at = append(append(at, l->end, 1), l->back, l->m);
     at = append(at, "\nlist l a\nlist m a?\n", 1);
     for (i = 0; i < 14; i++) {
         at += sprintf(at, "list n%02u a", i);
-        at = append(at, ".a", 62);
-        at = append(at, "\n", 1);
+        at = append(append(at, ".a", 62), "\n", 1);
     }
+}
+
+/* The front of what is kept, and the numbers that are told. */
+static void longest_call(enum which operation, const struct longest *l)
+{
+    char job[4096];
+    const unsigned states = l->told[1];
+    const uint8_t kept[] = {'L', 'R', 'W', 0, 1, 16, 0, (uint8_t)states, 1, 'l', 1, 'm', 3, 'n', '0', '0'};
+    struct call call = {.what = l->what, .job = job, .front = 1};
+    make_longest(job, l);
     if (operation == KEEP) {
         call.left[0].first = kept;
-        call.left[0].count = 16;
-        call.told[0] = 8 + 2 * 2 + 14 * 4 + 253 * 33;
+        call.left[0].count = sizeof kept;
+        call.told[0] = 8 + 2 * 2 + 14 * 4 + states * 33;
         check(KEEP, &call);
     } else if (operation == FIND) {
-        const unsigned told[] = {22, 253, 21};
-        memcpy(call.told, told, sizeof told);
+        memcpy(call.told, l->told, sizeof call.told);
         check(FIND, &call);
     } else if (operation == READ) {
         call.told[0] = 1;
@@ -265,7 +300,8 @@ static void all_calls(enum which operation)
     }
     for (i = 0; i < COUNT(deepest); i++)
         deep_call(operation, &deepest[i]);
-    longest_call(operation);
+    for (i = 0; i < COUNT(longest); i++)
+        longest_call(operation, &longest[i]);
 }
 
 static void sequence(char *job, unsigned names, const char *lists)

@@ -6,7 +6,7 @@ A star is unrolled as many times as the query has standings. That suffices: afte
 comes twice, what lies between can be left out. Where that gives too many paths, only the short ones are looked at."""
 import re
 import sys
-from itertools import product
+from itertools import combinations, product
 
 MOST_PATHS, LONGEST_PATH = 3000, 12  # of a word, beyond which only short paths are looked at
 SHORT = {1: 12, 2: 6, 3: 4}  # by the number of labels: the longest of the short paths
@@ -179,6 +179,17 @@ class Job:
             state = self.table[state][name]
         return state
 
+    def told_apart(self, one, other):
+        met, waiting = {(one, other)}, [(one, other)]
+        while waiting:
+            one, other = waiting.pop()
+            if self.flags[one] != self.flags[other]:
+                return True
+            new = set(zip(self.table[one], self.table[other])) - met
+            met |= new
+            waiting += new
+        return False
+
 
 def read(file):
     job, told = [], []
@@ -262,14 +273,17 @@ class Judge:
             tally[kind] += 1
             if job.flags[state] and first is None:
                 first = word
-            # Two words have one state exactly if the standings after what they spell are the same.
+            # Two words have one state if the standings after what they spell are the same.
             if all_of_them and after is not None and max(map(len, found)) <= self.short:
                 standings_after = frozenset(after[path] for path in found)
                 if sets.setdefault(standings_after, state) != state:
                     job.wrong('%s ends at %d, not at %d' % (word, state, sets[standings_after]))
                 tally['states compared'] += 1
-        if len(set(sets.values())) != len(sets):
-            job.wrong('two states with one number')
+        # And two states are never one: some word that goes on from both is accepted from one of them alone.
+        for one, other in combinations(range(job.states), 2):
+            if not job.told_apart(one, other):
+                job.wrong('no word tells %d from %d' % (one, other))
+            tally['states told apart'] += 1
         if first is not None and first != job.first:
             job.wrong('the first word is %s, told %s' % (first, job.first))
         if job.first is None and any(job.flags) or job.first is not None and not job.flags[job.end(job.first)]:
@@ -277,7 +291,7 @@ class Judge:
 
 
 def main():
-    tally = dict.fromkeys(('accepted', 'refuted', 'open', 'standings counted', 'states compared'), 0)
+    tally = dict.fromkeys(('accepted', 'refuted', 'open', 'standings counted', 'states compared', 'states told apart'), 0)
     jobs = 0
     for job in read(sys.argv[1]):
         Judge(job, tally).judge()

@@ -35,8 +35,8 @@ pub fn from_lists(job: &Job, recordings: usize, lists: &[u16], start: usize) -> 
     if start >= recordings {
         return Err(16);
     }
-    let found = find(job)?;
-    Ok(walk(&leaving, start, &found.table, &found.accepting))
+    let table = find(job)?.table;
+    Ok(walk(&leaving, start, &table.next, &table.accepting))
 }
 
 fn chosen_expression(job: &Job, chosen: usize) -> Option<&Expr> {

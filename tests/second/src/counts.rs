@@ -1,9 +1,10 @@
-//! The numbers of standings and of states of a job, whatever the limits.
+//! The numbers of standings and of states of a job, before any are merged,
+//! whatever the limits.
 
 use crate::automaton::{Automaton, Standing, Standings};
 use crate::explore::Explored;
-use crate::find::after_list;
 use crate::read::Job;
+use crate::states::after_list;
 use std::collections::BTreeSet;
 
 pub fn all_standings(job: &Job) -> usize {

@@ -2,8 +2,8 @@
 //! list, and where each leads.
 
 use crate::automaton::Automaton;
-use crate::find::Found;
 use crate::read::Job;
+use crate::table::Table;
 use crate::turn::Turn;
 use std::collections::BTreeSet;
 
@@ -21,17 +21,17 @@ pub struct Cover {
 
 impl Cover {
     /// Refusal 12, over 1,024 places.
-    pub fn new(turn: Turn, job: &Job, found: &Found) -> Result<Cover, u8> {
+    pub fn new(turn: Turn, job: &Job, table: &Table) -> Result<Cover, u8> {
         let lists = job.lists.iter().map(|list| turn.list(&list.expr));
         let lists: Vec<Automaton> = lists.collect();
         let size: usize = lists.iter().map(Automaton::occurrences).sum();
-        let states = found.table.len();
+        let states = table.states();
         if states * (1 + size) > MOST_PLACES {
             return Err(12);
         }
         let with_empty_names: Vec<Vec<usize>> = (0..states)
             .map(|state| {
-                let states = with_empty_names(&lists, found, state);
+                let states = with_empty_names(&lists, table, state);
                 states.iter().map(|state| state * (1 + size)).collect()
             })
             .collect();
@@ -42,7 +42,7 @@ impl Cover {
             // The place of the last occurrence before this list.
             let mut before = alone;
             for (list, automaton) in lists.iter().enumerate() {
-                let ended = &with_empty_names[found.table[state][list]];
+                let ended = &with_empty_names[table.next[state][list]];
                 for position in 0..=automaton.occurrences() {
                     // The list's start is the state alone.
                     let place = if position == 0 { alone } else { before + position };
@@ -81,12 +81,12 @@ impl Cover {
 
 /// The state, and those after it by names of the empty path: a word that
 /// spells a path, with such names after it, spells that path too.
-fn with_empty_names(lists: &[Automaton], found: &Found, state: usize) -> BTreeSet<usize> {
+fn with_empty_names(lists: &[Automaton], table: &Table, state: usize) -> BTreeSet<usize> {
     let mut reached = BTreeSet::from([state]);
     let mut waiting = vec![state];
     while let Some(here) = waiting.pop() {
         for (list, automaton) in lists.iter().enumerate() {
-            let next = found.table[here][list];
+            let next = table.next[here][list];
             if automaton.nullable && reached.insert(next) {
                 waiting.push(next);
             }

@@ -6,14 +6,14 @@ use crate::read::MOST_TEXT_BYTES;
 
 /// A text that meets the given ones of refusals 9, 10 and 12 and, in its last
 /// line, one of 1 to 7 if given (0: none), with the line that this refusal
-/// tells. Without 9 and 10 it has over one pair, and 12 only if given. The
-/// texts of 9 and 10 together, and of 10 and 12, have all over 1,024 places.
+/// tells. Without 9 and 10 it has over one pair.
 pub fn text(of_reading: u8, later: &[u8]) -> (Vec<u8>, u32) {
     let has = |number: u8| later.contains(&number);
     let length = match (has(9), has(10), has(12)) {
         (true, _, _) => 63,
-        (_, true, _) => 21,
+        // 64 states when merged, more than 256 before with a list `a?`.
         (_, _, true) => 62,
+        (_, true, _) => 21,
         _ => 2,
     };
     let mut text = format!("label a\nquery {}\nlist e0 a\n", many(length));

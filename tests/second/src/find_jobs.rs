@@ -1,8 +1,10 @@
 //! A seeded generator of right jobs for the operations that need standings and
-//! states: some in every stratum, so that both sides of each limit are met.
+//! states: some in every stratum, so that both sides of each limit are met, and
+//! tables that merging leaves large.
 
 use crate::generate::Random;
 use crate::jobs::{expression, from_the_end, job, lists, many, small, text, Size, LABELS};
+use crate::large::{chain, counter, slack, subsets};
 
 pub struct Sample {
     pub stratum: &'static str,
@@ -12,13 +14,17 @@ pub struct Sample {
 type Make = fn(&mut Random) -> String;
 
 /// The strata, with how many jobs of each there are in a round.
-const STRATA: [(&str, usize, Make); 6] = [
+const STRATA: [(&str, usize, Make); 10] = [
     ("small", 10, small),
     ("larger", 6, larger),
     ("long", 2, long),
     ("many standings", 2, many_standings),
     ("many states", 2, many_states),
     ("sequences", 2, sequences),
+    ("slack", 1, slack),
+    ("counters", 2, counter),
+    ("subsets", 1, subsets),
+    ("chains", 1, chain),
 ];
 
 /// `count` jobs from `seed`.

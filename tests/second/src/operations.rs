@@ -56,16 +56,16 @@ pub fn find(text: &[u8], table: &mut [u16], flags: &mut [u8], word: &mut [u8]) -
         word[place] = *list as u8;
     }
     let first = found.first.map(|word| word.len());
-    Ok(FindTold { standings: found.standings, states: found.states.len(), first })
+    Ok(FindTold { standings: found.standings, states: found.table.states(), first })
 }
 
 /// Writes Find's table and flags over zeros.
 fn write_found(found: &Found, table: &mut [u16], flags: &mut [u8]) {
-    for (state, row) in found.table.iter().enumerate() {
+    for (state, row) in found.table.next.iter().enumerate() {
         for (list, next) in row.iter().enumerate() {
             table[TABLE_ROW * state + list] = *next as u16;
         }
-        flags[state] = u8::from(found.accepting[state]);
+        flags[state] = u8::from(found.table.accepting[state]);
     }
 }
 

@@ -33,9 +33,9 @@ fn print(turn: Turn, text: &[u8], allowance: usize, out: &mut String) -> Result<
     let job = read(text)?;
     let found = find_by(turn, &job).map_err(refusal)?;
     *out += &format!("query {}\n", found.standings);
-    *out += &format!("states {}\n", found.states.len());
-    for (state, row) in found.table.iter().enumerate() {
-        let sign = if found.accepting[state] { '+' } else { '-' };
+    *out += &format!("states {}\n", found.table.states());
+    for (state, row) in found.table.next.iter().enumerate() {
+        let sign = if found.table.accepting[state] { '+' } else { '-' };
         *out += &format!("{state} {sign}");
         for next in row {
             *out += &format!(" {next}");

@@ -20,7 +20,8 @@ pub struct Verdict {
 type Pair = (usize, Vec<usize>);
 
 /// Refusals: 9 and 10 as in Find; 12, over 1,024 cover places; 13, more
-/// distinct pairs than the allowance.
+/// distinct pairs than the allowance. Places and pairs are those of Find's
+/// table, with its states merged.
 pub fn verdict(job: &Job, allowance: usize) -> Result<Verdict, u8> {
     verdict_by(Turn::Right, job, allowance)
 }
@@ -28,7 +29,7 @@ pub fn verdict(job: &Job, allowance: usize) -> Result<Verdict, u8> {
 pub fn verdict_by(turn: Turn, job: &Job, allowance: usize) -> Result<Verdict, u8> {
     let found = find_by(turn, job)?;
     let query = turn.query(job)?;
-    let cover = Cover::new(turn, job, &found)?;
+    let cover = Cover::new(turn, job, &found.table)?;
 
     let step = |(standing, places): &Pair, label: usize| (query.next[*standing][label], cover.after(places, label));
     let start = (0, cover.start.clone());
@@ -37,7 +38,7 @@ pub fn verdict_by(turn: Turn, job: &Job, allowance: usize) -> Result<Verdict, u8
     let is_missed = |(standing, places): &Pair| {
         let states = places.iter().map(|place| cover.state_alone(*place));
         let spelled = states.clone().any(|state| state.is_some());
-        let yielded = turn.one(states.map(|state| state.is_some_and(|s| found.accepting[s])));
+        let yielded = turn.one(states.map(|state| state.is_some_and(|s| found.table.accepting[s])));
         query.accepts[*standing] && !yielded && turn.may_be_missed(spelled)
     };
     let missed = pairs.values.iter().position(is_missed);

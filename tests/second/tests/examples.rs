@@ -2,8 +2,11 @@
 //! printed for NAME.job, and the lists and marks are those of the links.
 
 use second::answer::{exact_lists, from_links, from_lists};
+use second::find::find;
+use second::keep::keep;
 use second::print::printed;
 use second::read::{read, Job};
+use second::states::States;
 use std::collections::BTreeSet;
 use std::path::PathBuf;
 
@@ -47,17 +50,18 @@ fn ends_of_the_outputs() {
     for (name, end) in [
         ("mixes", "\nfirst episodes mixes\nmissed episode master\npairs 11\n"),
         ("masters", "\nfirst episodes pressings\ncomplete\npairs 14\n"),
-        ("guests", "\nfirst direct\ncomplete\npairs 40\n"),
-        ("relay", "\nfirst masters\ncomplete\npairs 25\n"),
-        ("relay-short", "\nfirst masters\nmissed master restored\npairs 17\n"),
+        ("guests", "\nfirst direct\ncomplete\npairs 28\n"),
+        ("relay", "\nstates 3\n0 - 1 0 2\n1 + 2 2 1\n2 - 2 2 2\nfirst masters\ncomplete\npairs 14\n"),
+        ("relay-short", "\nfirst masters\nmissed master restored\npairs 12\n"),
         ("reissues", "\nfirst\ncomplete\npairs 2\n"),
         ("no-lists", "\nfirst\nmissed remaster\npairs 2\n"),
-        ("appearances", "\nempty\nmissed guest episode\npairs 9\n"),
-        ("same-names", "\nfirst show mix\ncomplete\npairs 21\n"),
+        ("appearances", "\nempty\nmissed guest episode\npairs 6\n"),
+        ("same-names", "\nfirst show mix\ncomplete\npairs 17\n"),
         ("serial", "\nfirst parts parts parts\ncomplete\npairs 6\n"),
-        ("edits", "\nfirst mixes cuts cuts cuts\ncomplete\npairs 63\n"),
+        ("edits", "\nfirst mixes cuts cuts cuts\ncomplete\npairs 33\n"),
+        ("alike", "query 4\nstates 2\n0 - 1 1 1\n1 + 1 1 1\nfirst reissues\ncomplete\npairs 4\n"),
         ("box-set", "\nfirst parts parts volumes volumes volumes volumes\nrefused 12\n"),
-        ("takes", "query 3\nstates 2\n0 + 1\n1 + 1\nfirst\nrefused 13\n"),
+        ("takes", "query 3\nstates 1\n0 + 0\nfirst\nrefused 13\n"),
     ] {
         assert!(text(&format!("{name}.out")).ends_with(end), "{name}");
     }
@@ -74,6 +78,21 @@ fn ends_of_the_outputs() {
 
 fn job(name: &str) -> Job {
     read(&bytes(&format!("{name}.job"))).expect("a right job")
+}
+
+/// What the page says of states before merging and after.
+#[test]
+fn merged_states() {
+    for (name, before, after) in [("relay", 6, 3), ("serial", 15, 5), ("edits", 82, 16)] {
+        let job = job(name);
+        assert_eq!(States::of(&job).unwrap().table.states(), before, "{name}");
+        assert_eq!(find(&job).unwrap().table.states(), after, "{name}");
+    }
+    let kept = |text: &str| keep(&read(text.as_bytes()).expect("a right job")).unwrap();
+    let roundabout = text("alike.job");
+    let plain = roundabout.replace("query reissue|reissue.reissue.reissue*\n", "query reissue.reissue*\n");
+    assert_ne!(plain, roundabout);
+    assert_eq!(kept(&plain), kept(&roundabout));
 }
 
 /// A table of triples, one a line.

@@ -4,6 +4,7 @@
 use second::find::find;
 use second::keep::keep;
 use second::read::{read, Job};
+use second::states::States;
 
 fn page() -> String {
     let path = concat!(env!("CARGO_MANIFEST_DIR"), "/../../docs/FORMAT.md");
@@ -81,7 +82,7 @@ fn parts_of_the_kept_file() {
 /// The words that the page follows by hand, with their states and flags.
 #[test]
 fn words_followed_by_hand() {
-    let found = find(&job()).expect("it answers");
+    let table = find(&job()).expect("it answers").table;
     for (word, states, accepted) in [
         (vec![0, 1], vec![1, 3], true),
         (vec![0], vec![1], false),
@@ -90,10 +91,23 @@ fn words_followed_by_hand() {
     ] {
         let mut state = 0;
         for (list, right) in word.iter().zip(&states) {
-            state = found.table[state][*list];
+            state = table.next[state][*list];
             assert_eq!(state, *right);
         }
-        assert_eq!(found.accepting[state], accepted);
+        assert_eq!(table.accepting[state], accepted);
     }
-    assert_eq!(found.table[2], [2, 2]);
+    assert_eq!(table.next[2], [2, 2]);
+}
+
+/// What the page says of sets of standings that share a state.
+#[test]
+fn sets_that_share_a_state() {
+    let states = |job: &Job| States::of(job).expect("it answers").table;
+    assert_eq!(states(&job()), find(&job()).expect("it answers").table);
+    let text = block("job").replace("(mix|master)\n", "(mix|master)*\n");
+    let other = read(text.as_bytes()).expect("a right job");
+    let (one, two) = ([0], [0, 1]);
+    let (before, after) = (states(&other), find(&other).expect("it answers").table);
+    assert_ne!(before.follow(&one), before.follow(&two));
+    assert_eq!(after.follow(&one), after.follow(&two));
 }

@@ -1,4 +1,5 @@
-//! The scope document's jobs on each side of a limit, and its printed form.
+//! The scope document's jobs on each side of a limit, and its printed form. The
+//! document's counts of states are those before merging.
 
 use second::answer::{from_links, from_lists};
 use second::cases::EXAMPLE;
@@ -8,6 +9,8 @@ use second::jobs::many;
 use second::keep::keep;
 use second::print::printed;
 use second::read::{read, Job, Refusal};
+use second::states::States;
+use second::table::Table;
 use second::verdict::verdict;
 
 const ALLOWANCE: usize = 4096;
@@ -31,6 +34,11 @@ fn job(query: &str, lists: &[&str]) -> Job {
     read(text(query, lists).as_bytes()).expect("a right job")
 }
 
+/// The number of states before merging.
+fn states(job: &Job) -> usize {
+    States::of(job).expect("it answers").table.states()
+}
+
 fn example() -> Job {
     read(EXAMPLE.as_bytes()).expect("a right job")
 }
@@ -50,19 +58,21 @@ fn p2() {
     let job = job("a.(b.a|c)*", &["a", "a.c*.b", "c"]);
     let found = find(&job).unwrap();
     assert_eq!(found.standings, 6);
-    assert_eq!(found.states.len(), 6);
+    assert_eq!(states(&job), 6);
+    assert_eq!(found.table.next, [[1, 0, 2], [2, 2, 1], [2, 2, 2]]);
+    assert_eq!(found.table.accepting, [false, true, false]);
     assert_eq!(found.first, Some(vec![0]));
-    assert_eq!(verdict(&job, ALLOWANCE).unwrap().missed, None);
+    let verdict = verdict(&job, ALLOWANCE).unwrap();
+    assert_eq!((verdict.missed, verdict.pairs), (None, 14));
     // The rewriting of document 001: any number of the second list, the first
     // list, any number of the third.
     for word in words(3, 6) {
-        let state = found.follow(&word);
         let mut rest = word.as_slice();
         while let [1, after @ ..] = rest {
             rest = after;
         }
         let right = rest.first() == Some(&0) && rest[1..].iter().all(|list| *list == 2);
-        assert_eq!(found.accepting[state], right, "{word:?}");
+        assert_eq!(found.table.accepts(&word), right, "{word:?}");
     }
 }
 
@@ -87,15 +97,18 @@ fn words(names: usize, most: usize) -> Vec<Vec<usize>> {
 #[test]
 fn p3() {
     let job = job("a.(b.a|c)*", &["a", "a.c*.b"]);
-    assert_eq!(find(&job).unwrap().states.len(), 5);
-    assert_eq!(verdict(&job, ALLOWANCE).unwrap().missed, Some(vec![0, 2]));
+    assert_eq!(states(&job), 5);
+    assert_eq!(find(&job).unwrap().table.states(), 3);
+    let verdict = verdict(&job, ALLOWANCE).unwrap();
+    assert_eq!((verdict.missed, verdict.pairs), (Some(vec![0, 2]), 12));
 }
 
 #[test]
 fn p4() {
     let job = job("a*", &["a*"]);
     let found = find(&job).unwrap();
-    assert_eq!(found.accepting, [true, true]);
+    assert_eq!(States::of(&job).unwrap().table.accepting, [true, true]);
+    assert_eq!(found.table, Table { next: vec![vec![0]], accepting: vec![true] });
     assert_eq!(found.first, Some(vec![]));
     assert_eq!(verdict(&job, ALLOWANCE).unwrap().missed, None);
 }
@@ -103,7 +116,9 @@ fn p4() {
 #[test]
 fn p5() {
     let job = job("a", &["a*"]);
-    assert_eq!(find(&job).unwrap().first, None);
+    let found = find(&job).unwrap();
+    assert_eq!(found.table, Table { next: vec![vec![0]], accepting: vec![false] });
+    assert_eq!(found.first, None);
     assert_eq!(verdict(&job, ALLOWANCE).unwrap().missed, Some(vec![0]));
 }
 
@@ -111,7 +126,8 @@ fn p5() {
 fn p6() {
     let job = job("a*", &[]);
     let found = find(&job).unwrap();
-    assert_eq!(found.states.len(), 1);
+    assert_eq!(states(&job), 1);
+    assert_eq!(found.table, Table { next: vec![vec![]], accepting: vec![true] });
     assert_eq!(found.first, Some(vec![]));
     assert_eq!(verdict(&job, ALLOWANCE).unwrap().missed, Some(vec![0]));
 }
@@ -145,21 +161,26 @@ fn standings_of_a_place_from_the_end() {
 
 #[test]
 fn p7() {
-    let found = find(&job(&many(3), &["a", "a?"])).unwrap();
+    let job = job(&many(3), &["a", "a?"]);
+    let found = find(&job).unwrap();
     assert_eq!(found.standings, 5);
-    assert_eq!(found.states.len(), 15);
+    assert_eq!(states(&job), 15);
+    assert_eq!(found.table.states(), 5);
 }
 
 /// A state of n a's with these lists is a run of neighbouring standings out of
-/// n + 2.
+/// n + 2. Merged, only the runs of one standing that leads on, n + 1 of them,
+/// are left beside the dead state.
 #[test]
 fn states_of_a_sequence() {
     for count in 1..=20 {
-        let states = find(&job(&many(count), &["a", "a?"])).unwrap().states.len();
-        assert_eq!(states, (count + 2) * (count + 3) / 2);
+        let job = job(&many(count), &["a", "a?"]);
+        assert_eq!(states(&job), (count + 2) * (count + 3) / 2);
+        assert_eq!(find(&job).unwrap().table.states(), count + 2);
     }
-    let found = find(&job(&many(20), &["a", "a?"])).unwrap();
-    assert_eq!(found.states.len(), 253);
+    let job_20 = job(&many(20), &["a", "a?"]);
+    assert_eq!(states(&job_20), 253);
+    assert_eq!(find(&job_20).unwrap().table.states(), 22);
     let job = job(&many(21), &["a", "a?"]);
     assert_eq!(find(&job), Err(10));
     assert_eq!(verdict(&job, ALLOWANCE), Err(10));
@@ -170,11 +191,14 @@ fn states_of_a_sequence() {
 fn cover_places() {
     let job_14 = job(&many(62), &["a", &many(14)]);
     let found = find(&job_14).unwrap();
-    assert_eq!(found.states.len() * (1 + 1 + 14), 1024);
-    assert_eq!(verdict(&job_14, ALLOWANCE).unwrap().missed, None);
+    assert_eq!((states(&job_14), found.table.states()), (64, 64));
+    assert_eq!(found.table.states() * (1 + 1 + 14), 1024);
+    let verdict_14 = verdict(&job_14, ALLOWANCE).unwrap();
+    assert_eq!((verdict_14.missed, verdict_14.pairs), (None, 78));
     let job_15 = job(&many(62), &["a", &many(15)]);
     let found = find(&job_15).unwrap();
-    assert_eq!(found.states.len() * (1 + 1 + 15), 1088);
+    assert_eq!((states(&job_15), found.table.states()), (64, 64));
+    assert_eq!(found.table.states() * (1 + 1 + 15), 1088);
     assert_eq!(verdict(&job_15, ALLOWANCE), Err(12));
     assert_eq!(verdict(&job_15, 1), Err(12));
 }
@@ -200,7 +224,7 @@ fn printed_example() {
 #[test]
 fn printed_otherwise() {
     let of = |query: &str, lists: &[&str]| printed(text(query, lists).as_bytes());
-    assert_eq!(of("a*", &["a*"]), "query 2\nstates 2\n0 + 1\n1 + 1\nfirst\ncomplete\npairs 2\n");
+    assert_eq!(of("a*", &["a*"]), "query 2\nstates 1\n0 + 0\nfirst\ncomplete\npairs 2\n");
     assert_eq!(of("a*", &[]), "query 2\nstates 1\n0 +\nfirst\nmissed a\npairs 2\n");
     assert!(of("a", &["a*"]).contains("\nempty\nmissed a\n"));
     assert!(of("a?", &["a"]).contains("\nfirst\ncomplete\n"));

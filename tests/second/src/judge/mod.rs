@@ -10,7 +10,7 @@ mod words;
 pub use matcher::{beginnings, is_path_of, lasts, longest, occurrences, offsets, sequences, standing};
 pub use rewriting::Rewriting;
 pub use verdict::Judged;
-pub use words::Words;
+pub use words::{Reached, Words};
 
 use crate::read::{Expr, Job};
 use std::collections::{BTreeSet, HashMap};
@@ -21,7 +21,7 @@ pub const MOST_NAMES: usize = 3;
 pub type Path = Vec<usize>;
 
 /// A set of label occurrences, or the start alone.
-type Standing = BTreeSet<usize>;
+pub type Standing = BTreeSet<usize>;
 
 /// Short paths of a job, with what the matcher says of them.
 pub struct Judge<'a> {

@@ -1,6 +1,7 @@
 //! A rewriting, as the judge follows it.
 
 use crate::operations::TABLE_ROW;
+use std::collections::BTreeSet;
 
 /// A rewriting to be judged: the next state by state and list, and which
 /// states accept. It begins at state 0.
@@ -30,5 +31,27 @@ impl Rewriting {
 
     pub fn accepts(&self, word: &[usize]) -> bool {
         self.accepting[self.state(word)]
+    }
+
+    /// Two states that could be one, if there are such.
+    pub fn alike(&self) -> Option<(usize, usize)> {
+        let states = self.next.len();
+        let mut pairs = (0..states).flat_map(|other| (0..other).map(move |one| (one, other)));
+        pairs.find(|pair| !self.told_apart(*pair))
+    }
+
+    /// Whether a word leads from one of two states to an accepting one, and
+    /// from the other to one that is not.
+    fn told_apart(&self, pair: (usize, usize)) -> bool {
+        let mut met = BTreeSet::from([pair]);
+        let mut waiting = vec![pair];
+        while let Some((one, other)) = waiting.pop() {
+            if self.accepting[one] != self.accepting[other] {
+                return true;
+            }
+            let after = self.next[one].iter().copied().zip(self.next[other].iter().copied());
+            waiting.extend(after.filter(|pair| met.insert(*pair)));
+        }
+        false
     }
 }

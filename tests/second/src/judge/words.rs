@@ -14,14 +14,23 @@ pub struct Words {
     pub open: usize,
     /// The first accepted one.
     pub first: Option<Path>,
-    /// The state of each word, how many standings its short paths lead to, and
-    /// whether it spells no other paths.
-    pub states: Vec<(usize, usize, bool)>,
+    /// Each word, with the standings after its short paths.
+    pub standings: Vec<Reached>,
+}
+
+/// Where the short paths of a list word lead.
+pub struct Reached {
+    pub word: Path,
+    pub standings: BTreeSet<Standing>,
+    /// Whether the word spells no other paths.
+    pub whole: bool,
 }
 
 impl Judge<'_> {
-    /// Judges the rewriting on the short words: the order of the states, which
-    /// words have one state, and which are accepted.
+    /// Judges the rewriting on the short words: the order of the states, that
+    /// words with the same standings have one state, and which are accepted.
+    /// That is all there is to say of too few states; of too many, that each
+    /// two are told apart by some word.
     pub fn words(&self, rewriting: &Rewriting) -> Result<Words, String> {
         let mut words = Words::default();
         let mut known = 0;
@@ -37,16 +46,15 @@ impl Judge<'_> {
 
             let standings = spelled.iter().map(|path| standing(&self.job.query, path));
             let standings: BTreeSet<Standing> = standings.collect();
-            words.states.push((state, standings.len(), whole));
-            if whole {
-                let mut others = state_of.iter();
-                if others.any(|(set, other)| (*other == state) != (*set == standings)) {
-                    return Err(format!("{word:?} has not the state of its standings"));
-                }
-                state_of.insert(standings, state);
+            if whole && *state_of.entry(standings.clone()).or_insert(state) != state {
+                return Err(format!("{word:?} has not the state of its standings"));
             }
+            words.standings.push(Reached { word, standings, whole });
         }
-        Ok(words)
+        match rewriting.alike() {
+            Some((one, other)) => Err(format!("no word tells state {one} from state {other}")),
+            None => Ok(words),
+        }
     }
 
     /// Judges whether a word is rightly accepted or not.

@@ -8,6 +8,7 @@ mod parts;
 pub use near_limits::with_pairs;
 
 use crate::generate::{right_text, Random};
+use crate::large::large;
 use by_lists::{beside_lists, list_dropped, of_lists, small, wide};
 use near_limits::{at_limit_of_places, far, long_lists, many_states};
 use parts::drawn;
@@ -26,7 +27,9 @@ pub enum Kind {
     Wide,
     /// As many cover places as may be, or some more.
     Places,
-    /// Over 64 states, and no more cover places than may be.
+    /// States that stay many when they are merged.
+    Large,
+    /// The same, over 64 states, and no more cover places than may be.
     States,
     /// Long lists that begin differently.
     Long,
@@ -39,13 +42,14 @@ pub enum Kind {
 }
 
 impl Kind {
-    pub const ALL: [Kind; 11] = [
+    pub const ALL: [Kind; 12] = [
         Kind::Small,
         Kind::OfLists,
         Kind::BesideLists,
         Kind::ListDropped,
         Kind::Wide,
         Kind::Places,
+        Kind::Large,
         Kind::States,
         Kind::Long,
         Kind::Pairs,
@@ -61,6 +65,7 @@ impl Kind {
             Kind::ListDropped => "query made of the lists, one dropped",
             Kind::Wide => "many labels and lists",
             Kind::Places => "about 1024 cover places",
+            Kind::Large => "states that stay many",
             Kind::States => "over 64 states",
             Kind::Long => "long lists that begin differently",
             Kind::Pairs => "over 128 pairs",
@@ -78,6 +83,7 @@ impl Kind {
             Kind::ListDropped => drawn(random, list_dropped),
             Kind::Wide => drawn(random, wide),
             Kind::Places => at_limit_of_places(random),
+            Kind::Large => large(random).into_bytes(),
             Kind::States => many_states(random),
             Kind::Long => long_lists(random),
             Kind::Pairs => with_pairs(random, 129, 700),

@@ -3,14 +3,16 @@
 
 use super::parts::{expression, labels, pieces, row, Parts};
 use crate::cover::MOST_PLACES;
-use crate::find::{find, Found};
+use crate::find::find;
 use crate::generate::Random;
 use crate::judge::{occurrences, offsets};
+use crate::large::large;
 use crate::read::{read, Job, MOST_OCCURRENCES};
 use crate::verdict::verdict;
 
+/// The number of states that Find tells.
 fn states(job: &Job) -> Option<usize> {
-    find(job).ok().map(|found: Found| found.states.len())
+    find(job).ok().map(|found| found.table.states())
 }
 
 /// A job with just as many cover places as there may be with its states, or
@@ -59,17 +61,8 @@ fn repeated(random: &mut Random, row: &str, more: usize) -> String {
 /// A job with over 64 states and no more cover places than there may be.
 pub fn many_states(random: &mut Random) -> Vec<u8> {
     loop {
-        let count = random.between(1, 2);
-        let labels = labels(random, count);
-        let length = random.between(8, 24);
-        let query = row(random, &labels, length, 6);
-        let mut lists = Vec::new();
-        for _ in 0..random.between(2, 4) {
-            let length = random.between(1, 2);
-            lists.push(row(random, &labels, length, 50));
-        }
-        let text = Parts { labels, query, lists }.text();
-        let job = read(&text).expect("short rows");
+        let text = large(random).into_bytes();
+        let job = read(&text).expect("a right job");
         if states(&job).is_some_and(|states| states > 64 && states * offsets(&job) <= MOST_PLACES) {
             return text;
         }

@@ -71,11 +71,11 @@ fn judge_lists(judged: &Judged, found: &Found, recordings: usize, lists: &Links,
     assert_eq!(given.number, marks.len());
     let mut short = BTreeSet::new();
     for word in judged.judge.short_words() {
-        if found.accepting[found.follow(&word)] {
+        if found.table.accepts(&word) {
             short.extend(led_to(&word, start, lists));
         }
     }
     assert!(short.is_subset(&marks), "{lists:?} in {text}");
-    assert_eq!(marks, by_length(found, recordings, start, lists), "{text}");
+    assert_eq!(marks, by_length(&found.table, recordings, start, lists), "{text}");
     tally.marks_of_lists += marks.len();
 }

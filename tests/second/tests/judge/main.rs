@@ -12,6 +12,8 @@ use second::generate::Random;
 use second::jobs::small;
 use second::judge::{Judge, Rewriting};
 use second::read::{read, Job};
+use second::states::States;
+use second::table::Table;
 use tally::Tally;
 
 const JOBS: u64 = 600;
@@ -29,7 +31,8 @@ impl Judged<'_> {
 }
 
 fn rewriting(found: &Found) -> Rewriting {
-    Rewriting { next: found.table.clone(), accepting: found.accepting.clone() }
+    let Table { next, accepting } = found.table.clone();
+    Rewriting { next, accepting }
 }
 
 #[test]
@@ -68,7 +71,9 @@ fn judge(job: &Job, text: &str, random: &mut Random, tally: &mut Tally) {
         assert_eq!(standings.len(), found.standings, "{text}");
         tally.exact_standing_counts += 1;
     }
-    words::judge_words(&judged, &found, tally);
+    let states = States::of(job).expect("Find answers");
+    tally.merged += usize::from(found.table.states() < states.table.states());
+    words::judge_words(&judged, &states, &found, tally);
     let complete = verdicts::judge_verdict(&judged, &found, tally);
     answers::judge_answers(&judged, &found, complete, random, tally);
 }

@@ -1,10 +1,10 @@
 //! Which recordings are joined: relations of expressions, and list words
 //! followed on tables.
 
-use second::find::Found;
 use second::generate::Random;
 use second::graphs::Links;
 use second::read::Expr;
+use second::table::Table;
 use std::collections::BTreeSet;
 
 pub type Pairs = BTreeSet<(usize, usize)>;
@@ -75,17 +75,17 @@ pub fn led_to(word: &[usize], start: usize, lists: &Links) -> BTreeSet<usize> {
 
 /// Where accepted words lead, by the number of their names. A shortest one
 /// meets no recording twice with one state.
-pub fn by_length(found: &Found, recordings: usize, start: usize, lists: &Links) -> BTreeSet<usize> {
+pub fn by_length(table: &Table, recordings: usize, start: usize, lists: &Links) -> BTreeSet<usize> {
     let mut marks = BTreeSet::new();
     let mut here = Pairs::from([(start, 0)]);
-    for _ in 0..recordings * found.states.len() {
-        let right = here.iter().filter(|(_, state)| found.accepting[*state]);
+    for _ in 0..recordings * table.states() {
+        let right = here.iter().filter(|(_, state)| table.accepting[*state]);
         marks.extend(right.map(|(recording, _)| *recording));
         let mut next = Pairs::new();
         for (x, name, y) in lists {
             for (recording, state) in &here {
                 if recording == x {
-                    next.insert((*y, found.table[*state][*name]));
+                    next.insert((*y, table.next[*state][*name]));
                 }
             }
         }

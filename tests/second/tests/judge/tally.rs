@@ -22,6 +22,7 @@ pub struct Tally {
     pub marks_of_lists: usize,
     pub answers_alike: usize,
     pub answers_less: usize,
+    pub merged: usize,
 }
 
 impl Tally {
@@ -34,5 +35,6 @@ impl Tally {
         assert!(self.exact_standing_counts >= 200 && self.exact_pair_counts >= 200);
         assert!(self.marks_of_links >= 1000 && self.marks_of_lists >= 200);
         assert!(self.answers_alike >= 100 && self.answers_less >= 50);
+        assert!(self.merged >= 200);
     }
 }

@@ -10,7 +10,7 @@ use second::verdict::verdict;
 pub fn judge_verdict(judged: &Judged, found: &Found, tally: &mut Tally) -> bool {
     let (job, text) = (judged.job(), judged.text);
     let size: usize = job.lists.iter().map(|list| occurrences(&list.expr)).sum();
-    let places = found.states.len() * (1 + size);
+    let places = found.table.states() * (1 + size);
     let given = match verdict(job, 4096) {
         Ok(given) => given,
         Err(number) => {

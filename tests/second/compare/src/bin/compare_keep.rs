@@ -7,10 +7,15 @@ use second::find_jobs::jobs;
 use second::generate::texts;
 use second::jobs::{from_the_end, many, text};
 use second::keep::KEPT_BYTES;
+use second::merge_tally::Merging;
 use second::operations::keep;
+use second::read::read;
+use second::states::States;
 
 /// The least of refusals 9 and 10 each.
 const LEAST_OF_A_KIND: usize = 300;
+/// The least of tables of a size, and by what merging made of them.
+const LEAST_OF_TABLES: usize = 150;
 
 /// Jobs on each side of a limit of states and standings.
 fn limits() -> Vec<String> {
@@ -22,10 +27,11 @@ fn limits() -> Vec<String> {
     all
 }
 
-/// Random jobs on both sides of these limits.
+/// Random jobs on both sides of these limits, and with tables that merging
+/// leaves large.
 fn near_limits(seed: u64) -> impl Iterator<Item = String> {
-    let strata = ["many standings", "many states", "sequences"];
-    let all = jobs(seed, 12_000).filter(move |sample| strata.contains(&sample.stratum));
+    let strata = ["many standings", "many states", "sequences", "slack", "counters", "subsets", "chains"];
+    let all = jobs(seed, 15_000).filter(move |sample| strata.contains(&sample.stratum));
     all.map(|sample| sample.text)
 }
 
@@ -38,6 +44,7 @@ fn main() {
 
     let mut inputs = 0usize;
     let mut told = [0usize; 18];
+    let mut merging = Merging::default();
     let generated = texts(seed, count).map(|text| text.bytes);
     let near = limits().into_iter().chain(near_limits(seed)).map(String::into_bytes);
     for text in near.chain(generated) {
@@ -55,11 +62,17 @@ fn main() {
             std::process::exit(1);
         }
         told[(answer & 0xff) as usize] += 1;
+        if answer & 0xff == 0 {
+            let states = read(&text).ok().and_then(|job| States::of(&job).ok()).expect("a kept job");
+            merging.count(states.table.states(), usize::from(theirs[6]) * 256 + usize::from(theirs[7]));
+        }
         inputs += 1;
     }
     for (number, times) in told.iter().enumerate().filter(|(_, times)| **times > 0) {
         println!("{} {times}", if number == 0 { "kept".into() } else { format!("refused {number}") });
     }
+    print!("{merging}");
+    merging.assert_floors(LEAST_OF_TABLES);
     let enough = told[9].min(told[10]) >= LEAST_OF_A_KIND;
     assert!(told[0] > 5_000 && told[8] > 500 && enough, "too few of a kind");
     println!("compare_keep: {inputs} inputs, 0 differences");

@@ -44,9 +44,10 @@ impl Faults {
     }
 }
 
-/// Eight optional labels, any of which may come next: a list word's state is
-/// the start with the set of its lists, 256 in all, all accepting. With another
-/// list, of a label that the query does not have, there is one more.
+/// Eight optional labels, any of which may come next: before merging, a list
+/// word's state is the start with the set of its lists, 256 in all, all
+/// accepting. With another list, of a label that the query does not have, there
+/// is one more.
 fn subsets(other: bool) -> Vec<u8> {
     let labels = ["a", "b", "c", "d", "e", "f", "g", "h"];
     let mut text: String = labels.map(|label| format!("label {label}\n")).concat();
@@ -103,6 +104,7 @@ impl Comparison {
                 false => self.told(asked, &marks),
             }
         }
+        self.most_states();
         for (other, refused) in [(false, false), (true, true)] {
             let table: Vec<u16> = (0..8).flat_map(|from| [from, from, from + 1]).collect();
             let asked = Asked { text: &subsets(other), recordings: 9, chosen: None, table: &table, start: 0 };
@@ -111,6 +113,20 @@ impl Comparison {
                 false => self.told(asked, &[1; 9]),
             }
         }
+    }
+
+    /// Fifteen labels any number of times and up to 13 more, with lists of one
+    /// label and of one or none: 211 states when merged. A circle of the second
+    /// list asks for all of them; but for every fifteenth, each recording of the
+    /// row is reached by an accepted word of the first.
+    fn most_states(&mut self) {
+        let query = format!("({})*{}", ["a"; 15].join("."), ".a?".repeat(13));
+        let text = format!("label a\nquery {query}\nlist e a\nlist f a?\n");
+        let mut table = vec![0, 0, 1, 0, 1, 0];
+        table.extend((1..63).flat_map(|from| [from, 0, from + 1]));
+        let marks: Vec<u8> = (0..64).map(|recording| u8::from(recording % 15 != 14)).collect();
+        let asked = Asked { text: text.as_bytes(), recordings: 64, chosen: None, table: &table, start: 0 };
+        self.told(asked, &marks);
     }
 
     /// All hand-made texts that are refused, and for each two refusals that

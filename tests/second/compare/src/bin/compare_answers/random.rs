@@ -12,8 +12,10 @@ use second::verdict::verdict;
 /// The kind of a job, by its number.
 fn kind(number: usize) -> Kind {
     match number % 20 {
-        0..=6 => Kind::Small,
-        7..=12 => Kind::OfLists,
+        0..=5 => Kind::Small,
+        6 => Kind::Large,
+        7..=11 => Kind::OfLists,
+        12 => Kind::States,
         13..=14 => Kind::BesideLists,
         15..=16 => Kind::ListDropped,
         17 => Kind::Wide,
@@ -88,7 +90,9 @@ impl Comparison {
         let lists = setting.job.lists.len();
         let shape = if setting.recordings > 300 { Shape::Sparse } else { shape };
         let any = shape.links(&mut self.random, setting.recordings, lists);
-        self.marks(setting.of_lists(&table(&any)));
+        if self.marks(setting.of_lists(&table(&any))).is_some() {
+            self.tally.states(&setting.job);
+        }
         self.faulty(&setting, &any, number);
         if number % 5 == 0 {
             self.spoiled(&setting);

@@ -4,6 +4,10 @@ use crate::comparison::{Asked, Told};
 use second::answer::{MOST_LINKS, MOST_RECORDINGS};
 use second::graphs::{Fault, Links, Shape};
 use second::kinds::Kind;
+use second::merge::merged;
+use second::merge_tally::Merging;
+use second::read::Job;
+use second::states::States;
 use std::fmt::{Display, Formatter, Result as Written};
 
 pub const LEAST_JOBS: usize = 5_000;
@@ -43,6 +47,7 @@ pub struct Tally {
     complete_some: usize,
     /// Not complete, with marks from links alone.
     less: usize,
+    merging: Merging,
 }
 
 impl Tally {
@@ -80,6 +85,12 @@ impl Tally {
         self.full_tables += usize::from(links.len() == MOST_LINKS);
     }
 
+    /// Counts a job that was answered from lists.
+    pub fn states(&mut self, job: &Job) {
+        let states = States::of(job).expect("an answered job").table;
+        self.merging.count(states.states(), merged(&states).states());
+    }
+
     pub fn held(&mut self, of_lists: &[u8], of_links: &[u8], complete: bool) {
         self.held += 1;
         let some = of_links.contains(&0) && of_links.contains(&1);
@@ -96,6 +107,7 @@ impl Tally {
         floor("jobs", self.jobs, LEAST_JOBS);
         floor("complete, some marks", self.complete_some, LEAST_COMPLETE);
         floor("fewer marks from lists", self.less, 300);
+        self.merging.assert_floors(50);
         for (shape, count) in Shape::ALL.iter().zip(self.shapes) {
             floor(shape.words(), count, 50);
         }
@@ -155,6 +167,7 @@ impl Display for Tally {
         line(self.held, "exact lists held against the links")?;
         line(self.complete, "of these complete")?;
         line(self.complete_some, "of these complete, some marks but not all")?;
-        line(self.less, "of these fewer marks from lists")
+        line(self.less, "of these fewer marks from lists")?;
+        write!(out, "answered from lists\n{}", self.merging)
     }
 }

@@ -1,5 +1,5 @@
-//! Document 01's cases of Find with what it says of them, and texts for which
-//! two refusals hold.
+//! Document 01's cases of Find with what it says of them, their states merged;
+//! and texts for which two refusals hold.
 
 use second::cases::EXAMPLE;
 use second::jobs::{from_the_end, many, text};
@@ -38,23 +38,28 @@ pub fn document() -> Vec<Case> {
     };
     vec![
         example,
-        Case { standings: Some(6), states: Some(6), ..letters("P2", "a.(b.a|c)*", &["a", "a.c*.b", "c"]) },
-        Case { states: Some(5), ..letters("P3", "a.(b.a|c)*", &["a", "a.c*.b"]) },
         Case {
-            states: Some(2),
+            standings: Some(6),
+            states: Some(3),
+            rows: Some(vec![(0, vec![1, 0, 2]), (1, vec![2, 2, 1]), (0, vec![2, 2, 2])]),
+            ..letters("P2", "a.(b.a|c)*", &["a", "a.c*.b", "c"])
+        },
+        Case { states: Some(3), ..letters("P3", "a.(b.a|c)*", &["a", "a.c*.b"]) },
+        Case {
+            states: Some(1),
             first: Some(Some(vec![])),
-            rows: Some(vec![(1, vec![1]), (1, vec![1])]),
+            rows: Some(vec![(1, vec![0])]),
             ..letters("P4", "a*", &["a*"])
         },
-        Case { first: Some(None), ..letters("P5", "a", &["a*"]) },
+        Case { states: Some(1), first: Some(None), rows: Some(vec![(0, vec![0])]), ..letters("P5", "a", &["a*"]) },
         Case { states: Some(1), first: Some(Some(vec![])), ..letters("P6", "a*", &[]) },
         Case { standings: Some(64), ..letters("62 a's", &many(62), &[]) },
         Case { refused: (9, 0), ..letters("63 a's", &many(63), &[]) },
         Case { refused: (7, 2), ..letters("64 a's", &many(64), &[]) },
         Case { standings: Some(33), ..letters("33 standings", &from_the_end(4), &[]) },
         Case { refused: (9, 0), ..letters("65 standings", &from_the_end(5), &[]) },
-        Case { standings: Some(5), states: Some(15), ..letters("P7", &many(3), &["a", "a?"]) },
-        Case { states: Some(253), ..letters("20 a's with a and a?", &many(20), &["a", "a?"]) },
+        Case { standings: Some(5), states: Some(5), ..letters("P7", &many(3), &["a", "a?"]) },
+        Case { states: Some(22), ..letters("20 a's with a and a?", &many(20), &["a", "a?"]) },
         Case { refused: (10, 0), ..letters("21 a's with a and a?", &many(21), &["a", "a?"]) },
         Case {
             standings: Some(64),
@@ -62,6 +67,17 @@ pub fn document() -> Vec<Case> {
             ..letters("62 a's with a and 14 a's", &many(62), &["a", &many(14)])
         },
     ]
+}
+
+/// One meaning written in several ways: the same table each time.
+pub fn alike() -> Vec<Case> {
+    let case = |query: &&str| Case {
+        states: Some(2),
+        first: Some(Some(vec![0])),
+        rows: Some(vec![(0, vec![1]), (1, vec![1])]),
+        ..letters(query, query, &["a"])
+    };
+    ["a.a*", "a*.a", "a|a.a.a*", "a.a?.a*"].iter().map(case).collect()
 }
 
 /// Texts for which one of Read's refusals holds together with 9, with 10 or

@@ -39,7 +39,8 @@ fn main() {
 
 /// The cases of which something is stated, with every shape of buffers.
 fn stated(tally: &mut Tally) {
-    for case in cases::document().into_iter().chain(cases::pairs()) {
+    let all = cases::document().into_iter().chain(cases::alike()).chain(cases::pairs());
+    for case in all {
         for place in 0..ENOUGH.len() {
             let left = tally.compare_at(&case.text, place);
             let name = &case.name;

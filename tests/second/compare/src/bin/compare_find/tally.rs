@@ -2,7 +2,9 @@
 
 use crate::lent::{compared, Left, Shape, ENOUGH, SHORT};
 use second::automaton::Automaton;
+use second::merge_tally::Merging;
 use second::read::read;
+use second::states::States;
 
 pub const LEAST_JOBS: usize = 20_000;
 const LEAST_OF_A_KIND: usize = 300;
@@ -19,7 +21,7 @@ pub struct Tally {
     /// too short (where 8 is told).
     enough: [[usize; 11]; ENOUGH.len()],
     short: [[usize; 11]; SHORT.len()],
-    many_states: usize,
+    merging: Merging,
     empty_path: usize,
     no_word: usize,
 }
@@ -50,7 +52,8 @@ impl Tally {
     pub fn count(&mut self, text: &[u8], left: &Left) {
         let job = read(text).expect("an answered job");
         let empty_path = job.lists.iter().any(|list| Automaton::new(&list.expr).nullable);
-        self.many_states += usize::from(left.states() > 64);
+        let before = States::of(&job).expect("an answered job").table.states();
+        self.merging.count(before, left.states());
         self.empty_path += usize::from(empty_path);
         self.no_word += usize::from(left.first().is_none());
     }
@@ -60,12 +63,12 @@ impl Tally {
         for (kind, count) in [
             ("refusal 9", self.refused[9]),
             ("refusal 10", self.refused[10]),
-            ("over 64 states", self.many_states),
             ("a list with the empty path", self.empty_path),
             ("empty", self.no_word),
         ] {
             assert!(count >= LEAST_OF_A_KIND, "only {count} jobs with {kind}");
         }
+        self.merging.assert_floors(150);
         // 8 is told only where a buffer is too short.
         for number in (0..11).filter(|number| *number != 8) {
             let shapes = self.enough.iter().chain(&self.short);
@@ -85,10 +88,7 @@ impl std::fmt::Display for Tally {
                 _ => writeln!(out, "  refused {number} {count}")?,
             }
         }
-        writeln!(
-            out,
-            "  over 64 states {}, a list with the empty path {}, empty {}",
-            self.many_states, self.empty_path, self.no_word
-        )
+        writeln!(out, "  a list with the empty path {}, empty {}", self.empty_path, self.no_word)?;
+        write!(out, "{}", self.merging)
     }
 }

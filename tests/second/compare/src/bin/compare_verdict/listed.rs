@@ -37,14 +37,14 @@ impl Comparison {
             self.refused(p1, allowance as u64, least(allowance), no_line(13));
         }
         let p2 = letters("a.(b.a|c)*", &["a", "a.c*.b", "c"]);
-        self.told(&p2, 4096, None, None);
+        self.told(&p2, 4096, None, Some(14));
         let p3 = letters("a.(b.a|c)*", &["a", "a.c*.b"]);
-        self.told(&p3, 4096, Some(&[0, 2]), None);
+        self.told(&p3, 4096, Some(&[0, 2]), Some(12));
         self.told(&letters("a*", &["a*"]), 4096, None, Some(2));
-        self.told(&letters("a", &["a*"]), 4096, Some(&[0]), None);
+        self.told(&letters("a", &["a*"]), 4096, Some(&[0]), Some(3));
         self.told(&letters("a*", &[]), 4096, Some(&[0]), Some(2));
 
-        self.told(&letters(&many(62), &["a", &many(14)]), 4096, None, None);
+        self.told(&letters(&many(62), &["a", &many(14)]), 4096, None, Some(78));
         let places = letters(&many(62), &["a", &many(15)]);
         for allowance in [1, 128, 4096] {
             self.refused(&places, allowance as u64, least(allowance), no_line(12));

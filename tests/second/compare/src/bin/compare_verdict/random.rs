@@ -24,13 +24,14 @@ enum Made {
 
 fn made(number: usize) -> Made {
     match number % 100 {
-        0..=48 => Made::Of(Kind::Small),
+        0..=45 => Made::Of(Kind::Small),
+        46..=48 => Made::Of(Kind::Large),
         49 => Made::Of(Kind::Long),
         50..=62 => Made::Of(Kind::OfLists),
         63..=76 => Made::Of(Kind::BesideLists),
         77..=86 => Made::Of(Kind::ListDropped),
-        87..=89 => Made::Of(Kind::Wide),
-        90..=92 => Made::Of(Kind::Places),
+        87..=88 => Made::Of(Kind::Wide),
+        89..=92 => Made::Of(Kind::Places),
         93..=94 => Made::Of(Kind::States),
         95..=96 => Made::Of(Kind::Pairs),
         97..=98 => Made::Of(Kind::Far),

@@ -3,8 +3,10 @@
 use crate::comparison::Told;
 use second::judge::{beginnings, is_path_of, offsets};
 use second::kinds::Kind;
+use second::merge_tally::Merging;
 use second::operations::MOST_ALLOWANCE;
 use second::read::Job;
+use second::states::States;
 use second::verdict::Verdict;
 use std::fmt::{Display, Formatter, Result as Written};
 
@@ -30,6 +32,7 @@ pub struct Tally {
     longest_missed: usize,
     empty_path_in_list: usize,
     empty_path_in_query: usize,
+    merging: Merging,
     /// From 17 to 64 states with at most four lists, and with more.
     some_states: [usize; 2],
     /// Over 64 states, and those of them with the empty path in a list.
@@ -70,16 +73,18 @@ impl Tally {
         match &exact.missed {
             None => {
                 self.complete += 1;
-                self.complete_of_states += usize::from(exact.found.states.len() > 2);
+                self.complete_of_states += usize::from(exact.found.table.states() > 2);
             }
             Some(path) => {
                 self.missed[path.len().min(4)] += 1;
                 self.longest_missed = self.longest_missed.max(path.len());
             }
         }
+        let before = States::of(job).expect("an answered job").table.states();
+        self.merging.count(before, exact.found.table.states());
         let in_list = job.lists.iter().any(|list| is_path_of(&list.expr, &[]));
         self.empty_path_in_list += usize::from(in_list);
-        self.sizes(job, exact.found.states.len(), in_list);
+        self.sizes(job, exact.found.table.states(), in_list);
         self.empty_path_in_query += usize::from(is_path_of(&job.query, &[]));
     }
 
@@ -120,6 +125,7 @@ impl Tally {
         assert_eq!(self.missed[0], 0, "the empty path is missed");
         kind("empty path in the query", self.empty_path_in_query);
         kind("empty path in a list", self.empty_path_in_list);
+        self.merging.assert_floors(150);
         for count in self.some_states {
             floor("17 to 64 states, at most four lists or more", count, 20);
         }
@@ -176,6 +182,8 @@ impl Display for Tally {
         line(self.missed[4], &format!("missed, length 4 to {longest}"))?;
         line(self.empty_path_in_list, "with the empty path in a list")?;
         line(self.empty_path_in_query, "with the empty path in the query")?;
+        write!(out, "{}", self.merging)?;
+        let mut line = |count: usize, what: &str| writeln!(out, "       {count:8} {what}");
         line(self.some_states[0], "17 to 64 states, at most four lists")?;
         line(self.some_states[1], "17 to 64 states, more lists")?;
         line(self.many_states[0], "over 64 states")?;

@@ -4,6 +4,7 @@
 use second::answer::{exact_lists, MOST_LINKS, MOST_RECORDINGS};
 use second::generate::{random_text, Random};
 use second::jobs::{larger, near_limit, small};
+use second::large::large;
 use second::operations::MOST_ALLOWANCE;
 use second::read::{read, Job};
 use std::collections::BTreeSet;
@@ -55,6 +56,7 @@ fn job_text(random: &mut Random) -> (&'static str, Vec<u8>) {
         0..=17 => ("small", small(random).into_bytes()),
         18..=21 => ("larger", larger(random).into_bytes()),
         22 => ("near a limit", near_limit(random).into_bytes()),
+        23 => ("states that stay many", large(random).into_bytes()),
         _ => {
             let text = random_text(random);
             (text.family, text.bytes)

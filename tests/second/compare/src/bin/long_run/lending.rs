@@ -21,6 +21,7 @@ fn filled_words(length: usize) -> Vec<u64> {
 const FIND: Operation = Operation {
     name: "Find",
     refusals: &[1, 2, 3, 4, 5, 6, 7, 8, 9, 10],
+    has_states: true,
     has_missed: false,
     lend: |input| Lent {
         numbers: filled_numbers(length(TABLE_NUMBERS, input.spare[0])),
@@ -44,6 +45,7 @@ const FIND: Operation = Operation {
 const VERDICT: Operation = Operation {
     name: "Verdict",
     refusals: &[1, 2, 3, 4, 5, 6, 7, 8, 9, 10, 11, 12, 13],
+    has_states: false,
     has_missed: true,
     lend: |input| {
         let allowance = input.allowance.min(MOST_ALLOWANCE);
@@ -69,6 +71,7 @@ const VERDICT: Operation = Operation {
 const LINKS: Operation = Operation {
     name: "Answer from links",
     refusals: &[1, 2, 3, 4, 5, 6, 7, 8, 9, 14, 15, 16, 17],
+    has_states: false,
     has_missed: false,
     lend: |input| marks_and_words(input, WORDS_FOR_A_RECORDING_OF_LINKS),
     second: |input, lent| {
@@ -87,6 +90,7 @@ const LINKS: Operation = Operation {
 const LISTS: Operation = Operation {
     name: "Answer from lists",
     refusals: &[1, 2, 3, 4, 5, 6, 7, 8, 9, 10, 14, 15, 16],
+    has_states: false,
     has_missed: false,
     lend: |input| marks_and_words(input, WORDS_FOR_A_RECORDING_OF_LISTS),
     second: |input, lent| {

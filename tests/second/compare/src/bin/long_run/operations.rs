@@ -11,6 +11,8 @@ pub struct Operation {
     pub name: &'static str,
     /// All refusals that the operation has.
     pub refusals: &'static [u8],
+    /// Whether the answer has the number of states from bit 40 on.
+    pub has_states: bool,
     /// Whether the answer has the missed path's length from bit 48 on, plus
     /// 1; 0 is complete.
     pub has_missed: bool,
@@ -75,6 +77,7 @@ pub fn packed<T>(answer: Result<T, Refusal>, told: impl FnOnce(T) -> u64) -> u64
 const READ: Operation = Operation {
     name: "Read",
     refusals: &[1, 2, 3, 4, 5, 6, 7],
+    has_states: false,
     has_missed: false,
     lend: |_| Lent::default(),
     second: |input, _| packed(read(&input.job), |job| (job.labels.len() as u64) << 32 | (job.lists.len() as u64) << 40),
@@ -84,6 +87,7 @@ const READ: Operation = Operation {
 const KEEP: Operation = Operation {
     name: "Keep",
     refusals: &[1, 2, 3, 4, 5, 6, 7, 8, 9, 10],
+    has_states: false,
     has_missed: false,
     lend: |input| Lent { bytes: filled_bytes(length(KEPT_BYTES, input.spare[0])), ..Lent::default() },
     second: |input, lent| packed(keep(&input.job, &mut lent.bytes), |length| (length as u64) << 32),

@@ -8,6 +8,8 @@ use std::fmt::Write;
 pub struct Tally {
     answered: u64,
     refused: BTreeMap<u8, u64>,
+    /// Of one or two states, of over 16, and of over 64.
+    states: [u64; 3],
     complete: u64,
     /// By the missed path's length.
     missed: BTreeMap<u64, u64>,
@@ -21,6 +23,12 @@ impl Tally {
             return;
         }
         self.answered += 1;
+        if operation.has_states {
+            let states = answer >> 40 & 0xfff;
+            for (count, met) in self.states.iter_mut().zip([states <= 2, states > 16, states > 64]) {
+                *count += u64::from(met);
+            }
+        }
         if operation.has_missed {
             match answer >> 48 {
                 0 => self.complete += 1,
@@ -31,6 +39,10 @@ impl Tally {
 
     pub fn told(&self, operation: &Operation) -> String {
         let mut told = format!("{}\n{:10} answered\n", operation.name, self.answered);
+        if operation.has_states {
+            let [few, some, many] = self.states;
+            let _ = writeln!(told, "{few:14} one or two states\n{some:14} over 16 states\n{many:14} over 64 states");
+        }
         if operation.has_missed {
             let _ = writeln!(told, "{:14} complete", self.complete);
         }
@@ -50,6 +62,7 @@ impl Tally {
         for number in operation.refusals {
             assert!(self.refused.contains_key(number), "{name} never refused by {number}");
         }
+        assert!(!operation.has_states || !self.states.contains(&0), "{name} without tables of some size");
         let both = self.complete > 0 && !self.missed.is_empty();
         assert!(!operation.has_missed || both, "{name} always alike");
     }

@@ -1,6 +1,8 @@
-//! The wrong turns that the scope document names, to see that each leads to
-//! another answer. Find and Verdict take a turn; every other operation takes
-//! the right one.
+//! The wrong turns that the scope document names, and those of merging, to see
+//! that each leads to another answer. Find and Verdict take a turn; every other
+//! operation takes the right one.
+
+mod merging;
 
 use crate::automaton::{Automaton, Standings};
 use crate::read::{Expr, Job};
@@ -23,6 +25,19 @@ pub enum Turn {
     /// Searching for a missed path among list words: only a path that some
     /// list word spells can be missed.
     AmongListWords,
+    /// Merging without regard to flags.
+    FlagsIgnored,
+    /// Merging after one round of refinement: states that only a word of
+    /// several names tells apart become one.
+    OneRound,
+    /// Merging states with equal rows alone, as long as there are any: two that
+    /// lead round in a circle stay two.
+    EqualRows,
+    /// Dropping the dead state, as if a table need not be complete.
+    DeadDropped,
+    /// Numbering merged states by the last of the states they are merged from,
+    /// not by the first words.
+    LastMembers,
 }
 
 impl Turn {
