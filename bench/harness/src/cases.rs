@@ -15,14 +15,15 @@ pub fn all(folder: &Path) -> Vec<Case> {
     cases
 }
 
-/// Find and Verdict on document 01's heaviest jobs and on that of 4,041 pairs.
+/// Find and Verdict on document 01's heaviest jobs and on that of 4,036 pairs.
 fn heaviest() -> Vec<Case> {
     let jobs = [
-        ("states-253", "20 a's, lists a, a? (253 states)", jobs::optional(20)),
+        ("states-253", "20 a's, lists a, a? (253 states, 22 merged)", jobs::optional(20)),
+        ("states-227", "15 a's in a circle, lists a, a? (227 states, 211 merged)", jobs::counter()),
         ("places-1024", "62 a's, lists a, 14 a's (1,024 places)", jobs::places()),
         ("standings-64", "62 a's, list a (64 standings)", jobs::standings()),
         ("standings-33", "(a|b)*.a and four (a|b) (33 standings)", jobs::from_the_end()),
-        ("pairs-4041", "4,041 pairs", jobs::pairs()),
+        ("pairs-4036", "4,036 pairs (239 states, 32 merged)", jobs::pairs()),
     ];
     let mut cases = Vec::new();
     for operation in [Operation::Find, Operation::Verdict] {
@@ -61,8 +62,9 @@ fn graphs() -> Vec<Case> {
         cases.push(links_case("standings-33", "that of 33 standings", &jobs::from_the_end(), recordings));
     }
     for recordings in [64, 256, 1024, 4096] {
-        cases.push(lists_case("example", "a.(b.a|c)*, 6 states", &jobs::example(), 3, recordings));
-        cases.push(lists_case("states-253", "that of 253 states", &jobs::optional(20), 2, recordings));
+        cases.push(lists_case("example", "a.(b.a|c)*, 3 states", &jobs::example(), 3, recordings));
+        cases.push(lists_case("states-253", "that of 253 states, 22 merged", &jobs::optional(20), 2, recordings));
+        cases.push(lists_case("states-227", "that of 227 states, 211 merged", &jobs::counter(), 2, recordings));
     }
     cases
 }

@@ -1,4 +1,4 @@
-//! Inputs that grow in one number: links, states or pairs.
+//! Inputs that grow in one number: links, states before merging, or pairs.
 
 use crate::graphs::table;
 use crate::input::{Case, Input, Operation};
@@ -16,7 +16,8 @@ pub fn all() -> Vec<Case> {
         let states = (count + 2) * (count + 3) / 2;
         cases.push(case("states", states, Input::job(Operation::Find, &jobs::optional(count))));
     }
-    for (count, pairs) in [(2, 25), (3, 57), (4, 129), (5, 289), (6, 641), (7, 1409), (8, 3073)] {
+    for count in 4..=10 {
+        let pairs = (2 << count) + 1;
         cases.push(case("pairs", pairs, Input::job(Operation::Verdict, &jobs::doubling(count))));
     }
     cases

@@ -10,6 +10,7 @@ mod images;
 mod job;
 mod links;
 mod lists;
+mod merge;
 mod names;
 mod operations;
 mod refusal;

@@ -1,12 +1,12 @@
 //! Answer from lists: a search over recordings with the set of the rewriting's
-//! states that each is reached in, S words of them. States from which no
-//! accepting one is reached are left out.
+//! states that each is reached in, S words of them. The dead state, from which
+//! no accepting one is reached, is left out.
 
 use crate::bits::for_each;
 use crate::states::Rewriting;
 use crate::table::Table;
 
-/// The states of a rewriting that lead to an accepting one, numbered anew.
+/// The states of a rewriting but the dead one, numbered anew.
 struct Useful {
     lists: usize,
     count: usize,
@@ -31,34 +31,24 @@ pub fn mark(found: &Rewriting, table: &Table, start: usize, marks: &mut [u8], re
 
 /// State 0 keeps its number where it is useful; where it is not, none is.
 fn useful(found: &Rewriting) -> Useful {
-    let kept = leading(found);
-    let states: Vec<usize> = (0..found.count()).filter(|&state| kept[state]).collect();
-    let mut numbers = vec![LEFT_OUT; found.count()];
-    let mut accepting = [0; 4];
-    for (number, &state) in states.iter().enumerate() {
-        numbers[state] = number as u16;
-        accepting[number / 64] |= (found.accepts(state) as u64) << (number % 64);
+    let dead = (0..found.count).find(|&state| is_dead(found, state)).unwrap_or(found.count);
+    let (mut next, mut accepting) = (Vec::with_capacity(found.next.len()), [0; 4]);
+    for state in (0..found.count).filter(|&state| state != dead) {
+        let number = state - (state > dead) as usize;
+        accepting[number / 64] |= (found.accepts[state] as u64) << (number % 64);
+        next.extend(found.row(state).iter().map(|&to| match to as usize {
+            to if to == dead => LEFT_OUT,
+            to => (to - (to > dead) as usize) as u16,
+        }));
     }
-    let rows = states.iter().flat_map(|&state| &found.next[found.lists * state..][..found.lists]);
-    let next = rows.map(|&state| numbers[state as usize]).collect();
-    Useful { lists: found.lists, count: states.len(), next, accepting }
+    let count = found.count - (dead < found.count) as usize;
+    Useful { lists: found.lists, count, next, accepting }
 }
 
-/// Which states lead to an accepting one.
-fn leading(found: &Rewriting) -> Vec<bool> {
-    let mut kept: Vec<bool> = (0..found.count()).map(|state| found.accepts(state)).collect();
-    let mut changed = true;
-    while changed {
-        changed = false;
-        for state in (0..found.count()).rev().filter(|_| found.lists > 0) {
-            let row = &found.next[found.lists * state..][..found.lists];
-            if !kept[state] && row.iter().any(|&next| kept[next as usize]) {
-                kept[state] = true;
-                changed = true;
-            }
-        }
-    }
-    kept
+/// Merged states have at most one that leads to no accepting one: it leads to
+/// itself alone.
+fn is_dead(found: &Rewriting, state: usize) -> bool {
+    !found.accepts[state] && found.row(state).iter().all(|&next| next as usize == state)
 }
 
 fn search<const S: usize>(

@@ -43,7 +43,7 @@ fn find_in(job: &[u8], table: &mut [u16], flags: &mut [u8], word: &mut [u8]) -> 
     })?;
     rewriting.write(table, flags);
     let first = rewriting.first(word).map_or(0, |length| length as u64 + 1);
-    Ok((query.count as u64) << 32 | (rewriting.count() as u64) << 40 | first << 52)
+    Ok((query.count as u64) << 32 | (rewriting.count as u64) << 40 | first << 52)
 }
 
 pub fn verdict(

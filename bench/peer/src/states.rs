@@ -1,4 +1,4 @@
-//! The states of the rewriting, by exploration over the lists.
+//! The states of the rewriting, by exploration over the lists, then merged.
 
 use crate::bits::Bits;
 use crate::images::images;
@@ -6,19 +6,19 @@ use crate::job::Job;
 use crate::refusal::{refuse, Result};
 use crate::standings::Standings;
 
-const MOST: usize = 256;
+pub const MOST: usize = 256;
 const SLOTS: usize = 1024;
 
 pub struct Rewriting {
     pub lists: usize,
-    /// The set of standings of each state.
-    pub sets: Vec<u64>,
+    pub count: usize,
     /// The next state at lists × state + list.
     pub next: Vec<u8>,
-    /// The state and the list that a state was first reached by.
+    pub accepts: [bool; MOST],
+    /// The state and the list that a state was first reached by, before merging.
     reached: Vec<(u8, u8)>,
-    /// The query standings that accept.
-    accepting: u64,
+    /// The first accepting state before merging.
+    first: Option<usize>,
 }
 
 struct Met {
@@ -47,7 +47,7 @@ impl Met {
     }
 }
 
-/// All states; 10 where there are more than 256.
+/// All states, merged; 10 where there are more than 256 before.
 pub fn rewriting(job: &Job, query: &Standings) -> Result<Rewriting> {
     let images: Vec<[u64; 64]> = job.lists().iter().map(|list| images(query, list)).collect();
     let mut met = Met { sets: Vec::with_capacity(32), slots: [0; SLOTS] };
@@ -66,24 +66,22 @@ pub fn rewriting(job: &Job, query: &Standings) -> Result<Rewriting> {
         }
         state += 1;
     }
-    Ok(Rewriting { lists: images.len(), sets: met.sets, next, reached, accepting: query.accepting })
+    let mut accepts = [false; MOST];
+    for (accepts, set) in accepts.iter_mut().zip(&met.sets) {
+        *accepts = set & !query.accepting == 0;
+    }
+    let first = accepts.iter().position(|&accepts| accepts);
+    let mut found = Rewriting { lists: images.len(), count: met.sets.len(), next, accepts, reached, first };
+    found.merge();
+    Ok(found)
 }
 
 impl Rewriting {
-    pub fn count(&self) -> usize {
-        self.sets.len()
-    }
-
-    #[inline(always)]
-    pub fn accepts(&self, state: usize) -> bool {
-        self.sets[state] & !self.accepting == 0
-    }
-
     /// The accepting states, as a set.
     pub fn accepting(&self) -> [u64; 4] {
         let mut set = [0; 4];
-        for state in 0..self.count() {
-            set[state / 64] |= (self.accepts(state) as u64) << (state % 64);
+        for state in 0..self.count {
+            set[state / 64] |= (self.accepts[state] as u64) << (state % 64);
         }
         set
     }
@@ -92,19 +90,17 @@ impl Rewriting {
     pub fn write(&self, table: &mut [u16], flags: &mut [u8]) {
         table[..4096].fill(0);
         flags[..256].fill(0);
-        for state in 0..self.count() {
-            let row = &self.next[self.lists * state..][..self.lists];
-            for (number, &next) in table[16 * state..].iter_mut().zip(row) {
+        for state in 0..self.count {
+            for (number, &next) in table[16 * state..].iter_mut().zip(self.row(state)) {
                 *number = next as u16;
             }
-            flags[state] = self.accepts(state) as u8;
+            flags[state] = self.accepts[state] as u8;
         }
     }
 
     /// The first accepted word, put into the lent letters; its length.
     pub fn first(&self, letters: &mut [u8]) -> Option<usize> {
-        let first = (0..self.count()).find(|&state| self.accepts(state))?;
-        let (mut state, mut length) = (first, 0);
+        let (mut state, mut length) = (self.first?, 0);
         while state != 0 {
             let (before, list) = self.reached[state];
             letters[length] = list;

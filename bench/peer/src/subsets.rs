@@ -39,7 +39,7 @@ fn occurrences(automaton: &Automaton, mut each: impl FnMut(usize, usize, usize))
 fn cover(job: &Job, found: &Rewriting, base: usize, arcs: &mut Vec<Arc>) {
     let closures = closures(found, job.lists());
     let width = width(job);
-    for state in 0..found.count() {
+    for state in 0..found.count {
         let (alone, mut offset) = (base + width * state, 0);
         for (number, list) in job.lists().iter().enumerate() {
             let ended = &closures[found.next[found.lists * state + number] as usize];

@@ -20,7 +20,7 @@ const MOST_PLACES: usize = 1024;
 /// places, 13 where there are more pairs than allowed.
 pub fn verdict(job: &Job, query: &Standings, found: &Rewriting, allowance: usize, path: &mut [u8]) -> Result<Verdict> {
     let width = 1 + job.lists().iter().map(|list| list.size).sum::<usize>();
-    let states = found.count();
+    let states = found.count;
     if states * width > MOST_PLACES {
         return refuse(12);
     }

@@ -40,7 +40,7 @@ fn cut<const S: usize>(set: [u64; 4]) -> [u64; S] {
 impl<const S: usize> Columns<S> {
     pub fn new(job: &Job, rewriting: &Rewriting) -> Columns<S> {
         let closures = closures(rewriting, job.lists());
-        let (lists, states) = (rewriting.lists, rewriting.count());
+        let (lists, states) = (rewriting.lists, rewriting.count);
         let places = (0..lists).flat_map(|list| (0..states).map(move |state| lists * state + list));
         let ended = places.map(|place| cut(closures[rewriting.next[place] as usize])).collect();
         Columns {

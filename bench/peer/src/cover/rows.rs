@@ -30,14 +30,14 @@ impl<const B: usize> Rows<B> {
         let width = 1 + job.lists().iter().map(|list| list.size).sum::<usize>();
         let closures = closures(rewriting, job.lists());
         let mut rows = Rows {
-            states: rewriting.count(),
+            states: rewriting.count,
             follow: vec![[0; B]; width],
             enter: vec![[0; B]; job.labels],
             ends: [0; B],
-            ended: vec![0; 64 * B * rewriting.count()],
+            ended: vec![0; 64 * B * rewriting.count],
             start: closures[0][0],
             accepting: rewriting.accepting()[0],
-            followed: vec![[0; B]; rewriting.count()],
+            followed: vec![[0; B]; rewriting.count],
         };
         rows.lay_out(job);
         rows.lay_out_ends(job, rewriting, &closures);
@@ -67,7 +67,7 @@ impl<const B: usize> Rows<B> {
         for (number, list) in job.lists().iter().enumerate() {
             for place in Bits(list.accepting & !1) {
                 set(&mut self.ends, base + place);
-                for state in 0..found.count() {
+                for state in 0..found.count {
                     let next = found.next[found.lists * state + number] as usize;
                     self.ended[64 * B * state + base + place] = closures[next][0];
                 }
