@@ -11,6 +11,7 @@ use lib.ListN.{length, getD, set, replicate}
 use lib.Seq.{getD-set-same, getD-set-other}
 use Rattle.theory.specs.Places.{Member}
 use Rattle.theory.specs.PlacesLaws.{member-none}
+use Rattle.finding.specs.Filling.{filled-more}
 use Rattle.answering.specs.Pairs.{place, Has, put, zero-at, has-put-there, has-put-new, has-put-kept}
 
 -- The next state of s over the list v. The next states of the state s over the lists stand from 16 × s on.
@@ -83,14 +84,6 @@ module _ {next : List ℕ} {lists n : ℕ} {flags ranks kept : List ℕ} {count 
     other : {s : ℕ} → ¬ (s ≡ n) → getD (set ranks n r) s 0 ≡ getD ranks s 0
     other {s} d = getD-set-other ranks n s r 0 d
 
-    -- What holds of the states before n and of n holds of each.
-    each : (P : ℕ → ℕ → Type 0) → ((s : ℕ) → s < n → P s (getD ranks s 0)) → P n r → (s : ℕ) → s < n + 1 → P s (getD (set ranks n r) s 0)
-    each P before now s h = go (ℕ-discrete s n)
-      where
-        go : Dec (s ≡ n) → P s (getD (set ranks n r) s 0)
-        go (yes e) = subst (λ s. P s (getD (set ranks n r) s 0)) (sym e) (subst (P n) (sym (getD-set-same ranks n r 0 fits)) now)
-        go (no d) = subst (P s) (sym (other d)) (before s (omega arith))
-
     start : getD (set ranks n r) 0 0 ≡ 0
     start = let f = g .few in let m = g .some in other (λ e. omega arith) ∙ g .first
 
@@ -100,8 +93,8 @@ module _ {next : List ℕ} {lists n : ℕ} {flags ranks kept : List ℕ} {count 
     some = g .some;
     first = start 256;
     inside = λ q h. let f = g .inside q h in omega arith;
-    back = each 256 (λ s q. q < count → getD kept q 0 ≡ s) (g .back) (λ h. absurd (let f = g .few in omega arith));
-    ranked = each 256 (KeptOrOut next lists flags count) (g .ranked) (inr (omega arith, o));
+    back = filled-more (λ s q. q < count → getD kept q 0 ≡ s) ranks n 256 fits (g .back) (λ h. absurd (let f = g .few in omega arith));
+    ranked = filled-more (KeptOrOut next lists flags count) ranks n 256 fits (g .ranked) (inr (omega arith, o));
   }
 
   pub ranks-next : count < length kept → Ranks next lists (n + 1) flags (set ranks n count) (set kept count n) (count + 1)
@@ -110,8 +103,8 @@ module _ {next : List ℕ} {lists n : ℕ} {flags ranks kept : List ℕ} {count 
     some = omega arith;
     first = start count;
     inside = λ q h. inside' q h (ℕ-discrete q count);
-    back = each count (λ s q. q < count + 1 → getD (set kept count n) q 0 ≡ s) (λ s h l. back' s h l (g .ranked s h)) (λ h. listed);
-    ranked = each count (KeptOrOut next lists flags (count + 1)) (λ s h. ranked' s (g .ranked s h)) (inl (omega arith));
+    back = filled-more (λ s q. q < count + 1 → getD (set kept count n) q 0 ≡ s) ranks n count fits (λ s h l. back' s h l (g .ranked s h)) (λ h. listed);
+    ranked = filled-more (KeptOrOut next lists flags (count + 1)) ranks n count fits (λ s h. ranked' s (g .ranked s h)) (inl (omega arith));
   }
     where
       listed : getD (set kept count n) count 0 ≡ n

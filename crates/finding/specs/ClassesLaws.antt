@@ -78,8 +78,10 @@ module _ {states lists : ℕ} {table flags : List ℕ} (T : TableLent states lis
   -- All states in one class.
   pub one-class : (classes : List ℕ) → ((s : ℕ) → s < states → classAt classes s ≡ 0)
       → Led states (classAt classes) × Coarse (deterministic states lists table flags) (classAt classes)
-  one-class classes none =
-      (led-agree {c = λ q. 0} (record { at-most = λ q h. omega arith; leads = λ q h. refl }) (λ q h. sym (none q h)), λ q r h k s. none q h ∙ sym (none r k))
+  one-class classes none = (
+    led-agree {c = λ q. 0} (record { at-most = λ q h. omega arith; leads = λ q h. refl }) (λ q h. sym (none q h)),
+    λ q r h k s. none q h ∙ sym (none r k),
+  )
 
   -- The classes of states with one level.
   pub levels-class : {levels classes : List ℕ} → Levelled table flags lists states levels → Classed levels states classes

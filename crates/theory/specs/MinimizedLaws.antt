@@ -82,7 +82,7 @@ module _ {n : ℕ} {c : ℕ → ℕ} (L : Led n c) where
       go (inr (inl l)) = absurd (omega (arith, leaders-below c (c q) (c r) l (L .leads q h)))
       go (inr (inr l)) = absurd (omega (arith, leaders-below c (c r) (c q) l (L .leads r k)))
 
-  -- The class of its first member.
+  -- The class that begins with q has q as its first member.
   pub first-of-leader : (q : ℕ) → q < n → c q ≡ q → firstMember c n (classNumber c q) ≡ q
   first-of-leader q h e =
       let k = numbers-named .within q h in
