@@ -1,5 +1,5 @@
 -- The two machines that answers go by: the standings of an expression over the job's labels, and the states of a rewriting over its lists.
-use Rattle.core.specs.Prelude.{ℕ, List, length, nat_eq, slice_index}
+use Rattle.std.specs.Prelude.{ℕ, List, length, nat_eq, slice_index}
 use Rattle.theory.specs.Places.{collect}
 use Rattle.theory.specs.Automaton.{Automaton}
 use Rattle.finding.specs.Standings.{move}

@@ -1,6 +1,6 @@
 -- The two answers on a job (document 01, "Answer from links" and "Answer from lists"), after Read's checks: the marks, or a refusal, in the
 -- listed order.
-use Rattle.core.specs.Prelude.{ℕ, zero, suc, true, false, List, length, nat_lt, slice_index_or}
+use Rattle.std.specs.Prelude.{ℕ, zero, suc, true, false, List, length, nat_lt, slice_index_or}
 use Rattle.std.proofs.Math.Option.{Option, some, none}
 use Rattle.theory.specs.Expression.{Expression, empty}
 use Rattle.theory.specs.Job.{Job}

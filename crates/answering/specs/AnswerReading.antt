@@ -1,6 +1,6 @@
 -- The text of an answer's job, read into tables: they hold the automata of the job's expressions, and what the job leaves is what the text
 -- leaves.
-use Rattle.core.specs.Prelude.{◌≡◌, ℕ, suc, List, length, slice_index_or}
+use Rattle.std.specs.Prelude.{◌≡◌, ℕ, suc, List, length, slice_index_or}
 use Rattle.std.specs.Prelude.{refl}
 use Rattle.std.proofs.Common.{sym, ap, ap₂, ◌∙◌, subst, arith}
 use Rattle.theory.specs.Expression.{Expression, empty}

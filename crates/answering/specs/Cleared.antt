@@ -1,5 +1,5 @@
 -- What memory holds whose first part was cleared.
-use Rattle.core.specs.Prelude.{◌≡◌, ℕ, ◌*◌, ◌<◌, ◌≤◌, List, length, drop}
+use Rattle.std.specs.Prelude.{◌≡◌, ℕ, ◌*◌, ◌<◌, ◌≤◌, List, length, drop}
 use Rattle.std.proofs.Common.{ap, ◌∙◌, subst}
 use Rattle.finding.specs.Cleared.{Cleared}
 use Rattle.finding.specs.Padded.{cleared-behind}

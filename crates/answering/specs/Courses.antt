@@ -1,6 +1,6 @@
 -- How each answer on a job goes (document 01, "Answer from links" and "Answer from lists"), in the order of the checks: the refusals, each
 -- with what it is for, and the marks with what they mean.
-use Rattle.core.specs.Prelude.{◌≡◌, ℕ, ◌<◌, ◌≤◌, Bool, true, false, List, length, nat_lt}
+use Rattle.std.specs.Prelude.{◌≡◌, ℕ, ◌<◌, ◌≤◌, Bool, true, false, List, length, nat_lt}
 use Rattle.std.proofs.lemmas.Bool.{false≢true}
 use Rattle.std.proofs.Math.Option.{Option, some, none}
 use Rattle.std.specs.Prelude.{refl}

@@ -1,6 +1,6 @@
 -- The steps of the search by sets of recordings (TurnedRun): where links lead from the members of a set, over a symbol and over all. A set
 -- of recordings is a row of four words (Pairs); the members of one word count recordings from a place on.
-use Rattle.core.specs.Prelude.{ℕ, ◌+◌, ◌*◌, ◌<◌, ◌≤◌, ◌⊎◌, ◌↔◌, List, length}
+use Rattle.std.specs.Prelude.{ℕ, ◌+◌, ◌*◌, ◌<◌, ◌≤◌, ◌⊎◌, ◌↔◌, List, length}
 use Rattle.theory.specs.Places.{Member}
 use Rattle.answering.specs.SetSearch.{Steps}
 use Rattle.answering.specs.Pairs.{Has}

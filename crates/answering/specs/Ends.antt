@@ -1,6 +1,6 @@
 -- The ends of links: for each symbol a and each recording x, of N, the set of the recordings that the links from x over a lead to, in four
 -- words; it is the row N × a + x (Pairs). There are at most 256 recordings.
-use Rattle.core.specs.Prelude.{◌≡◌, ℕ, ◌+◌, ◌*◌, ◌/◌, ◌<◌, ◌≤◌, ◌⊎◌, ◌↔◌, List, length, replicate, slice_index}
+use Rattle.std.specs.Prelude.{◌≡◌, ℕ, ◌+◌, ◌*◌, ◌/◌, ◌<◌, ◌≤◌, ◌⊎◌, ◌↔◌, List, length, replicate, slice_index}
 use Rattle.std.proofs.Common.{inl, inr, sym, ◌∙◌, subst, subst₂, mul_comm, arith}
 use Rattle.std.proofs.Math.Decide.{ℕ_discrete}
 use Rattle.std.proofs.lemmas.List.{length-replicate}

@@ -1,6 +1,6 @@
 -- What is reached grows. Reached are the pairs of a recording and a state that were found; pending are those of them whose links have not
 -- been followed yet (Waiting).
-use Rattle.core.specs.Prelude.{◌≡◌, ℕ, ◌+◌, ◌-◌, ◌*◌, ◌<◌, ◌≤◌, ◌⊎◌, List, length, drop, slice_index}
+use Rattle.std.specs.Prelude.{◌≡◌, ℕ, ◌+◌, ◌-◌, ◌*◌, ◌<◌, ◌≤◌, ◌⊎◌, List, length, drop, slice_index}
 use Rattle.std.proofs.Common.{inl, inr, sym, ap, ◌∙◌, subst, arith, length-drop, get_or-drop}
 use Rattle.std.specs.Prelude.{refl}
 use Rattle.answering.specs.Rest.{rest_of, rest_back, rest_all, back-drop}

@@ -1,5 +1,5 @@
 -- A machine (Product) as lent numbers: its next states in rows.
-use Rattle.core.specs.Prelude.{◌≡◌, ℕ, ◌+◌, ◌*◌, ◌<◌, true, List, slice_index}
+use Rattle.std.specs.Prelude.{◌≡◌, ℕ, ◌+◌, ◌*◌, ◌<◌, true, List, slice_index}
 use Rattle.std.proofs.Common.{arith}
 use Rattle.theory.specs.Graph.{Table}
 use Rattle.answering.specs.Table.{is_table}

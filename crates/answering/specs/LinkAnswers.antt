@@ -1,6 +1,6 @@
 -- Answers from links (T7): which recordings are marked by the standings of an expression over a table of links.
-use Rattle.core.specs.Prelude.{◌≡◌, ℕ, ◌+◌, ◌*◌, ◌<◌, true, ◌↔◌, List, length, slice_index}
-use Rattle.std.proofs.Math.Logic.{Iff·trans}
+use Rattle.std.specs.Prelude.{◌≡◌, ℕ, ◌+◌, ◌*◌, ◌<◌, true, ◌↔◌, List, length, slice_index}
+use Rattle.std.proofs.Math.Logic.Iff
 use Rattle.std.proofs.Common.{sym, ◌∙◌}
 use Rattle.std.proofs.Math.Path.{ap}
 use Rattle.theory.specs.Path.{Path}
@@ -35,7 +35,7 @@ module _ (A : Automaton) (k limit : ℕ) (l : List (Entry ℕ)) (found : standin
       → Member (length (values l) * y + i) (reached_nodes (link_machine A (values l)) N t x)
       ↔ ((p : Path) × Leads t p x y × (standing A p ≡ slice_index (values l) i))
   reached-standings x y i h f =
-      Iff·trans
+      Iff.trans
       (reached-exactly (link_machine A (values l)) t moves-within N (table-ends table) numbering.start.0 x y i h f)
       (λ q. (q.0, q.1, (number q.1).0 q.2), λ q. (q.0, q.1, (number q.1).1 q.2))
     where
@@ -54,7 +54,7 @@ module _ (A : Automaton) (k limit : ℕ) (l : List (Entry ℕ)) (found : standin
   pub standings-marked : (x y : ℕ) → x < N → y < N
       → (slice_index (marks (link_machine A (values l)) N t x) y ≡ 1) ↔ ((p : Path) × Leads t p x y × (accepts A (standing A p) ≡ true))
   standings-marked x y h f =
-      Iff·trans
+      Iff.trans
       (mark-exactly (link_machine A (values l)) t moves-within N (table-ends table) numbering.start.0 x y h f)
       (λ q. (q.0, q.1, (accepting-exactly q.1).0 q.2), λ q. (q.0, q.1, (accepting-exactly q.1).1 q.2))
 
@@ -63,5 +63,5 @@ pub links-marked : (e : Expression) (k limit : ℕ) (l : List (Entry ℕ)) → s
     → (N : ℕ) (t : Table) → IsTable N k t → (x y : ℕ) → x < N → y < N
     → (slice_index (marks (link_machine (glushkov e) (values l)) N t x) y ≡ 1) ↔ ((p : Path) × IsPath e p × Leads t p x y)
 links-marked e k limit l found N t table x y h f =
-    Iff·trans (standings-marked (glushkov e) k limit l found N t table x y h f)
+    Iff.trans (standings-marked (glushkov e) k limit l found N t table x y h f)
     (λ q. (q.0, (glushkov-accepts e q.0).1 q.2, q.1), λ q. (q.0, q.2, (glushkov-accepts e q.0).0 q.1))

@@ -1,6 +1,6 @@
 -- The links of a recording are read one after the other: the link read stands at the first triple that leaves the recording or a later one,
 -- or behind it.
-use Rattle.core.specs.Prelude.{◌≡◌, ℕ, suc, ◌+◌, ◌*◌, ◌/◌, ◌<◌, ◌≤◌, true, false, ◌⊎◌, ◌∷◌, length, slice_index}
+use Rattle.std.specs.Prelude.{◌≡◌, ℕ, suc, ◌+◌, ◌*◌, ◌/◌, ◌<◌, ◌≤◌, true, false, ◌⊎◌, ◌∷◌, length, slice_index}
 use Rattle.std.proofs.lemmas.Bool.{false≢true}
 use Rattle.std.proofs.Common.{inl, inr, sym, ap, ◌∙◌, subst₂, add-one, arith}
 use Rattle.std.specs.Prelude.{refl}

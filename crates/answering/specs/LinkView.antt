@@ -1,5 +1,5 @@
 -- What the view of the links says, by its place.
-use Rattle.core.specs.Prelude.{ℕ, List}
+use Rattle.std.specs.Prelude.{ℕ, List}
 use Rattle.std.specs.Borrow.{Bor}
 use Rattle.answering.specs.LinkAt.{link_at, place_after}
 use Rattle.answering.specs.declared.links.Link.{Link}

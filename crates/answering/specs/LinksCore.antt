@@ -1,6 +1,6 @@
 -- What marking by the standings of an automaton promises (document 01, "Answer from links"): the marks of its standings as the states of a
 -- machine, or that there are more than 64 of them; the workspace is zero at the end.
-use Rattle.core.specs.Prelude.{◌≡◌, ℕ, ◌<◌, ◌≤◌, true, List, ◌++◌, length, drop, replicate}
+use Rattle.std.specs.Prelude.{◌≡◌, ℕ, ◌<◌, ◌≤◌, true, List, ◌++◌, length, drop, replicate}
 use Rattle.theory.specs.Graph.{Table}
 use Rattle.theory.specs.Automaton.{Automaton}
 use Rattle.theory.specs.Exploration.{Entry, all, over}

@@ -1,5 +1,5 @@
 -- The steps of marking by the places of an automaton (LinksCore): what the search and the marks promise together, and the standings told.
-use Rattle.core.specs.Prelude.{◌≡◌, ℕ, ◌*◌, ◌^◌, ◌<◌, List, [], ◌∷◌, ◌++◌, drop, replicate, ◌≢◌, slice_index}
+use Rattle.std.specs.Prelude.{◌≡◌, ℕ, ◌*◌, ◌^◌, ◌<◌, List, [], ◌∷◌, ◌++◌, drop, replicate, ◌≢◌, slice_index}
 use Rattle.std.specs.Prelude.{refl}
 use Rattle.std.proofs.Common.{sym, ap, ap₂, ◌∙◌, subst, arith, take-append-drop}
 use Rattle.theory.specs.Graph.{Table}

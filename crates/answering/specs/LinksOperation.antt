@@ -1,6 +1,6 @@
 -- Answer from links (document 01): what is told and what the lent marks and words hold at the end, from the job text on; and what it shares
 -- with Answer from lists, whose workspace has more words.
-use Rattle.core.specs.Prelude.{◌≡◌, ℕ, ◌≤◌, true, false, ◌&&◌, ◌||◌, List, [], ◌∷◌, ◌++◌, length, drop, replicate, ◌==◌, nat_le, slice_index}
+use Rattle.std.specs.Prelude.{◌≡◌, ℕ, ◌≤◌, true, false, ◌&&◌, ◌||◌, List, [], ◌∷◌, ◌++◌, length, drop, replicate, ◌==◌, nat_le, slice_index}
 use Rattle.theory.specs.Expression.{Expression}
 use Rattle.theory.specs.Job.{Job}
 use Rattle.theory.specs.Graph.{Table}

@@ -1,6 +1,6 @@
 -- Answers from lists (T8): which recordings are marked by the states of a rewriting over a table of lists.
-use Rattle.core.specs.Prelude.{◌≡◌, ℕ, ◌+◌, ◌*◌, ◌<◌, ◌↔◌, [], ◌∷◌, length, nat_eq, slice_index}
-use Rattle.std.proofs.Math.Logic.{Iff·trans}
+use Rattle.std.specs.Prelude.{◌≡◌, ℕ, ◌+◌, ◌*◌, ◌<◌, ◌↔◌, [], ◌∷◌, length, nat_eq, slice_index}
+use Rattle.std.proofs.Math.Logic.Iff
 use Rattle.std.specs.Prelude.{refl}
 use Rattle.std.proofs.Common.{sym, ◌∙◌, eqb-true, eq-eqb}
 use Rattle.theory.specs.Word.{Word}
@@ -33,7 +33,7 @@ module _ (J : Job) (R : Rewritten) (decides : Decides J R) (N : ℕ) (t : Table)
       → Member (R.states * y + q) (reached_nodes (list_machine R) N t x)
       ↔ ((w : Word) × Leads t w x y × (followed R.table 0 w ≡ q))
   reached-states x y q h k =
-      Iff·trans (reached-exactly (list_machine R) t states-within N (table-ends table) decides.some-state x y q h k)
+      Iff.trans (reached-exactly (list_machine R) t states-within N (table-ends table) decides.some-state x y q h k)
       (λ r. (r.0, r.1, sym (ends-followed R 0 r.0) ∙ r.2), λ r. (r.0, r.1, ends-followed R 0 r.0 ∙ r.2))
 
   accepted-exactly : {w : Word} {x y : ℕ} → Leads t w x y
@@ -56,7 +56,7 @@ module _ (J : Job) (R : Rewritten) (decides : Decides J R) (N : ℕ) (t : Table)
   -- Marks from lists: 1 exactly where an accepted list word leads from the start.
   pub lists-marked : (x y : ℕ) → x < N → y < N → (slice_index (marks (list_machine R) N t x) y ≡ 1) ↔ AnswersFromLists J t x y
   lists-marked x y h k =
-      Iff·trans (mark-exactly (list_machine R) t states-within N (table-ends table) decides.some-state x y h k) (
+      Iff.trans (mark-exactly (list_machine R) t states-within N (table-ends table) decides.some-state x y h k) (
         λ q. (q.0, (table-path table q.1, (accepted-exactly q.1).0 q.2), q.1),
         λ q. (q.0, q.2, (accepted-exactly q.2).1 q.1.1),
       )

@@ -1,6 +1,6 @@
 -- What marking by the states of a rewriting promises (document 01, "Answer from lists"): the marks of its states as those of a machine; the
 -- workspace, 4 words for each recording, is zero at the end.
-use Rattle.core.specs.Prelude.{◌≡◌, ℕ, ◌+◌, ◌*◌, ◌<◌, ◌≤◌, true, List, ◌++◌, length, drop, replicate, slice_index}
+use Rattle.std.specs.Prelude.{◌≡◌, ℕ, ◌+◌, ◌*◌, ◌<◌, ◌≤◌, true, List, ◌++◌, length, drop, replicate, slice_index}
 use Rattle.theory.specs.Graph.{Table}
 use Rattle.finding.specs.Rewritten.{Rewritten, next_state}
 use Rattle.answering.specs.Table.{is_table}

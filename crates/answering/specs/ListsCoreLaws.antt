@@ -1,6 +1,6 @@
 -- The steps of marking by the states of a rewriting (ListsCore): the numbers run the rewriting's machine, and what the ranks, the search and
 -- the marks promise together.
-use Rattle.core.specs.Prelude.{◌≡◌, ℕ, ◌+◌, ◌-◌, ◌*◌, ◌/◌, ◌^◌, ◌<◌, ◌≤◌, Bool, ◌↔◌, List, ◌++◌, drop, replicate, nat_eq, slice_index}
+use Rattle.std.specs.Prelude.{◌≡◌, ℕ, ◌+◌, ◌-◌, ◌*◌, ◌/◌, ◌^◌, ◌<◌, ◌≤◌, Bool, ◌↔◌, List, ◌++◌, drop, replicate, nat_eq, slice_index}
 use Rattle.std.proofs.Common.{sym, ap, ap₂, ◌∙◌, subst, mul-le-mul_right, arith, eqb-true, eq-eqb, take-append-drop, drop-drop}
 use Rattle.theory.specs.Graph.{Table}
 use Rattle.theory.specs.Places.{Member}

@@ -1,5 +1,5 @@
 -- What an answer's marks mean (document 01, "Answer from links" and "Answer from lists").
-use Rattle.core.specs.Prelude.{◌≡◌, ℕ, suc, ◌+◌, ◌<◌, ◌⊎◌, ◌↔◌, List, [], ◌∷◌, length, slice_index, slice_index_or}
+use Rattle.std.specs.Prelude.{◌≡◌, ℕ, suc, ◌+◌, ◌<◌, ◌⊎◌, ◌↔◌, List, [], ◌∷◌, length, slice_index, slice_index_or}
 use Rattle.theory.specs.Expression.{Expression, empty}
 use Rattle.theory.specs.Job.{Job}
 

@@ -1,6 +1,6 @@
 -- The laws of chosen expressions and of marks (Marked): the choice is the one that the answers make (AnswerJob); marks are known by where
 -- they are 1, and their sum is the number of ones.
-use Rattle.core.specs.Prelude.{◌≡◌, ℕ, zero, suc, ◌+◌, ◌<◌, ◌≤◌, Bool, true, false, ◌⊎◌, ◌↔◌, List, length, get_or, nat_eq, nat_lt, slice_index, slice_index_or}
+use Rattle.std.specs.Prelude.{◌≡◌, ℕ, zero, suc, ◌+◌, ◌<◌, ◌≤◌, Bool, true, false, ◌⊎◌, ◌↔◌, List, length, get_or, nat_eq, nat_lt, slice_index, slice_index_or}
 use Rattle.std.proofs.Common.{inl, inr, sym, ◌∙◌, subst, arith, ltb-true, lt-ltb, ext_get_or}
 use Rattle.std.proofs.Math.Option.{Option, some, none}
 use Rattle.std.specs.Prelude.{refl}

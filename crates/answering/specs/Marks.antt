@@ -1,6 +1,6 @@
 -- Marks from words (document 01, "Answer"): the recording y is marked where some of its w words has a bit in common with the accepting
 -- words.
-use Rattle.core.specs.Prelude.{◌≡◌, ℕ, zero, suc, ◌+◌, ◌*◌, ◌<◌, ◌≤◌, Bool, true, false, not, ◌||◌, List, [], ◌∷◌, ◌++◌, length, drop, ◌==◌, slice_index}
+use Rattle.std.specs.Prelude.{◌≡◌, ℕ, zero, suc, ◌+◌, ◌*◌, ◌<◌, ◌≤◌, Bool, true, false, not, ◌||◌, List, [], ◌∷◌, ◌++◌, length, drop, ◌==◌, slice_index}
 use Rattle.theory.specs.Places.{intersection}
 use Rattle.answering.specs.Marked.{ones}
 use Rattle.answering.specs.MarksLaws.{mark_of}

@@ -1,9 +1,9 @@
 -- What the marks tell (Product): a recording is marked exactly when a path leads to it that ends in an accepting state; there is one mark
 -- for each recording, 0 or 1; and the sum of such numbers is how many of them are 1.
-use Rattle.core.specs.Prelude.{◌≡◌, ℕ, zero, suc, ◌+◌, ◌*◌, ◌/◌, ◌%◌, ◌^◌, ◌<◌, Bool, true, false, not, ◌⊎◌, ◌↔◌, List, [], ◌∷◌, length, ◌==◌, nat_eq, slice_index}
+use Rattle.std.specs.Prelude.{◌≡◌, ℕ, zero, suc, ◌+◌, ◌*◌, ◌/◌, ◌%◌, ◌^◌, ◌<◌, Bool, true, false, not, ◌⊎◌, ◌↔◌, List, [], ◌∷◌, length, ◌==◌, nat_eq, slice_index}
 use Rattle.std.proofs.lemmas.Bool.{false≢true, eqb-false}
 use Rattle.std.proofs.Common.{inl, inr, sym, ◌∙◌, ap, ap₂, subst, add-zero, zero-add, arith, ne_eqb}
-use Rattle.std.proofs.Math.Logic.{Iff·trans}
+use Rattle.std.proofs.Math.Logic.Iff
 use Rattle.std.specs.Prelude.{refl}
 use Rattle.theory.specs.Graph.{Table, Leads, EndsBelow}
 use Rattle.theory.specs.Places.{Member, intersection}
@@ -42,7 +42,7 @@ marked-state M nodes y = (λ e. there (intersection part M.accepting == 0) refl 
 -- .. which is where a path leads to it that ends in an accepting state.
 pub marked-exactly : (M : Machine) (t : Table) → StaysWithin M t → (N : ℕ) → EndsBelow N t → 0 < M.states → (x y : ℕ) → x < N
     → (marked M (reached_nodes M N t x) y ≡ true) ↔ ((p : List ℕ) × Leads t p x y × Member (ends_at M 0 p) M.accepting)
-marked-exactly M t stays N ends some-state x y h = Iff·trans (marked-state M (reached_nodes M N t x) y) (there, back)
+marked-exactly M t stays N ends some-state x y h = Iff.trans (marked-state M (reached_nodes M N t x) y) (there, back)
   where
     there : ((s : ℕ) × (s < M.states) × Member (M.states * y + s) (reached_nodes M N t x) × Member s M.accepting)
         → (p : List ℕ) × Leads t p x y × Member (ends_at M 0 p) M.accepting
@@ -104,7 +104,7 @@ mark-marked M N t x y h = rw (mark-at M N t x y h) (mark_of-one (marked M (reach
 pub mark-exactly : (M : Machine) (t : Table) → StaysWithin M t → (N : ℕ) → EndsBelow N t → 0 < M.states → (x y : ℕ) → x < N → y < N
     → (slice_index (marks M N t x) y ≡ 1) ↔ ((p : List ℕ) × Leads t p x y × Member (ends_at M 0 p) M.accepting)
 mark-exactly M t stays N ends some-state x y h k =
-    Iff·trans (mark-marked M N t x y k) (marked-exactly M t stays N ends some-state x y h)
+    Iff.trans (mark-marked M N t x y k) (marked-exactly M t stays N ends some-state x y h)
 
 -- The number of ones.
 

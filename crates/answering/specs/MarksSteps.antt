@@ -1,5 +1,5 @@
 -- The laws of marks from words (Marks): a word in common, and the marks one after the other.
-use Rattle.core.specs.Prelude.{◌≡◌, ℕ, zero, suc, ◌+◌, ◌*◌, ◌<◌, ◌≤◌, Bool, true, false, not, ◌||◌, List, [], ◌∷◌, ◌++◌, length, drop, set, ◌==◌, slice_index, slice_set}
+use Rattle.std.specs.Prelude.{◌≡◌, ℕ, zero, suc, ◌+◌, ◌*◌, ◌<◌, ◌≤◌, Bool, true, false, not, ◌||◌, List, [], ◌∷◌, ◌++◌, length, drop, set, ◌==◌, slice_index, slice_set}
 use Rattle.std.proofs.lemmas.Bool.{false≢true, eqb-false}
 use Rattle.std.proofs.Common.{append_assoc, sym, ap₂, ◌∙◌, subst, add-zero, add-one, drop-cons, eq-eqb, ne_eqb}
 use Rattle.std.specs.Prelude.{refl}

@@ -1,6 +1,6 @@
 -- The search over the places of an automaton (Plain), by its steps: the next places of a place over a label are those that follow the place
 -- and that the label enters. What this search promises.
-use Rattle.core.specs.Prelude.{◌≡◌, ℕ, ◌*◌, ◌<◌, ◌≤◌, ◌↔◌, List, length, drop, slice_index}
+use Rattle.std.specs.Prelude.{◌≡◌, ℕ, ◌*◌, ◌<◌, ◌≤◌, ◌↔◌, List, length, drop, slice_index}
 use Rattle.std.specs.Prelude.{refl}
 use Rattle.std.proofs.Common.{sym, ◌∙◌, subst, one-mul, arith}
 use Rattle.std.proofs.Math.Decide.{dec_le}

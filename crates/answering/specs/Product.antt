@@ -1,7 +1,7 @@
 -- Recordings together with the states of a deterministic automaton, over a table: which are reached from a start, and which recordings
 -- are then marked. Answers from links take the standings of an expression as states, answers from lists the states of a rewriting. A node
 -- is the number m × recording + state, where the automaton has m states.
-use Rattle.core.specs.Prelude.{ℕ, zero, suc, ◌+◌, ◌*◌, ◌/◌, ◌%◌, ◌^◌, Bool, true, false, not, List, [], ◌∷◌, ◌==◌}
+use Rattle.std.specs.Prelude.{ℕ, zero, suc, ◌+◌, ◌*◌, ◌/◌, ◌%◌, ◌^◌, Bool, true, false, not, List, [], ◌∷◌, ◌==◌}
 use Rattle.theory.specs.Graph.{Table}
 use Rattle.theory.specs.Places.{none, one, union, intersection, when}
 use Rattle.theory.specs.Closure.{closure}

@@ -1,6 +1,6 @@
 -- What the product of a table and a machine reaches (Product): the recording y in the state s is reached from the recording x exactly
 -- when some path leads from x to y over the table and the machine, following it from state 0, ends in s.
-use Rattle.core.specs.Prelude.{◌≡◌, ℕ, ◌+◌, ◌*◌, ◌/◌, ◌%◌, ◌^◌, ◌<◌, ◌⊎◌, ◌↔◌, List, [], ◌∷◌, ◌++◌, ◌==◌}
+use Rattle.std.specs.Prelude.{◌≡◌, ℕ, ◌+◌, ◌*◌, ◌/◌, ◌%◌, ◌^◌, ◌<◌, ◌⊎◌, ◌↔◌, List, [], ◌∷◌, ◌++◌, ◌==◌}
 use Rattle.std.proofs.Common.{inl, inr, sym, ◌∙◌, ap, mul_comm, mod-lt, add-zero, eqb-true, eq-eqb}
 use Rattle.std.specs.Prelude.{refl}
 use Rattle.std.proofs.Math.Path.{subst, subst₂}

@@ -1,5 +1,5 @@
 -- The rest of a list, from a place on, is lent and comes back.
-use Rattle.core.specs.Prelude.{◌≡◌, ℕ, ◌-◌, ◌≤◌, List, [], ◌++◌, length, take, drop}
+use Rattle.std.specs.Prelude.{◌≡◌, ℕ, ◌-◌, ◌≤◌, List, [], ◌++◌, length, take, drop}
 use Rattle.std.proofs.Common.{append-nil, ap, ◌∙◌, arith, length-append, length-drop, drop_of_length-le, take_all, drop_at, length-take-le}
 
 -- The part that is lent: so many numbers as there are from the place on ..

@@ -1,6 +1,6 @@
 -- Marks from words (Marks) are those of a machine (Product) where the recordings with an accepting state are those that the machine marks.
-use Rattle.core.specs.Prelude.{◌≡◌, ℕ, zero, suc, ◌+◌, ◌*◌, ◌/◌, ◌%◌, ◌^◌, ◌<◌, ◌≤◌, Bool, true, false, ◌↔◌, List, ◌∷◌, take, drop, slice_index}
-use Rattle.std.proofs.Math.Logic.{Iff·trans}
+use Rattle.std.specs.Prelude.{◌≡◌, ℕ, zero, suc, ◌+◌, ◌*◌, ◌/◌, ◌%◌, ◌^◌, ◌<◌, ◌≤◌, Bool, true, false, ◌↔◌, List, ◌∷◌, take, drop, slice_index}
+use Rattle.std.proofs.Math.Logic.Iff
 use Rattle.std.specs.Prelude.{refl}
 use Rattle.std.proofs.Common.{sym, ap, ap₂, ◌∙◌, subst, arith, take_at, drop_at}
 use Rattle.theory.specs.Graph.{Table}
@@ -65,7 +65,7 @@ marks-same : (M : Machine) (N : ℕ) (table : Table) (start w : ℕ) (l acceptin
 unfolding marks
 marks-same M N table start w l accepting same =
     marks-from M nodes w l accepting N
-    (λ y h. same_tests (meets l accepting (w * y) w) (marked M nodes y) (Iff·trans (same y h) (mark-marked M N table start y h)))
+    (λ y h. same_tests (meets l accepting (w * y) w) (marked M nodes y) (Iff.trans (same y h) (mark-marked M N table start y h)))
     N 0 (omega arith)
   where
     nodes : ℕ
@@ -77,7 +77,7 @@ pub marks-accepted : (M : Machine) (N : ℕ) (table : Table) (start w : ℕ) (l 
     → {old new : List ℕ} {told : ℕ} → Markable w N l old → MarksSet w l accepting N old new told
     → (take N new ≡ marks M N table start) × (drop N new ≡ drop N old) × (told ≡ ones (marks M N table start))
 marks-accepted M N table start w l accepting bits same {old} {new} {told} f m =
-    let e = marks-same M N table start w l accepting (λ y h. Iff·trans (meets-accepted w l accepting bits y) (same y h)) in
+    let e = marks-same M N table start w l accepting (λ y h. Iff.trans (meets-accepted w l accepting bits y) (same y h)) in
     let size = length-marks_of w l accepting N 0 in (
       ap (take N) (m.set f) ∙ take_at (marks_of w l accepting N 0) (drop N old) N size ∙ e,
       ap (drop N) (m.set f) ∙ drop_at (marks_of w l accepting N 0) (drop N old) N size,

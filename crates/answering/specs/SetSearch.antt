@@ -1,7 +1,7 @@
 -- The search from one recording over sets of states (document 01, "Answer from links", "Answer from lists"). An automaton that may have
 -- several next states is given by words, w for each state and symbol: the next states of the state s over the symbol a, of k symbols, are
 -- those that the row k × s + a of the words has (Pairs).
-use Rattle.core.specs.Prelude.{◌≡◌, ℕ, ◌+◌, ◌*◌, ◌<◌, ◌≤◌, Bool, true, false, List, length, drop}
+use Rattle.std.specs.Prelude.{◌≡◌, ℕ, ◌+◌, ◌*◌, ◌<◌, ◌≤◌, Bool, true, false, List, length, drop}
 use Rattle.theory.specs.Graph.{Table, Linked}
 use Rattle.answering.specs.Links.{SortedByFrom}
 use Rattle.answering.specs.Pairs.{Has}

@@ -1,7 +1,7 @@
 -- The search over sets of states as a whole (SetSearch): while something is pending, a recording is taken off the stack with its pending
 -- states, and its links are followed from these. What holds all along: what is reached was found by links, and all links of what is reached
 -- and not pending were followed.
-use Rattle.core.specs.Prelude.{◌≡◌, ℕ, ◌+◌, ◌-◌, ◌*◌, ◌<◌, ◌≤◌, ◌⊎◌, List, length, drop, replicate}
+use Rattle.std.specs.Prelude.{◌≡◌, ℕ, ◌+◌, ◌-◌, ◌*◌, ◌<◌, ◌≤◌, ◌⊎◌, List, length, drop, replicate}
 use Rattle.std.proofs.Common.{inl, inr, sym, ◌∙◌, subst, subst₂, mul-le-mul, mul-le-mul_right, one-mul, arith}
 use Rattle.std.specs.Prelude.{refl}
 use Rattle.std.proofs.Math.Decide.{ℕ_discrete}

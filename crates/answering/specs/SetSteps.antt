@@ -1,6 +1,6 @@
 -- The steps of the search over sets of states (SetSearch): the next states of all that is pending at a recording, one link from these, and
 -- all links of the recording.
-use Rattle.core.specs.Prelude.{◌≡◌, ℕ, ◌+◌, ◌*◌, ◌/◌, ◌%◌, ◌<◌, ◌≤◌, true, false, ◌⊎◌, ◌↔◌, List, length, slice_index, slice_index_or, slice_set}
+use Rattle.std.specs.Prelude.{◌≡◌, ℕ, ◌+◌, ◌*◌, ◌/◌, ◌%◌, ◌<◌, ◌≤◌, true, false, ◌⊎◌, ◌↔◌, List, length, slice_index, slice_index_or, slice_set}
 use Rattle.std.proofs.Math.Logic.{inl, inr}
 use Rattle.std.proofs.Common.{sym, ap, ◌∙◌, subst₂, mul_assoc, mul-add, arith}
 use Rattle.std.proofs.Math.Path.{subst}

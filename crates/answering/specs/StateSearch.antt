@@ -1,6 +1,6 @@
 -- The search over the states of a machine that are kept (Ranks, StateSets, SetSearch) finds the recordings that the machine marks (Product):
 -- a path that ends in an accepting state goes through such states only.
-use Rattle.core.specs.Prelude.{◌≡◌, ℕ, ◌*◌, ◌<◌, ◌≤◌, ◌↔◌, List, [], ◌∷◌, ◌++◌, slice_index, slice_index_or}
+use Rattle.std.specs.Prelude.{◌≡◌, ℕ, ◌*◌, ◌<◌, ◌≤◌, ◌↔◌, List, [], ◌∷◌, ◌++◌, slice_index, slice_index_or}
 use Rattle.std.proofs.Common.{inl, inr, ◌∙◌, arith}
 use Rattle.std.proofs.Math.Path.{refl, sym, ap, subst}
 use Rattle.theory.specs.Graph as G

@@ -1,6 +1,6 @@
 -- The next states of a deterministic automaton as words (SetSearch), by ranks (Ranks): the row lists × r + v of the words has the rank of
 -- the next state, over the list v, of the state with rank r, where it is kept, and no other rank.
-use Rattle.core.specs.Prelude.{◌≡◌, ℕ, suc, ◌+◌, ◌*◌, ◌<◌, ◌≤◌, ◌⊎◌, ◌↔◌, List, length, replicate, slice_index}
+use Rattle.std.specs.Prelude.{◌≡◌, ℕ, suc, ◌+◌, ◌*◌, ◌<◌, ◌≤◌, ◌⊎◌, ◌↔◌, List, length, replicate, slice_index}
 use Rattle.std.proofs.Common.{inl, inr, sym, ◌∙◌, subst, mul-suc, mul-le-mul, add-one, arith}
 use Rattle.std.proofs.Math.Decide.{ℕ_discrete}
 use Rattle.answering.specs.ProductLaws.{node-below, same-node}

@@ -1,6 +1,6 @@
 -- Lent tables of links or of lists (document 01): triples (from, label, to), strictly rising in that order, at most 16,384 of them, with
 -- every end below N and every label below k.
-use Rattle.core.specs.Prelude.{◌≡◌, ℕ, ◌*◌, ◌<◌, ◌≤◌, Bool, true, false, ◌&&◌, ◌||◌, ◌⊎◌, [], ◌∷◌, length, ◌==◌, nat_le, nat_lt}
+use Rattle.std.specs.Prelude.{◌≡◌, ℕ, ◌*◌, ◌<◌, ◌≤◌, Bool, true, false, ◌&&◌, ◌||◌, ◌⊎◌, [], ◌∷◌, length, ◌==◌, nat_le, nat_lt}
 use Rattle.theory.specs.Graph.{Table}
 
 abbrev pub most_links : ℕ

@@ -1,9 +1,9 @@
 -- The laws of tables (Table): the test for a table is exact; a table's ends and labels are within range, its length is a multiple of
 -- three, and its triples are sorted.
-use Rattle.core.specs.Prelude.{◌≡◌, ℕ, zero, suc, ◌+◌, ◌*◌, ◌%◌, ◌<◌, Bool, true, false, ◌&&◌, ◌||◌, ◌⊎◌, ◌↔◌, List, [], ◌∷◌, length, ◌==◌, nat_le, nat_lt, slice_index}
+use Rattle.std.specs.Prelude.{◌≡◌, ℕ, zero, suc, ◌+◌, ◌*◌, ◌%◌, ◌<◌, Bool, true, false, ◌&&◌, ◌||◌, ◌⊎◌, ◌↔◌, List, [], ◌∷◌, length, ◌==◌, nat_le, nat_lt, slice_index}
 use Rattle.std.proofs.lemmas.Bool.{false≢true}
 use Rattle.std.proofs.Common.{inl, inr, ◌∙◌, subst, subst₂, arith, ltb-true, leb-true, eqb-true, lt-ltb, le-leb, eq-eqb}
-use Rattle.std.proofs.Math.Logic.{Iff·trans}
+use Rattle.std.proofs.Math.Logic.Iff
 use Rattle.std.specs.Prelude.{refl}
 use Rattle.theory.specs.Path as P
 use Rattle.theory.specs.Path.{Below, nothing}
@@ -57,7 +57,7 @@ after-exactly N k x a y [] = (λ e. last, λ r. refl)
 after-exactly N k x a y (u ∷ []) = (λ e. absurd (false≢true e), λ r. absurd (omega (arith, after-length r)))
 after-exactly N k x a y (u ∷ (b ∷ [])) = (λ e. absurd (false≢true e), λ r. absurd (omega (arith, after-length r)))
 after-exactly N k x a y (u ∷ (b ∷ (v ∷ t))) =
-    Iff·trans
+    Iff.trans
     (both-test (nat_lt u N && (nat_lt b k && nat_lt v N)) (rises x a y u b v && rising_after N k u b v t) (within-exactly N k u b v)
     (both-test (rises x a y u b v) (rising_after N k u b v t) (rises-exactly x a y u b v) (after-exactly N k u b v t)))
     (λ h. next h.0.0 h.0.1.0 h.0.1.1 h.1.0 h.1.1, back)
@@ -71,7 +71,7 @@ rising-exactly N k [] = (λ e. none, λ r. refl)
 rising-exactly N k (u ∷ []) = (λ e. absurd (false≢true e), λ r. absurd (omega (arith, rising-length r)))
 rising-exactly N k (u ∷ (b ∷ [])) = (λ e. absurd (false≢true e), λ r. absurd (omega (arith, rising-length r)))
 rising-exactly N k (u ∷ (b ∷ (v ∷ t))) =
-    Iff·trans
+    Iff.trans
     (both-test (nat_lt u N && (nat_lt b k && nat_lt v N)) (rising_after N k u b v t) (within-exactly N k u b v) (after-exactly N k u b v t))
     (λ h. some h.0.0 h.0.1.0 h.0.1.1 h.1, back)
   where

@@ -1,6 +1,6 @@
 -- The search by sets of recordings: for each state the set of the recordings that are reached in it, in four words, the row of the state
 -- (Pairs). What is done are those recordings of a state whose links have been followed from it.
-use Rattle.core.specs.Prelude.{◌≡◌, ℕ, ◌+◌, ◌*◌, ◌<◌, ◌≤◌, Bool, true, false, List, length, slice_index}
+use Rattle.std.specs.Prelude.{◌≡◌, ℕ, ◌+◌, ◌*◌, ◌<◌, ◌≤◌, Bool, true, false, List, length, slice_index}
 use Rattle.theory.specs.Places.{Member}
 use Rattle.answering.specs.SetSearch.{Steps}
 use Rattle.answering.specs.Pairs.{Has, room}

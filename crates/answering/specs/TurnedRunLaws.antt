@@ -1,5 +1,5 @@
 -- The search by sets of recordings (TurnedRun): a word of the sets is taken.
-use Rattle.core.specs.Prelude.{◌≡◌, ℕ, ◌+◌, ◌*◌, ◌/◌, ◌%◌, ◌^◌, ◌<◌, true, false, ◌⊎◌, ◌↔◌, List, length, bit_xor, slice_index, slice_index_or, slice_set}
+use Rattle.std.specs.Prelude.{◌≡◌, ℕ, ◌+◌, ◌*◌, ◌/◌, ◌%◌, ◌^◌, ◌<◌, true, false, ◌⊎◌, ◌↔◌, List, length, bit_xor, slice_index, slice_index_or, slice_set}
 use Rattle.std.proofs.lemmas.Bool.{false≢true}
 use Rattle.std.proofs.Common.{inl, inr, sym, ap, ◌∙◌, subst, subst₂, add_assoc, arith, length-set, get_or-set_same, get_or-set_other}
 use Rattle.std.specs.Prelude.{refl}

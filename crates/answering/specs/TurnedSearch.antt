@@ -1,6 +1,6 @@
 -- The search by sets of recordings as a whole: the ends of the links are filled in, the sets of the states are found by them, and turned
 -- back (Ends, TurnedRun, TurnedBack). It finds what the search over sets of states finds (SetSearchRun).
-use Rattle.core.specs.Prelude.{◌≡◌, ℕ, ◌+◌, ◌-◌, ◌*◌, ◌<◌, ◌≤◌, ◌⊎◌, List, length, drop, replicate}
+use Rattle.std.specs.Prelude.{◌≡◌, ℕ, ◌+◌, ◌-◌, ◌*◌, ◌<◌, ◌≤◌, ◌⊎◌, List, length, drop, replicate}
 use Rattle.std.proofs.Common.{inl, inr, ap, sym, ◌∙◌, arith, length-drop, get_or-drop, ext_get_or}
 use Rattle.std.proofs.lemmas.List.{length-replicate}
 use Rattle.theory.specs.Graph.{Table}

@@ -1,5 +1,5 @@
 -- Whether the search by sets of recordings serves (EndSteps): told by the words of the rows.
-use Rattle.core.specs.Prelude.{ℕ, ◌+◌, ◌*◌, ◌^◌, ◌<◌, ◌≤◌, List, length, slice_index}
+use Rattle.std.specs.Prelude.{ℕ, ◌+◌, ◌*◌, ◌^◌, ◌<◌, ◌≤◌, List, length, slice_index}
 use Rattle.theory.specs.PlacesLaws.{member_below}
 use Rattle.answering.specs.ProductLaws.{node-below}
 use Rattle.answering.specs.WordSteps.{has_word}

@@ -1,5 +1,5 @@
 -- A run of words from a place on, as the words of a recording (Pairs): whether some of them is not zero, and that they have become zero.
-use Rattle.core.specs.Prelude.{◌≡◌, ℕ, zero, suc, ◌+◌, ◌*◌, ◌/◌, ◌%◌, ◌<◌, ◌≤◌, Bool, true, false, ◌⊎◌, List, [], ◌∷◌, slice_index, slice_set}
+use Rattle.std.specs.Prelude.{◌≡◌, ℕ, zero, suc, ◌+◌, ◌*◌, ◌/◌, ◌%◌, ◌<◌, ◌≤◌, Bool, true, false, ◌⊎◌, List, [], ◌∷◌, slice_index, slice_set}
 use Rattle.std.proofs.Common.{inl, inr, sym, ap, ◌∙◌, mul-le-mul_left, mul-suc, arith, get_or-set_other}
 use Rattle.std.specs.Prelude.{refl}
 use Rattle.std.proofs.Math.Path.{subst}

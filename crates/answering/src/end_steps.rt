@@ -1,5 +1,5 @@
 // Where links lead from a set of recordings, by the ends of the links (ends): the sets of the states that come next get these ends.
-ghost use Rattle.core.specs.Prelude.{ℕ, ◌+◌, ◌*◌, ◌<◌, ◌≤◌, length};
+ghost use Rattle.std.specs.Prelude.{ℕ, ◌+◌, ◌*◌, ◌<◌, ◌≤◌, length};
 ghost use Rattle.theory.specs.Places.{Member};
 ghost use Rattle.answering.specs.Pairs.{Has};
 ghost use Rattle.answering.specs.Ends.{EndsFit};

@@ -1,4 +1,6 @@
 // Answers over lent tables: whether a table is one, what a search reaches over it, and its marks; and both answers on job texts.
+#![tactic(auto)]
+
 mod end_steps;
 mod ends;
 mod link_view;

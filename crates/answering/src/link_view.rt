@@ -1,13 +1,13 @@
 // The links that leave one recording are read from the lent numbers (document 01): a view borrows the triples and holds a place among them.
 // `at` makes it; `current` and `moved` take it apart and leave the work to a function on the slice and the place. The search calls
 // `leaving_at` and `next_leaving`, which have plain parameters.
-ghost use Rattle.core.specs.Prelude.{◌≡◌};
+ghost use Rattle.std.specs.Prelude.{◌≡◌};
 ghost use Rattle.answering.specs.LinkAt.{link_at, place_after};
 ghost use Rattle.answering.specs.LinkView.{view_at, current, moved};
 
 use super::links::{Link, link_at, place_after};
 
-#[derive(Drop)]
+#[derive(Clone, Copy)]
 struct LinkView<'a> {
     table: &'a [u16],
     at: usize,

@@ -1,11 +1,11 @@
 // Which link stands at a place of a rising table, and which place comes next.
-ghost use Rattle.core.specs.Prelude.{◌≡◌};
+ghost use Rattle.std.specs.Prelude.{◌≡◌};
 ghost use Rattle.answering.specs.LinkAt.{link_at, place_after};
 
 use super::table::{index, wide};
 
 // What a recording has at a place among the triples: whether a link that leaves it stands there, the place, and that link's label and end.
-#[derive(Drop)]
+#[derive(Clone, Copy)]
 pub(super) struct Link {
     pub(super) leaves: bool,
     pub(super) at: usize,

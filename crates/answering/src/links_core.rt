@@ -1,5 +1,5 @@
 // Marks by the standings of one expression, on plain data: its automaton, a table of links and a start.
-ghost use Rattle.core.specs.Prelude.{◌≤◌, length};
+ghost use Rattle.std.specs.Prelude.{◌≤◌, length};
 ghost use Rattle.finding.specs.Plain.{plain};
 ghost use Rattle.answering.specs.Links.{InRange};
 ghost use Rattle.answering.specs.LinkBegins.{LinkBegins};
@@ -13,7 +13,7 @@ use finding::clear::{clear_bytes, clear_words};
 use finding::count::count_standings;
 use finding::standings::Explored;
 
-#[derive(Drop)]
+#[derive(Clone, Copy)]
 pub(super) enum Links {
     // The number of marks that are 1.
     Marked(u64),

@@ -1,5 +1,5 @@
 // Answer from links: the chosen expression of a job, over a table of links.
-ghost use Rattle.core.specs.Prelude.{◌≡◌, ◌+◌, ◌*◌, ◌<◌, ◌≤◌, true, length, slice_index};
+ghost use Rattle.std.specs.Prelude.{◌≡◌, ◌+◌, ◌*◌, ◌<◌, ◌≤◌, true, length, slice_index};
 ghost use Rattle.theory.specs.Job.{Job};
 ghost use Rattle.reading.specs.Read.{read};
 ghost use Rattle.reading.specs.RowRoom.{asked_rows, HasRows};
@@ -15,7 +15,7 @@ use super::table::index_table;
 use reading::{ReadAnswer, lists_at_most, load_rows};
 use syntax::Refusal;
 
-#[derive(Drop)]
+#[derive(Clone, Copy)]
 pub enum LinksAnswer {
     // The number of marks that are 1.
     Marked(u64),

@@ -1,5 +1,5 @@
 // Marks by the states of a rewriting, on plain data: its next states and flags, a table of links over lists and a start.
-ghost use Rattle.core.specs.Prelude.{◌≡◌, ◌*◌, ◌<◌, ◌≤◌, true, ◌↔◌, length};
+ghost use Rattle.std.specs.Prelude.{◌≡◌, ◌*◌, ◌<◌, ◌≤◌, true, ◌↔◌, length};
 ghost use Rattle.finding.specs.Rewritten.{Rewritten};
 ghost use Rattle.answering.specs.Links.{InRange};
 ghost use Rattle.answering.specs.LinkBegins.{LinkBegins};

@@ -1,5 +1,5 @@
 // Answer from lists: the rewriting that Find gives for a job, over a table of links over its lists.
-ghost use Rattle.core.specs.Prelude.{◌≡◌, ◌≤◌, true};
+ghost use Rattle.std.specs.Prelude.{◌≡◌, ◌≤◌, true};
 ghost use Rattle.theory.specs.Job.{Job, WellFormed};
 ghost use Rattle.reading.specs.Read.{read};
 ghost use Rattle.reading.specs.RowRoom.{asked_rows, HasRows};
@@ -18,11 +18,11 @@ use super::lists_core::mark_lists;
 use super::table::index_table;
 use finding::answer::Finding;
 use finding::clear::{clear_bytes, clear_words};
-use finding::core::find_rows;
+use finding::job_rows::find_rows;
 use reading::{ReadAnswer, lists_at_most, load_rows};
 use syntax::Refusal;
 
-#[derive(Drop)]
+#[derive(Clone, Copy)]
 pub enum ListsAnswer {
     // The number of marks that are 1.
     Marked(u64),

@@ -1,5 +1,5 @@
 // Marks from what a search reached: a recording is marked where some of its words has a bit in common with the accepting words.
-ghost use Rattle.core.specs.Prelude.{◌≡◌, ◌+◌, ◌≤◌, length};
+ghost use Rattle.std.specs.Prelude.{◌≡◌, ◌+◌, ◌≤◌, length};
 ghost use Rattle.answering.specs.MarksLaws.{mark_of};
 ghost use Rattle.answering.specs.Marks.{meets, Markable, Sufficing, MarksSet};
 

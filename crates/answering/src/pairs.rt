@@ -1,5 +1,5 @@
 // Pairs of a recording and a state as bits of words: the state s of the recording y is bit s % 64 of the word words × y + s / 64.
-ghost use Rattle.core.specs.Prelude.{◌≡◌, ◌+◌, ◌*◌, ◌<◌, ◌≤◌, length};
+ghost use Rattle.std.specs.Prelude.{◌≡◌, ◌+◌, ◌*◌, ◌<◌, ◌≤◌, length};
 ghost use Rattle.answering.specs.Pairs.{place, put};
 ghost use Rattle.answering.specs.NextState.{NextState};
 ghost use Rattle.answering.specs.WordsFrom.{AnyFrom, Zeroed};

@@ -1,6 +1,6 @@
 // The next places of few places as rows of words, one word for each label. In these rows one place stands for all that have the same next
 // places and are accepted alike, so that fewer are reached and followed.
-ghost use Rattle.core.specs.Prelude.{◌≡◌, ℕ, ◌+◌, ◌*◌, ◌<◌, ◌≤◌, true, length};
+ghost use Rattle.std.specs.Prelude.{◌≡◌, ℕ, ◌+◌, ◌*◌, ◌<◌, ◌≤◌, true, length};
 ghost use Rattle.theory.specs.Places.{Member};
 ghost use Rattle.answering.specs.FewPlaces.{FewPlaces};
 ghost use Rattle.answering.specs.PlaceRows.{LeadOf, LeadPlaces, RowPlaced, RowsPlaced};

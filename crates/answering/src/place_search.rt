@@ -1,6 +1,6 @@
 // The places of an automaton that are reached over a table from one recording: the search of one word for each set (word_search), by the next
 // places of each place, which each label cuts to those that it enters; or, of few places, by rows of merged ones (place_rows).
-ghost use Rattle.core.specs.Prelude.{◌≡◌, ℕ, ◌*◌, ◌<◌, ◌≤◌, true, ◌↔◌, length, slice_index};
+ghost use Rattle.std.specs.Prelude.{◌≡◌, ℕ, ◌*◌, ◌<◌, ◌≤◌, true, ◌↔◌, length, slice_index};
 ghost use Rattle.answering.specs.Links.{InRange};
 ghost use Rattle.answering.specs.LinkBegins.{LinkBegins};
 ghost use Rattle.answering.specs.SetSearchRun.{SetStarting, SetAllFound};

@@ -1,6 +1,6 @@
 // Ranks: the states that are kept are numbered from 0 on in their order, so that a set of them takes few words. A state that leads nowhere is
 // left out, but for the start: no accepting state is reached from it. A state that is left out has the rank 256.
-ghost use Rattle.core.specs.Prelude.{◌≡◌, ℕ, ◌+◌, ◌*◌, ◌<◌, ◌≤◌, true, ◌↔◌, length, slice_index};
+ghost use Rattle.std.specs.Prelude.{◌≡◌, ℕ, ◌+◌, ◌*◌, ◌<◌, ◌≤◌, true, ◌↔◌, length, slice_index};
 ghost use Rattle.answering.specs.Ranks.{LeadsNowhere, RankRoom, Ranks, AcceptedRanks};
 
 use super::pairs::put;

@@ -1,5 +1,5 @@
 // Rows of words, each a set of states: one is united with another, and whether one has what the other lacks.
-ghost use Rattle.core.specs.Prelude.{◌+◌, ◌≤◌, length};
+ghost use Rattle.std.specs.Prelude.{◌+◌, ◌≤◌, length};
 ghost use Rattle.answering.specs.SetRows.{word_of, new_of, United, Brings};
 
 // Whether one of the words of `sets` from `from` on has a member that the word of `known` from `base` on lacks.

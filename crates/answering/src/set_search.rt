@@ -1,6 +1,6 @@
 // What an automaton reaches over a table, from one recording: for each recording the set of states that it is reached in. The automaton may
 // have several next states for a state and a symbol; they are given by words, so that links are followed from all states at once.
-ghost use Rattle.core.specs.Prelude.{◌+◌, ◌*◌, ◌<◌, ◌≤◌, length};
+ghost use Rattle.std.specs.Prelude.{◌+◌, ◌*◌, ◌<◌, ◌≤◌, length};
 ghost use Rattle.answering.specs.Links.{FirstLink, InRange};
 ghost use Rattle.answering.specs.LinkBegins.{LinkBegins};
 ghost use Rattle.answering.specs.Pairs.{Has};

@@ -1,5 +1,5 @@
 // How many symbols and states an automaton has, how many words each set of its states has, and how many recordings there are.
-#[derive(Drop)]
+#[derive(Clone, Copy)]
 pub(super) struct Sizes {
     pub(super) symbols: usize,
     pub(super) states: usize,

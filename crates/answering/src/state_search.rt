@@ -1,5 +1,5 @@
 // What a deterministic automaton reaches over a table from one recording, by ranks: only states that are kept are followed.
-ghost use Rattle.core.specs.Prelude.{◌*◌, ◌≤◌, length};
+ghost use Rattle.std.specs.Prelude.{◌*◌, ◌≤◌, length};
 ghost use Rattle.answering.specs.Links.{InRange};
 ghost use Rattle.answering.specs.LinkBegins.{LinkBegins};
 ghost use Rattle.answering.specs.StateSets.{RankedStep, StatesLent, Filled};

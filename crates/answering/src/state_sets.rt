@@ -1,5 +1,5 @@
 // The next states of a deterministic automaton as words, for the search over sets of states: rows and next states go by ranks.
-ghost use Rattle.core.specs.Prelude.{◌+◌, ◌*◌, ◌<◌, ◌≤◌, length};
+ghost use Rattle.std.specs.Prelude.{◌+◌, ◌*◌, ◌<◌, ◌≤◌, length};
 ghost use Rattle.answering.specs.StateSets.{RankedStep, StatesLent, StepPut, Filled, StateSets};
 
 use super::pairs::put;

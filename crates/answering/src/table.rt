@@ -1,5 +1,5 @@
 // Whether lent numbers are a table of links or of lists, and where the links of each recording begin in it.
-ghost use Rattle.core.specs.Prelude.{◌≡◌, ◌<◌, ◌≤◌, true};
+ghost use Rattle.std.specs.Prelude.{◌≡◌, ◌<◌, ◌≤◌, true};
 ghost use Rattle.answering.specs.Table.{is_table};
 ghost use Rattle.answering.specs.TableSteps.{triple_number};
 ghost use Rattle.answering.specs.LinkBegins.{Unlisted, LinkBegins};

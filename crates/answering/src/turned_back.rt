@@ -1,5 +1,5 @@
 // Sets of recordings, one for each state, turned back into sets of states, one word for each recording.
-ghost use Rattle.core.specs.Prelude.{ℕ, ◌+◌, ◌<◌, ◌≤◌, length};
+ghost use Rattle.std.specs.Prelude.{ℕ, ◌+◌, ◌<◌, ◌≤◌, length};
 ghost use Rattle.theory.specs.Places.{Member};
 ghost use Rattle.answering.specs.TurnedBack.{WordTurned, Turning, TurnedBack};
 

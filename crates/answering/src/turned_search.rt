@@ -1,6 +1,6 @@
 // The search of an automaton of few states over few recordings: for each state the set of the recordings that are reached in it, so that
 // links are followed from all recordings of a word at once, by their ends (ends).
-ghost use Rattle.core.specs.Prelude.{◌≡◌, ℕ, ◌*◌, ◌^◌, ◌<◌, ◌≤◌, true, length, slice_index};
+ghost use Rattle.std.specs.Prelude.{◌≡◌, ℕ, ◌*◌, ◌^◌, ◌<◌, ◌≤◌, true, length, slice_index};
 ghost use Rattle.answering.specs.Links.{InRange};
 ghost use Rattle.answering.specs.Ends.{EndsFit, NoEnds, EndsBelow};
 ghost use Rattle.answering.specs.EndSteps.{Turnable};

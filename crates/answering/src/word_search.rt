@@ -2,7 +2,7 @@
 // has a row of words, one for each symbol; or, where the rows are `cut`, each state has one word for all symbols, and of that each symbol
 // takes those states that its own word has. The links are known to be in range, so that nothing of a link is tested: whether it brings
 // something new decides numbers, not branches.
-ghost use Rattle.core.specs.Prelude.{◌≡◌, ℕ, ◌+◌, ◌-◌, ◌*◌, ◌^◌, ◌<◌, ◌≤◌, length, slice_index};
+ghost use Rattle.std.specs.Prelude.{◌≡◌, ℕ, ◌+◌, ◌-◌, ◌*◌, ◌^◌, ◌<◌, ◌≤◌, length, slice_index};
 ghost use Rattle.theory.specs.Places.{Member};
 ghost use Rattle.places.specs.Joined.{joined};
 ghost use Rattle.answering.specs.Links.{FirstLink, InRange};

@@ -7,7 +7,7 @@ use crate::label_tables::{put_all_places, put_all_standings};
 use reading::{ReadAnswer, load};
 
 // What Find has a limit for.
-#[derive(Drop)]
+#[derive(Clone, Copy)]
 pub(super) enum Limited {
     Standings,
     States,

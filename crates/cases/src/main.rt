@@ -1,5 +1,7 @@
 // The program `cases`: document 01's cases in its order ("Jobs on each side of a limit"), each with its printed form; the counts beyond
 // Find's limits; P8 with its marks.
+#![tactic(auto)]
+
 mod count;
 mod counted;
 mod explore;

@@ -1,7 +1,7 @@
 -- Where Find answers, it says what FindSays has; and what that is determines the answer.
 use Rattle.std.specs.Prelude.{ℕ, ◌+◌, ◌*◌, ◌-◌, ◌≤◌, ◌<◌, Bool, true, false, ◌||◌, List, [], ◌∷◌, ◌++◌, ◌↔◌, ◌⊎◌, ◌≡◌, length, get_or, take, drop, replicate}
 use Rattle.std.proofs.Common.{append_assoc, inl, inr, sym, ◌∙◌, subst, arith, take_at}
-use Rattle.std.proofs.Math.Logic.{Iff·trans}
+use Rattle.std.proofs.Math.Logic.Iff
 use Rattle.std.proofs.Math.Path.{refl, ap}
 use Rattle.std.proofs.Math.Decide.{dec_lt}
 use Rattle.std.proofs.Math.Dec.{ltb}
@@ -101,7 +101,7 @@ module _ (J : Job) {R : Rewriting} (F : Finds J R) (few : R.states ≤ 256) (fit
       let q : get_or all.flags (followed all.table 0 w) 0 ≡ get_or R.flags (followed R.table 0 w) 0 =
       ap (λ s. get_or all.flags s 0) (followed-written J F few table flags fits w b)
       ∙ flag-written J F few table flags (followed R.table 0 w) (F.within w b) in
-      subst (λ x. (x ≡ 1) ↔ Sound J w) (sym q) (Iff·trans (F.accepted w b) (accepted-exactly-sound J w))
+      subst (λ x. (x ≡ 1) ↔ Sound J w) (sym q) (Iff.trans (F.accepted w b) (accepted-exactly-sound J w))
 
   pub found-says : FindSays J table flags all
   found-says =

@@ -1,7 +1,7 @@
 -- Merged states (document 02, F-7), of texts and lent memory: two words end at one state exactly when the same words may follow them, no
 -- complete table with fewer states accepts the same words, and kept files are equal exactly when the accepted words are.
 use Rattle.std.specs.Prelude.{ℕ, ◌+◌, ◌*◌, ◌≤◌, List, [], ◌++◌, ◌↔◌, ◌≡◌, refl, length, take}
-use Rattle.std.proofs.Math.Logic.{Iff·symm, Iff·trans}
+use Rattle.std.proofs.Math.Logic.Iff
 use Rattle.std.proofs.Math.Path.{sym, ap}
 use Rattle.std.proofs.Common.{ap₂, subst, ◌∙◌, take_at}
 use native.Mathlib.Omega.{arith}
@@ -58,8 +58,8 @@ pub record SameMeaning : Type 0 where
 continuations : (J : Job) (v w : Word) → SameContinuations J v w
     ↔ ((u : Word) → IsWord J u → Sound J (v ++ u) ↔ Sound J (w ++ u))
 continuations J v w = (
-  λ s u b. Iff·trans (Iff·symm (accepted-exactly-sound J (v ++ u))) (Iff·trans (s u b) (accepted-exactly-sound J (w ++ u))),
-  λ s u b. Iff·trans (accepted-exactly-sound J (v ++ u)) (Iff·trans (s u b) (Iff·symm (accepted-exactly-sound J (w ++ u)))),
+  λ s u b. Iff.trans (Iff.symm (accepted-exactly-sound J (v ++ u))) (Iff.trans (s u b) (accepted-exactly-sound J (w ++ u))),
+  λ s u b. Iff.trans (accepted-exactly-sound J (v ++ u)) (Iff.trans (s u b) (Iff.symm (accepted-exactly-sound J (w ++ u)))),
 )
 
 -- As many lists as names.
@@ -95,8 +95,8 @@ module _ (text : Bytes) (table flags : List ℕ) (J : NamedJob) (a : Answered te
       ↔ ((u : Word) → IsWord (job_of J) u → Sound (job_of J) (v ++ u) ↔ Sound (job_of J) (w ++ u))
   unfolding left_by
   states-told v w b c =
-      Iff·trans (λ e. sym (ends v b) ∙ e ∙ ends w c, λ e. ends v b ∙ e ∙ sym (ends w c))
-      (Iff·trans (a.finds.same v w b c) (continuations (job_of J) v w))
+      Iff.trans (λ e. sym (ends v b) ∙ e ∙ ends w c, λ e. ends v b ∙ e ∙ sym (ends w c))
+      (Iff.trans (a.finds.same v w b c) (continuations (job_of J) v w))
     where
       ends : (u : Word) → IsWord (job_of J) u → followed (outcome text table flags).table 0 u ≡ followed a.rewriting.table 0 u
       ends u l =
@@ -113,7 +113,7 @@ module _ (text : Bytes) (table flags : List ℕ) (J : NamedJob) (a : Answered te
         finds-minimal (job_of J) a.finds E C (record {
           symbols = sym e;
           words = λ w b.
-              Iff·trans (finds-accepts (job_of J) a.finds w b) (Iff·trans (accepted-exactly-sound (job_of J) w) (Iff·symm (words w b)));
+              Iff.trans (finds-accepts (job_of J) a.finds w b) (Iff.trans (accepted-exactly-sound (job_of J) w) (Iff.symm (words w b)));
         }),
       )
 
@@ -135,8 +135,8 @@ module _ (J K : NamedJob) (many : length J.lists ≡ length J.list_names) (many'
       let q : file_flag (kept J.list_names R ++ []) (file_followed (kept J.list_names R ++ []) 0 w)
       ≡ file_flag (kept K.list_names S ++ []) (file_followed (kept K.list_names S ++ []) 0 w) =
       ap (λ f. file_flag (f ++ []) (file_followed (f ++ []) 0 w)) e in
-      Iff·trans (Iff·symm (file-sound J.list_names R [] (job_of J) F (sym many) w b))
-      (Iff·trans (λ t. sym q ∙ t, λ t. q ∙ t) (file-sound K.list_names S [] (job_of K) G (sym many') w l))
+      Iff.trans (Iff.symm (file-sound J.list_names R [] (job_of J) F (sym many) w b))
+      (Iff.trans (λ t. sym q ∙ t, λ t. q ∙ t) (file-sound K.list_names S [] (job_of K) G (sym many') w l))
 
   -- Where the accepted words are the same, so are the tables, and so the files.
   words-files : ((w : Word) → IsWord (job_of J) w → Sound (job_of J) w ↔ Sound (job_of K) w) → kept J.list_names R ≡ kept K.list_names S
@@ -149,7 +149,7 @@ module _ (J K : NamedJob) (many : length J.lists ≡ length J.list_names) (many'
       ∙ ap (λ n. kept n S) names
     where
       accepted : (w : Word) → IsWord (job_of J) w → Accepted (job_of J) w ↔ Accepted (job_of K) w
-      accepted w b = Iff·trans (accepted-exactly-sound (job_of J) w) (Iff·trans (words w b) (Iff·symm (accepted-exactly-sound (job_of K) w)))
+      accepted w b = Iff.trans (accepted-exactly-sound (job_of J) w) (Iff.trans (words w b) (Iff.symm (accepted-exactly-sound (job_of K) w)))
 
 pub same-meaning : SameMeaning
 same-meaning =

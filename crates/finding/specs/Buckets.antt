@@ -1,6 +1,6 @@
 -- An index by which a value is found again among the first n of numbered values: buckets of values, each a chain from its newest value to
 -- its oldest. In the index the value number i stands as i + 1, and 0 is none.
-use Rattle.core.specs.Prelude.{◌≡◌, ℕ, ◌+◌, ◌-◌, ◌<◌, ◌≤◌, List, length, ◌≢◌, slice_index, slice_set}
+use Rattle.std.specs.Prelude.{◌≡◌, ℕ, ◌+◌, ◌-◌, ◌<◌, ◌≤◌, List, length, ◌≢◌, slice_index, slice_set}
 
 -- c stands for the newest value of the bucket b among the first n, or for none.
 pub record Newest {A : Type 0} (bucket : A → ℕ) (value : ℕ → A) (n b c : ℕ) : Type 0 where

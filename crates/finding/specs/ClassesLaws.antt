@@ -1,5 +1,5 @@
 -- What the code compares and stores while it refines classes is what a split says (theory: Splitting).
-use Rattle.core.specs.Prelude.{◌≡◌, ℕ, ◌+◌, ◌-◌, ◌<◌, ◌≤◌, Bool, true, ◌⊎◌, List, length, take, nat_eq, slice_index}
+use Rattle.std.specs.Prelude.{◌≡◌, ℕ, ◌+◌, ◌-◌, ◌<◌, ◌≤◌, Bool, true, ◌⊎◌, List, length, take, nat_eq, slice_index}
 use Rattle.std.proofs.Common.{inl, inr, sym, ap, ◌∙◌, arith, length-take-le, get_or-take}
 use Rattle.std.specs.Prelude.{refl}
 use Rattle.theory.specs.Deterministic.{Deterministic, Complete}

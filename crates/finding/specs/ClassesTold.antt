@@ -1,6 +1,6 @@
 -- What the code that refines classes promises (theory: Splitting). Classes stand in memory, for each state the first state of its class; keys
 -- are numbers below 512.
-use Rattle.core.specs.Prelude.{◌≡◌, ℕ, ◌+◌, ◌*◌, ◌<◌, Bool, true, false, ◌⊎◌, List, length, take, slice_index, slice_index_or}
+use Rattle.std.specs.Prelude.{◌≡◌, ℕ, ◌+◌, ◌*◌, ◌<◌, Bool, true, false, ◌⊎◌, List, length, take, slice_index, slice_index_or}
 use Rattle.theory.specs.Refinement.{class_at, classes}
 use Rattle.theory.specs.Splitting.{Alike, first_with, Keyed}
 use Rattle.finding.specs.Find.{deterministic}

@@ -1,5 +1,5 @@
 -- Zeros in the first part of lent memory.
-use Rattle.core.specs.Prelude.{◌≡◌, ℕ, ◌<◌, ◌≤◌, List, ◌++◌, length, drop, replicate}
+use Rattle.std.specs.Prelude.{◌≡◌, ℕ, ◌<◌, ◌≤◌, List, ◌++◌, length, drop, replicate}
 
 -- The first n numbers have become zero, where there are so many; otherwise nothing has changed.
 pub record Cleared (n : ℕ) (before after : List ℕ) : Type 0 where

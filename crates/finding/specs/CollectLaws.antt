@@ -1,5 +1,5 @@
 -- The set that a test collects (theory, collect), one place at a time, and by two tests that agree; the test for an accepting set.
-use Rattle.core.specs.Prelude.{◌≡◌, ℕ, zero, suc, ◌+◌, ◌<◌, Bool, true, false, not, ◌≢◌, []}
+use Rattle.std.specs.Prelude.{◌≡◌, ℕ, zero, suc, ◌+◌, ◌<◌, Bool, true, false, not, ◌≢◌, []}
 use Rattle.std.specs.Prelude.{refl}
 use Rattle.std.proofs.Common.{sym, ap, ap₂, add-one, arith, eq-eqb, ne_eqb}
 use Rattle.std.specs.Int.Bits.{or_zero_r}

@@ -1,6 +1,6 @@
 -- What the code for Find promises on the tables of a job: it leaves what Find (find_automata) gives on the automata that the tables hold, and
 -- before states are merged what exploration gives (explore_automata).
-use Rattle.core.specs.Prelude.{◌≡◌, ℕ, ◌≤◌, List, [], length, take}
+use Rattle.std.specs.Prelude.{◌≡◌, ℕ, ◌≤◌, List, [], length, take}
 use Rattle.std.proofs.Math.Path.{refl, sym, ap}
 use Rattle.std.proofs.Common.{ap₂, ◌∙◌, subst}
 use Rattle.theory.specs.Automaton.{Automaton}

@@ -1,10 +1,10 @@
 -- What a loop holds that explores a system of numbers (theory, Exploration): the numbers found, and the table of where each symbol leads
 -- (MoveTable). The entries of the exploration have trails besides: what a loop keeps of them is said by a predicate on the entries. What is
 -- left gives what the whole gives.
-use Rattle.core.specs.Prelude.{◌≡◌, ℕ, suc, ◌+◌, ◌-◌, ◌*◌, ◌<◌, ◌≤◌, true, false, List, [], ◌∷◌, ◌++◌, length, take, ◌≢◌, slice_index, slice_index_or, slice_set}
+use Rattle.std.specs.Prelude.{◌≡◌, ℕ, suc, ◌+◌, ◌-◌, ◌*◌, ◌<◌, ◌≤◌, true, false, List, [], ◌∷◌, ◌++◌, length, take, ◌≢◌, slice_index, slice_index_or, slice_set}
 use Rattle.std.proofs.Math.Option.{some}
 use Rattle.std.proofs.Math.Path.{refl, sym, ap, subst}
-use Rattle.std.proofs.Common.{◌∙◌, add-zero, add-one, take-suc-set, get_or-take, eq-eqb, ne_eqb}
+use Rattle.std.proofs.Common.{◌∙◌, add-zero, add-one, take-suc-set, get_or-take, eq-eqb, ne_eqb, eqb}
 use Rattle.std.proofs.Math.Decide.{ℕ_discrete}
 use Rattle.std.proofs.Math.Nat.{sub-zero, sub_self, mul-suc, mul-le-mul_left}
 use native.Mathlib.Omega.{arith}

@@ -1,5 +1,5 @@
 -- A list that is filled from the front, one store a turn.
-use Rattle.core.specs.Prelude.{◌≡◌, ℕ, zero, suc, ◌+◌, ◌-◌, ◌<◌, List, [], ◌∷◌, ◌++◌, map, length, take, drop, set, replicate, slice_index, slice_set}
+use Rattle.std.specs.Prelude.{◌≡◌, ℕ, zero, suc, ◌+◌, ◌-◌, ◌<◌, List, [], ◌∷◌, ◌++◌, map, length, take, drop, set, replicate, slice_index, slice_set}
 use Rattle.std.specs.Prelude.{refl}
 use Rattle.std.proofs.Common.{ap, ◌∙◌, sym, subst, add-one, arith, drop-cons, take-suc, length-take-le, get_or-set_same, get_or-set_other}
 use Rattle.std.proofs.Math.Nat.{sub-zero, zero-sub}

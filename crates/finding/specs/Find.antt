@@ -1,6 +1,6 @@
 -- What Find gives for a job (document 01, "Find"): the counts, the table at 16 × state + list, the flags and the first accepted word; or
 -- refusal 9 or 10. The limits are arguments. States are explored and counted first, then merged (document 02, F-7).
-use Rattle.core.specs.Prelude.{ℕ, zero, suc, ◌+◌, ◌-◌, ◌*◌, ◌/◌, ◌%◌, Bool, true, false, List, [], ◌∷◌, ◌++◌, map, length, replicate, ◌==◌, nat_lt, slice_index}
+use Rattle.std.specs.Prelude.{ℕ, zero, suc, ◌+◌, ◌-◌, ◌*◌, ◌/◌, ◌%◌, Bool, true, false, List, [], ◌∷◌, ◌++◌, map, length, replicate, ◌==◌, nat_lt, slice_index}
 use Rattle.std.proofs.Math.Option.{Option}
 use Rattle.theory.specs.Word.{Word}
 use Rattle.theory.specs.Job.{Job}

@@ -1,7 +1,7 @@
 -- How Find goes, and what a caller then holds (document 01, "Find"): it refuses where there are too many standings, then where there are
 -- too many states, and otherwise gives the greatest rewriting of the job's query. Its table and flags are read off the lent buffers as they
 -- are left, whatever stood in them.
-use Rattle.core.specs.Prelude.{◌≡◌, ℕ, ◌+◌, ◌*◌, ◌<◌, ◌≤◌, ◌⊎◌, List, [], ◌∷◌, length, slice_index}
+use Rattle.std.specs.Prelude.{◌≡◌, ℕ, ◌+◌, ◌*◌, ◌<◌, ◌≤◌, ◌⊎◌, List, [], ◌∷◌, length, slice_index}
 use Rattle.std.proofs.Common.{inl, inr, sym, subst, ◌∙◌, arith}
 use Rattle.std.proofs.Math.Path.{refl, ap}
 use Rattle.std.proofs.Math.ListN.{get_or-eq_default}

@@ -1,9 +1,9 @@
 -- What Find gives (document 01, "Find"): where Find answers, its answer is the greatest rewriting of the job's query; it refuses with 9 exactly
 -- when there are more than 64 standings, with 10 exactly when there are not and there are more than 256 states, and with nothing else.
 -- States are counted before they are merged. First for any limits, then for those of document 01.
-use Rattle.core.specs.Prelude.{◌≡◌, ℕ, suc, ◌≤◌, ◌⊎◌, ◌↔◌, List, map, length, slice_index}
+use Rattle.std.specs.Prelude.{◌≡◌, ℕ, suc, ◌≤◌, ◌⊎◌, ◌↔◌, List, map, length, slice_index}
 use Rattle.std.proofs.Common.{inl, inr, sym, ap, ◌∙◌, subst, arith}
-use Rattle.std.proofs.Math.Logic.{Iff·trans}
+use Rattle.std.proofs.Math.Logic.Iff
 use Rattle.std.specs.Prelude.{refl}
 use Rattle.std.proofs.lemmas.List.{length-map}
 use Rattle.theory.specs.Word.{Word}
@@ -206,4 +206,4 @@ find-answers J formed n m = automata-answers J formed most_standings most_states
 -- The table, followed from state 0 by list numbers, ends at flag 1 exactly for the sound words.
 pub flag-exactly-sound : (J : Job) (R : Rewriting) → Finds J R → (w : Word) → IsWord J w
     → (slice_index R.flags (followed R.table 0 w) ≡ 1) ↔ Sound J w
-flag-exactly-sound J R f w b = Iff·trans (f.accepted w b) (accepted-exactly-sound J w)
+flag-exactly-sound J R f w b = Iff.trans (f.accepted w b) (accepted-exactly-sound J w)

@@ -1,6 +1,6 @@
 -- What Find tells is small: no more standings and states than the limits, a first word shorter than there are states, and no line over one
 -- more than the most bytes of a text.
-use Rattle.core.specs.Prelude.{◌≡◌, ℕ, suc, ◌<◌, ◌≤◌, Bool, true, false, ◌||◌, List, length, nat_lt, slice_index_or}
+use Rattle.std.specs.Prelude.{◌≡◌, ℕ, suc, ◌<◌, ◌≤◌, Bool, true, false, ◌||◌, List, length, nat_lt, slice_index_or}
 use Rattle.std.proofs.Math.Option.{Option, some, none}
 use Rattle.std.specs.Prelude.{refl}
 use Rattle.std.proofs.Common.{arith}

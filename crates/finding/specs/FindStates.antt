@@ -1,9 +1,10 @@
 -- What Find answers from the states (Find): where all standings and all states were found, the counts, the table, the flags and the first
 -- word are the greatest rewriting of the job's query, as document 01 has it, before states are merged (FindsUnmerged).
-use Rattle.core.specs.Prelude.{◌≡◌, ℕ, ◌<◌, ◌≤◌, true, false, ◌⊎◌, ◌↔◌, List, map, length, slice_index}
+use Rattle.std.specs.Prelude.{◌≡◌, ℕ, ◌<◌, ◌≤◌, true, false, ◌⊎◌, ◌↔◌, List, map, length, slice_index}
 use Rattle.std.proofs.lemmas.Bool.{false≢true}
 use Rattle.std.proofs.Common.{inl, ◌∙◌, arith}
-use Rattle.std.proofs.Math.Logic.{inr, Iff·trans}
+use Rattle.std.proofs.Math.Logic.{inr}
+use Rattle.std.proofs.Math.Logic.Iff
 use Rattle.std.proofs.Math.Option.{some, none}
 use Rattle.std.proofs.Math.Path.{sym, ap, subst}
 use Rattle.std.proofs.Math.ListN.{length-map}
@@ -108,7 +109,7 @@ module _ (J : Job) (formed : WellFormed J) (fits : length J.lists ≤ row_width)
   flag-accepts w b =
       let g : end w < length (values l) = rw (length-values l) (ends w b).0 in
       rw (get_or-flags accepting (values l) (end w) g, value-at x (end w) g)
-      (Iff·trans (flag-exactly (state_accepts accepting (value_at (job_states J found) l (end w)))) (end-accepts w b))
+      (Iff.trans (flag-exactly (state_accepts accepting (value_at (job_states J found) l (end w)))) (end-accepts w b))
 
   flag-values : (s : ℕ) → s < length l
       → (slice_index (map (λ X. flag (state_accepts accepting X)) (values l)) s ≡ 0)

@@ -1,5 +1,5 @@
 -- What Find's answer means (demand 2), against the meaning of standings, states and accepted words in `theory`.
-use Rattle.core.specs.Prelude.{◌≡◌, ℕ, ◌+◌, ◌*◌, ◌<◌, ◌≤◌, ◌⊎◌, ◌↔◌, List, [], ◌∷◌, length, slice_index, slice_index_or}
+use Rattle.std.specs.Prelude.{◌≡◌, ℕ, ◌+◌, ◌*◌, ◌<◌, ◌≤◌, ◌⊎◌, ◌↔◌, List, [], ◌∷◌, length, slice_index, slice_index_or}
 use Rattle.std.proofs.Math.Option.{some, none}
 use Rattle.theory.specs.Path.{Path, Below, Before}
 use Rattle.theory.specs.Expression.{Expression}

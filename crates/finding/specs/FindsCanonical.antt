@@ -1,8 +1,8 @@
 -- A rewriting, read as a deterministic table over the lists (Find: deterministic): it is complete, numbered by first words, and accepts the
 -- accepted words of the job. Where words with the same continuations have one state, its states are apart, so that it is the only such
 -- table: no complete table that accepts the same words has fewer states, and two jobs with the same accepted words have the same table.
-use Rattle.core.specs.Prelude.{◌≡◌, ℕ, ◌+◌, ◌*◌, ◌/◌, ◌%◌, ◌<◌, ◌↔◌, [], ◌∷◌, ◌++◌, length, slice_index}
-use Rattle.std.proofs.Math.Logic.{Iff·symm, Iff·trans}
+use Rattle.std.specs.Prelude.{◌≡◌, ℕ, ◌+◌, ◌*◌, ◌/◌, ◌%◌, ◌<◌, ◌↔◌, [], ◌∷◌, ◌++◌, length, slice_index}
+use Rattle.std.proofs.Math.Logic.Iff
 use Rattle.std.specs.Prelude.{refl}
 use Rattle.std.proofs.Common.{sym, ap, subst, ◌∙◌, arith, eqb-true, eq-eqb, ext_get_or}
 use Rattle.std.proofs.Math.Decide.{dec_lt}
@@ -54,8 +54,8 @@ module _ (J : Job) {R : Rewriting} (F : Finds J R) where
       let (b, d) = F.reached q h in
       let (c, e) = F.reached r k in
       sym d ∙ (F.same (F.word q) (F.word r) b c).1 (λ u l.
-      Iff·trans (Iff·symm (finds-accepts J F (F.word q ++ u) (below-append b l)))
-      (Iff·trans (together u l (F.word q ++ u) (F.word r ++ u) (from (F.word q) u d) (from (F.word r) u e)) (finds-accepts J F (F.word r ++ u) (below-append c l)))) ∙ e
+      Iff.trans (Iff.symm (finds-accepts J F (F.word q ++ u) (below-append b l)))
+      (Iff.trans (together u l (F.word q ++ u) (F.word r ++ u) (from (F.word q) u d) (from (F.word r) u e)) (finds-accepts J F (F.word r ++ u) (below-append c l)))) ∙ e
     where
       -- Behind the first word of a state, a continuation leads on from that state.
       from : {q : ℕ} (v u : Word) → followed R.table 0 v ≡ q → run (table_for J R) 0 (v ++ u) ≡ run (table_for J R) q u
@@ -83,8 +83,8 @@ module _ (J K : Job) {R S : Rewriting} (F : Finds J R) (G : Finds K S) (lists : 
       (record {
         symbols = lists;
         words = λ w b.
-            Iff·trans (finds-accepts J F w b)
-            (Iff·trans (words w b) (Iff·symm (finds-accepts K G w (subst (λ n. Below n w) lists b))));
+            Iff.trans (finds-accepts J F w b)
+            (Iff.trans (words w b) (Iff.symm (finds-accepts K G w (subst (λ n. Below n w) lists b))));
       })
 
   pub same-states : R.states ≡ S.states

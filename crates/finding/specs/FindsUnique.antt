@@ -1,7 +1,7 @@
 -- What Find's answer means (Finds) determines it: of one job there are not two greatest rewritings, in document 01's numbering. The table is
 -- the only one that accepts the words of the job, its states being apart and numbered by first words (FindsCanonical).
-use Rattle.core.specs.Prelude.{◌≡◌, ℕ, suc, ◌<◌, ◌≤◌, ◌↔◌, [], slice_index_or}
-use Rattle.std.proofs.Math.Logic.{Iff·symm, Iff·trans}
+use Rattle.std.specs.Prelude.{◌≡◌, ℕ, suc, ◌<◌, ◌≤◌, ◌↔◌, [], slice_index_or}
+use Rattle.std.proofs.Math.Logic.Iff
 use Rattle.std.proofs.Math.Option.{Option, some, none}
 use Rattle.std.specs.Prelude.{refl}
 use Rattle.std.proofs.Common.{ap, arith}
@@ -26,7 +26,7 @@ counts-distinct {e} {k} {m} {n} C D =
     injective i j h l q =
         let (s, a, f) = C.all (slice_index_or D.paths i []) (D.below i h) in
         let (t, b, g) = C.all (slice_index_or D.paths j []) (D.below j l) in
-        D.distinct i j h l (λ x. Iff·trans (f x) (Iff·symm (rw q (g x))))
+        D.distinct i j h l (λ x. Iff.trans (f x) (Iff.symm (rw q (g x))))
 
 -- There are not two numbers of standings, nor more standings than are counted.
 pub counts-once : {e : Expression} {k m n : ℕ} → CountsStandings e k m → CountsStandings e k n → m ≡ n

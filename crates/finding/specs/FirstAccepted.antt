@@ -1,5 +1,5 @@
 -- The first accepted word (States): the word of the first entry that accepts.
-use Rattle.core.specs.Prelude.{◌≡◌, ℕ, zero, suc, ◌<◌, Bool, true, false, List, [], ◌∷◌, reverse, length, slice_index_or}
+use Rattle.std.specs.Prelude.{◌≡◌, ℕ, zero, suc, ◌<◌, Bool, true, false, List, [], ◌∷◌, reverse, length, slice_index_or}
 use Rattle.std.proofs.Math.Option.{Option, some, none, some-injective, none-ne-some}
 use Rattle.std.specs.Prelude.{refl}
 use Rattle.std.proofs.Common.{sym, arith}

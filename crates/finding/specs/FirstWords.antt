@@ -1,5 +1,5 @@
 -- The first accepted word, read off the trails (Trailed) of the states: what the code that follows the parents back holds and tells.
-use Rattle.core.specs.Prelude.{◌≡◌, ℕ, suc, ◌+◌, ◌-◌, ◌<◌, ◌≤◌, Bool, true, false, List, [], ◌∷◌, ◌++◌, map, reverse, length, get_or, take, drop, replicate, slice_index, slice_index_or, slice_set}
+use Rattle.std.specs.Prelude.{◌≡◌, ℕ, suc, ◌+◌, ◌-◌, ◌<◌, ◌≤◌, Bool, true, false, List, [], ◌∷◌, ◌++◌, map, reverse, length, get_or, take, drop, replicate, slice_index, slice_index_or, slice_set}
 use mathlib.Core.List.{reverse_aux-eq, append-nil}
 use Rattle.std.proofs.Math.Option.{some, none}
 use Rattle.std.proofs.Math.Path.{refl, sym, ap, ap₂}

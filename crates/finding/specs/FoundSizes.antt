@@ -1,6 +1,6 @@
 -- How much Find gives: no more standings and states than the limits, for each state a flag and a row of the table, no number in the table
 -- over the number of states, and a first word shorter than the limit of states.
-use Rattle.core.specs.Prelude.{◌≡◌, ℕ, ◌*◌, ◌<◌, ◌≤◌, List, [], map, length, slice_index}
+use Rattle.std.specs.Prelude.{◌≡◌, ℕ, ◌*◌, ◌<◌, ◌≤◌, List, [], map, length, slice_index}
 use Rattle.std.proofs.Math.Option.{some}
 use Rattle.std.proofs.Common.{ap, arith}
 use Rattle.std.proofs.Math.Path.{subst}

@@ -1,5 +1,5 @@
 -- The image of a query standing under a list (ListImage) holds exactly the standings after the list's paths from it.
-use Rattle.core.specs.Prelude.{◌≡◌, ℕ, ◌+◌, ◌*◌, ◌/◌, ◌^◌, ◌<◌, true, ◌↔◌, List, [], ◌∷◌, length, slice_index}
+use Rattle.std.specs.Prelude.{◌≡◌, ℕ, ◌+◌, ◌*◌, ◌/◌, ◌^◌, ◌<◌, true, ◌↔◌, List, [], ◌∷◌, length, slice_index}
 use Rattle.std.proofs.Math.Path.{refl, ap}
 use Rattle.std.proofs.Common.{sym, ◌∙◌, subst, add-zero, arith}
 use Rattle.theory.specs.Path.{Path, Below, nothing, next}

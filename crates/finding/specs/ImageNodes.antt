@@ -1,6 +1,6 @@
 -- The search for an image on plain data (ImageSearch) finds the image that the closure over nodes gives (ListImage): a node is the number
 -- width × standing + place, and the nodes reached are the pairs reached.
-use Rattle.core.specs.Prelude.{◌≡◌, ℕ, zero, suc, ◌+◌, ◌-◌, ◌*◌, ◌/◌, ◌%◌, ◌^◌, ◌<◌, ◌≤◌, Bool, ◌⊎◌, ◌↔◌, List, ◌∷◌, length, take, drop, slice_index}
+use Rattle.std.specs.Prelude.{◌≡◌, ℕ, zero, suc, ◌+◌, ◌-◌, ◌*◌, ◌/◌, ◌%◌, ◌^◌, ◌<◌, ◌≤◌, Bool, ◌⊎◌, ◌↔◌, List, ◌∷◌, length, take, drop, slice_index}
 use Rattle.std.proofs.Common.{inl, inr, ap₂, ◌∙◌, add-zero, mul_comm, mul-suc, mul-le-mul_left, div-lt_iff_lt-mul, lt_of_le_of_lt, arith, drop-cons}
 use Rattle.std.proofs.Math.Path.{refl, sym, ap, subst}
 use Rattle.std.proofs.Math.Decide.{ℕ_discrete}

@@ -1,6 +1,6 @@
 -- The search for the images of the standings, on plain data: which (standing, list place) a label leads to, and what the image of a
 -- standing is.
-use Rattle.core.specs.Prelude.{◌≡◌, ℕ, ◌+◌, ◌*◌, ◌<◌, ◌≤◌, ◌↔◌, List, length, slice_index}
+use Rattle.std.specs.Prelude.{◌≡◌, ℕ, ◌+◌, ◌*◌, ◌<◌, ◌≤◌, ◌↔◌, List, length, slice_index}
 use Rattle.theory.specs.Places.{Member, intersection}
 use Rattle.theory.specs.Closure.{Reaches}
 

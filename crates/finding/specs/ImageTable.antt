@@ -1,5 +1,5 @@
 -- The table of images (ListImage) for the lists of a job: its entry at a list and a standing is the standing's image under that list.
-use Rattle.core.specs.Prelude.{◌≡◌, ℕ, zero, suc, ◌+◌, ◌^◌, ◌<◌, ◌↔◌, List, [], ◌∷◌, map, length, slice_index, slice_index_or}
+use Rattle.std.specs.Prelude.{◌≡◌, ℕ, zero, suc, ◌+◌, ◌^◌, ◌<◌, ◌↔◌, List, [], ◌∷◌, map, length, slice_index, slice_index_or}
 use Rattle.std.specs.Prelude.{refl}
 use Rattle.std.proofs.Common.{◌∙◌, ap, add-zero, zero-add, arith}
 use Rattle.std.proofs.Math.Decide.{dec_lt}

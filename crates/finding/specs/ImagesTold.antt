@@ -1,5 +1,5 @@
 -- What the code for the images of a list promises, and that the sources found by the search give it.
-use Rattle.core.specs.Prelude.{◌≡◌, ℕ, ◌<◌, ◌≤◌, List, length, take, drop, slice_index}
+use Rattle.std.specs.Prelude.{◌≡◌, ℕ, ◌<◌, ◌≤◌, List, length, take, drop, slice_index}
 use Rattle.std.proofs.Common.{arith}
 use Rattle.theory.specs.Places.{Member}
 use Rattle.theory.specs.Automaton.{Automaton}

@@ -1,6 +1,6 @@
 -- The images of the standings are read off the sources of pairs (Sources): each standing is added to the images of its sources together
 -- with an accepting place.
-use Rattle.core.specs.Prelude.{◌≡◌, ℕ, ◌+◌, ◌-◌, ◌*◌, ◌%◌, ◌^◌, ◌<◌, ◌≤◌, ◌≢◌, ◌⊎◌, ◌↔◌, List, ◌++◌, length, drop, replicate, bit_and, slice_index, slice_set}
+use Rattle.std.specs.Prelude.{◌≡◌, ℕ, ◌+◌, ◌-◌, ◌*◌, ◌%◌, ◌^◌, ◌<◌, ◌≤◌, ◌≢◌, ◌⊎◌, ◌↔◌, List, ◌++◌, length, drop, replicate, bit_and, slice_index, slice_set}
 use Rattle.std.proofs.Common.{inl, inr, sym, ◌∙◌, subst, arith, length-set, length-append, length-drop, drop-set-lt}
 use Rattle.std.specs.Prelude.{refl}
 use Rattle.std.proofs.Math.Decide.{ℕ_discrete}

@@ -1,6 +1,6 @@
 -- What the code that looks for levels promises (theory: Level). Levels stand in memory, one for each state; 256 is that of a state from which
 -- no accepted word is known.
-use Rattle.core.specs.Prelude.{◌≡◌, ℕ, suc, ◌+◌, ◌*◌, ◌<◌, ◌≤◌, Bool, true, false, List, length, ◌==◌, slice_index}
+use Rattle.std.specs.Prelude.{◌≡◌, ℕ, suc, ◌+◌, ◌*◌, ◌<◌, ◌≤◌, Bool, true, false, List, length, ◌==◌, slice_index}
 use Rattle.theory.specs.Level.{Known, Settled}
 use Rattle.finding.specs.Find.{deterministic}
 

@@ -1,5 +1,5 @@
 -- The labels of a list's automaton enter only the list's own places, which are as many as it has follow sets.
-use Rattle.core.specs.Prelude.{◌≡◌, ℕ, suc, ◌^◌, ◌<◌, length}
+use Rattle.std.specs.Prelude.{◌≡◌, ℕ, suc, ◌^◌, ◌<◌, length}
 use Rattle.std.proofs.Common.{ap, subst, sym, arith}
 use Rattle.theory.specs.Path.{Label}
 use Rattle.theory.specs.Expression.{Expression}

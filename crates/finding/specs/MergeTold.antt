@@ -1,5 +1,5 @@
 -- What the code that merges states promises: the lent table and flags become those of the smallest table that accepts the same words.
-use Rattle.core.specs.Prelude.{◌≡◌, ℕ, ◌+◌, ◌*◌, ◌%◌, ◌<◌, ◌≤◌, List, length, slice_index}
+use Rattle.std.specs.Prelude.{◌≡◌, ℕ, ◌+◌, ◌*◌, ◌%◌, ◌<◌, ◌≤◌, List, length, slice_index}
 use Rattle.theory.specs.Leaders.{leaders}
 use Rattle.theory.specs.Refinement.{class_at}
 use Rattle.theory.specs.Minimized.{class_number, first_member, minimized}

@@ -1,5 +1,5 @@
 -- The rows and flags of the classes, with zeros behind them, are the smallest table's.
-use Rattle.core.specs.Prelude.{◌≡◌, ℕ, ◌+◌, ◌-◌, ◌*◌, ◌/◌, ◌%◌, ◌<◌, ◌≤◌, ◌⊎◌, List, length, ◌==◌, slice_index}
+use Rattle.std.specs.Prelude.{◌≡◌, ℕ, ◌+◌, ◌-◌, ◌*◌, ◌/◌, ◌%◌, ◌<◌, ◌≤◌, ◌⊎◌, List, length, ◌==◌, slice_index}
 use Rattle.std.proofs.Common.{inl, inr, sym, subst, ◌∙◌, arith, get_or-take}
 use Rattle.std.proofs.Math.Path.{refl, ap}
 use Rattle.std.proofs.Math.Decide.{dec_lt}

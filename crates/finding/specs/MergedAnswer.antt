@@ -1,5 +1,5 @@
 -- What the code that merges the states of an answer asks for and promises.
-use Rattle.core.specs.Prelude.{◌≡◌, ℕ, List}
+use Rattle.std.specs.Prelude.{◌≡◌, ℕ, List}
 use Rattle.std.specs.Prelude.{refl}
 use Rattle.std.proofs.Common.{sym, ap, subst, ◌∙◌, arith}
 use Rattle.syntax.specs.declared.refusal.Refusal.{Refusal}

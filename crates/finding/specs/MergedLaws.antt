@@ -1,7 +1,7 @@
 -- The greatest rewriting with its states merged: words end at one state exactly when they have the same continuations, and everything else
 -- that document 01 says of a rewriting stays.
-use Rattle.core.specs.Prelude.{◌≡◌, ◌+◌, ◌<◌, ◌≤◌, ◌↔◌, ◌++◌, length, slice_index}
-use Rattle.std.proofs.Math.Logic.{Iff·symm, Iff·trans}
+use Rattle.std.specs.Prelude.{◌≡◌, ◌+◌, ◌<◌, ◌≤◌, ◌↔◌, ◌++◌, length, slice_index}
+use Rattle.std.proofs.Math.Logic.Iff
 use Rattle.std.proofs.Math.Path.{sym}
 use Rattle.std.proofs.Common.{◌∙◌}
 use Rattle.theory.specs.PathsBelow.{below-append}
@@ -32,7 +32,7 @@ module _ (J : Job) (R : Rewriting) (fits : length J.lists ≤ row_width) (F : Fi
 
   accepts : (w : Word) → IsWord J w → Accepts M w ↔ Accepted J w
   unfolding minimized merged_by quotient
-  accepts w b = Iff·trans (Iff·symm ((minimized-words (finds-complete J F)).words w b)) (finds-accepts J F w b)
+  accepts w b = Iff.trans (Iff.symm ((minimized-words (finds-complete J F)).words w b)) (finds-accepts J F w b)
 
   within : (w : Word) → IsWord J w → run M 0 w < M.states
   unfolding minimized merged_by quotient
@@ -40,16 +40,16 @@ module _ (J : Job) (R : Rewriting) (fits : length J.lists ≤ row_width) (F : Fi
 
   flag-accepts : (w : Word) → IsWord J w → (slice_index (flags_of M) (followed (table_of M) 0 w) ≡ 1) ↔ Accepted J w
   flag-accepts w b =
-      rw (ends w b, flag_at M (run M 0 w) (within w b)) (Iff·trans (flag-exactly (M.accepting (run M 0 w))) (accepts w b))
+      rw (ends w b, flag_at M (run M 0 w) (within w b)) (Iff.trans (flag-exactly (M.accepting (run M 0 w))) (accepts w b))
 
   ends-together : (v w : Word) → IsWord J v → IsWord J w → (followed (table_of M) 0 v ≡ followed (table_of M) 0 w) ↔ SameContinuations J v w
   unfolding minimized merged_by quotient
   ends-together v w b c =
       let (there, back) = end-exactly canonical.complete canonical.apart b c in (
-        λ e u l. Iff·trans (Iff·symm (accepts (v ++ u) (below-append b l)))
-            (Iff·trans (there (sym (ends v b) ∙ e ∙ ends w c) u l) (accepts (w ++ u) (below-append c l))),
-        λ s. ends v b ∙ back (λ u l. Iff·trans (accepts (v ++ u) (below-append b l))
-            (Iff·trans (s u l) (Iff·symm (accepts (w ++ u) (below-append c l))))) ∙ sym (ends w c),
+        λ e u l. Iff.trans (Iff.symm (accepts (v ++ u) (below-append b l)))
+            (Iff.trans (there (sym (ends v b) ∙ e ∙ ends w c) u l) (accepts (w ++ u) (below-append c l))),
+        λ s. ends v b ∙ back (λ u l. Iff.trans (accepts (v ++ u) (below-append b l))
+            (Iff.trans (s u l) (Iff.symm (accepts (w ++ u) (below-append c l))))) ∙ sym (ends w c),
       )
 
   pub merged-finds : Finds J (merged (length J.lists) R)

@@ -1,6 +1,6 @@
 -- The table that an exploration of a system of numbers makes, in rows of w: for each number found and each symbol the place of the number
 -- that it leads to. The list of the numbers found only grows, so what is entered stays right.
-use Rattle.core.specs.Prelude.{◌≡◌, ℕ, suc, ◌+◌, ◌*◌, ◌/◌, ◌%◌, ◌<◌, ◌≤◌, List, [], ◌∷◌, ◌++◌, length, slice_index, slice_set}
+use Rattle.std.specs.Prelude.{◌≡◌, ℕ, suc, ◌+◌, ◌*◌, ◌/◌, ◌%◌, ◌<◌, ◌≤◌, List, [], ◌∷◌, ◌++◌, length, slice_index, slice_set}
 use Rattle.std.proofs.Common.{sym, ap, ◌∙◌, mul_comm, mul-suc, mul-le-mul_left, arith, length-append, get_or-set_same, get_or-set_other}
 use Rattle.std.proofs.Math.Decide.{ℕ_discrete, dec_lt}
 use Rattle.std.proofs.Math.Arith.{digits_div, digits_mod}

@@ -1,6 +1,6 @@
 -- The named part of a lent buffer (document 01, "The operations"): what is written there has zeros behind it, and nothing beyond the named
 -- part changes.
-use Rattle.core.specs.Prelude.{ℕ, ◌-◌, List, ◌++◌, length, drop, replicate}
+use Rattle.std.specs.Prelude.{ℕ, ◌-◌, List, ◌++◌, length, drop, replicate}
 
 -- Find's: 4,096 numbers of the table and 256 flags.
 abbrev pub table_part : ℕ

@@ -1,5 +1,5 @@
 -- Nodes of a list's image (ListImage): the number width × standing + place, and the steps between nodes over one label.
-use Rattle.core.specs.Prelude.{◌≡◌, ℕ, zero, suc, ◌+◌, ◌*◌, ◌/◌, ◌%◌, ◌^◌, ◌<◌, ◌⊎◌, ◌↔◌, List, slice_index}
+use Rattle.std.specs.Prelude.{◌≡◌, ℕ, zero, suc, ◌+◌, ◌*◌, ◌/◌, ◌%◌, ◌^◌, ◌<◌, ◌⊎◌, ◌↔◌, List, slice_index}
 use Rattle.std.proofs.Common.{inl, inr, sym, ◌∙◌, ap, subst, mul_comm, div-lt_iff_lt-mul, arith}
 use Rattle.std.proofs.Math.Decide.{ℕ_discrete}
 use Rattle.std.proofs.Math.Arith.{digits_lt, digits_div, digits_mod}

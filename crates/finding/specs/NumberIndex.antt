@@ -1,6 +1,6 @@
 -- An index (Buckets) of the numbers found by an exploration, of which none stands twice: 509 buckets, by the remainder. The first number,
 -- the start, is not in it: the value number i of the index is the number found after i.
-use Rattle.core.specs.Prelude.{◌≡◌, ℕ, ◌+◌, ◌-◌, ◌%◌, ◌<◌, List, slice_index}
+use Rattle.std.specs.Prelude.{◌≡◌, ℕ, ◌+◌, ◌-◌, ◌%◌, ◌<◌, List, slice_index}
 use Rattle.finding.specs.Buckets.{Chained}
 use Rattle.finding.specs.declared.standings.Explored.{Explored}
 use Rattle.finding.specs.declared.standings.Explored.TheVariants.{All}

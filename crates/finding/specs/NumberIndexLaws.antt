@@ -1,6 +1,6 @@
 -- The laws of the index of numbers (NumberIndex): it grows by a number that is not among those indexed, and the walk along a chain gives
 -- the place of a number.
-use Rattle.core.specs.Prelude.{◌≡◌, ℕ, zero, suc, ◌+◌, ◌-◌, ◌<◌, ◌≤◌, ◌≢◌, List, length, take, replicate, slice_index, slice_index_or, slice_set}
+use Rattle.std.specs.Prelude.{◌≡◌, ℕ, zero, suc, ◌+◌, ◌-◌, ◌<◌, ◌≤◌, ◌≢◌, List, length, take, replicate, slice_index, slice_index_or, slice_set}
 use Rattle.std.proofs.Common.{sym, ap, ◌∙◌, subst, add-one, arith, get_or-set_same, get_or-set_other, length-take-le, get_or-take}
 use Rattle.std.proofs.Math.Decide.{ℕ_discrete}
 use Rattle.finding.specs.declared.standings.Explored.TheVariants.{All, Over}

@@ -1,6 +1,6 @@
 -- A numbering of an automaton's standings over k labels: the places of a list that begins with the start, has no duplicates and is closed
 -- under the labels. What an exploration of the standings finds is one.
-use Rattle.core.specs.Prelude.{◌≡◌, ℕ, ◌<◌, List, [], ◌∷◌, length, slice_index}
+use Rattle.std.specs.Prelude.{◌≡◌, ℕ, ◌<◌, List, [], ◌∷◌, length, slice_index}
 use Rattle.std.specs.Prelude.{refl}
 use Rattle.std.proofs.Common.{◌∙◌}
 use Rattle.std.proofs.Math.Path.{ap}

@@ -1,6 +1,6 @@
 -- Lent memory whose first part was cleared and then written: what was written, with zeros up to the part's end, and behind it what was
 -- there. For flags and for the table of the states.
-use Rattle.core.specs.Prelude.{◌≡◌, ℕ, ◌+◌, ◌-◌, ◌*◌, ◌/◌, ◌%◌, ◌<◌, ◌≤◌, List, ◌++◌, map, length, take, drop, replicate, slice_index}
+use Rattle.std.specs.Prelude.{◌≡◌, ℕ, ◌+◌, ◌-◌, ◌*◌, ◌/◌, ◌%◌, ◌<◌, ◌≤◌, List, ◌++◌, map, length, take, drop, replicate, slice_index}
 use Rattle.std.proofs.Common.{append_assoc, sym, ap₂, ◌∙◌, take-append-drop, drop_at, take_at, get_or-append-add}
 use Rattle.std.proofs.Math.Path.{ap}
 use Rattle.std.proofs.Math.Decide.{dec_lt}

@@ -1,5 +1,5 @@
 -- An automaton as plain data: its follow sets, the places that each label enters, and its accepting places.
-use Rattle.core.specs.Prelude.{ℕ, List, slice_index}
+use Rattle.std.specs.Prelude.{ℕ, List, slice_index}
 use Rattle.theory.specs.Automaton.{Automaton}
 
 abbrev pub plain : List ℕ → List ℕ → ℕ → Automaton

@@ -1,5 +1,5 @@
 -- What the code for the query's standings promises: they are those of the automaton that the tables hold at number 0.
-use Rattle.core.specs.Prelude.{◌≡◌, ℕ, suc, ◌<◌, ◌≤◌, List, length, take, slice_index}
+use Rattle.std.specs.Prelude.{◌≡◌, ℕ, suc, ◌<◌, ◌≤◌, List, length, take, slice_index}
 use Rattle.std.proofs.Common.{ap₂, ◌∙◌, subst, arith}
 use Rattle.theory.specs.Automaton.{Automaton, step}
 use Rattle.theory.specs.Exploration.{Entry, all, over}

@@ -1,6 +1,6 @@
 -- A rewriting as plain data, wherever it comes from, and when it decides which words of a job are accepted. What stands above Find rests on
 -- this, not on how a table was made.
-use Rattle.core.specs.Prelude.{◌≡◌, ℕ, ◌+◌, ◌*◌, ◌<◌, ◌↔◌, List, length, slice_index}
+use Rattle.std.specs.Prelude.{◌≡◌, ℕ, ◌+◌, ◌*◌, ◌<◌, ◌↔◌, List, length, slice_index}
 use Rattle.theory.specs.Word.{Word}
 use Rattle.theory.specs.Job.{Job, IsWord}
 use Rattle.theory.specs.Rewriting.{Accepted}

@@ -1,5 +1,5 @@
 -- How long the tables of a job must be for Find: they have a row for each expression, and may have more.
-use Rattle.core.specs.Prelude.{ℕ, ◌+◌, ◌*◌, ◌≤◌, List, length}
+use Rattle.std.specs.Prelude.{ℕ, ◌+◌, ◌*◌, ◌≤◌, List, length}
 
 -- The tables have the row of the query, and those of the lists, if these are no more than 16.
 pub record RowsFit (lists : ℕ) (follow enter : List ℕ) : Type 0 where

@@ -1,5 +1,5 @@
 -- The gains at one place are gathered, and put into the search at once (Sources, gathered): a step on the way, and what is put in at the end.
-use Rattle.core.specs.Prelude.{◌≡◌, ℕ, ◌+◌, ◌*◌, ◌%◌, ◌^◌, ◌<◌, ◌≢◌, List, length, set, slice_index, slice_index_or, slice_set}
+use Rattle.std.specs.Prelude.{◌≡◌, ℕ, ◌+◌, ◌*◌, ◌%◌, ◌^◌, ◌<◌, ◌≢◌, List, length, set, slice_index, slice_index_or, slice_set}
 use Rattle.std.proofs.Common.{inr, sym, ap, ap₂, ◌∙◌, subst, zero-mul, one-mul, arith, length-set, shl_exact, get_or-set_same, set-set, eq-eqb, ne_eqb}
 use Rattle.std.specs.Prelude.{refl}
 use Rattle.std.proofs.Math.Decide.{ℕ_discrete}

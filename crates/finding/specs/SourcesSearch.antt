@@ -1,5 +1,5 @@
 -- How a turn keeps what the search from all standings holds (Sources, Searching), and what it has found at the end.
-use Rattle.core.specs.Prelude.{◌≡◌, ℕ, ◌+◌, ◌-◌, ◌*◌, ◌^◌, ◌<◌, ◌≢◌, ◌⊎◌, List, ◌++◌, length, drop, replicate, bit_and, slice_index, slice_set}
+use Rattle.std.specs.Prelude.{◌≡◌, ℕ, ◌+◌, ◌-◌, ◌*◌, ◌^◌, ◌<◌, ◌≢◌, ◌⊎◌, List, ◌++◌, length, drop, replicate, bit_and, slice_index, slice_set}
 use Rattle.std.proofs.Common.{inl, inr, sym, ◌∙◌, subst, arith, get_or-set_same, ext_get_or}
 use Rattle.std.proofs.Math.Decide.{ℕ_discrete, dec_lt}
 use Rattle.std.specs.Int.Bits.{and_le_r}

@@ -1,5 +1,5 @@
 -- A standing is followed through the places that a table has entries for: the others lead nowhere.
-use Rattle.core.specs.Prelude.{◌≡◌, ℕ, ◌%◌, ◌^◌, List, length}
+use Rattle.std.specs.Prelude.{◌≡◌, ℕ, ◌%◌, ◌^◌, List, length}
 use Rattle.theory.specs.Automaton.{nexts}
 use Rattle.theory.specs.AutomatonLaws.{member-nexts}
 use Rattle.theory.specs.PlacesLaws.{equal-members}

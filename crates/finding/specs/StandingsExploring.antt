@@ -1,5 +1,5 @@
 -- What the loops over standings and labels hold and tell: the exploration of Standings (Exploring), with nothing kept of the trails.
-use Rattle.core.specs.Prelude.{◌≡◌, ℕ, ◌+◌, ◌*◌, ◌<◌, ◌≤◌, ◌≢◌, ◌⊎◌, List, length, take, slice_index, slice_index_or, slice_set}
+use Rattle.std.specs.Prelude.{◌≡◌, ℕ, ◌+◌, ◌*◌, ◌<◌, ◌≤◌, ◌≢◌, ◌⊎◌, List, length, take, slice_index, slice_index_or, slice_set}
 use Rattle.std.proofs.Common.{inl, inr, ◌∙◌, add-one, arith, length-set, length-take-le, get_or-set_other}
 use Rattle.std.specs.Prelude.{refl}
 use Rattle.theory.specs.Automaton.{step}

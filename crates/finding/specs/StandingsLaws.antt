@@ -1,7 +1,7 @@
 -- The standings of a query over k labels (Standings): exploration meets the meaning of standings. The limit is exceeded exactly where
 -- there are more standings than it, and where it is not, there are exactly as many standings as were found.
-use Rattle.core.specs.Prelude.{◌≡◌, ℕ, suc, ◌↔◌, List, [], ◌∷◌, length, slice_index_or}
-use Rattle.std.proofs.Math.Logic.{Iff·trans}
+use Rattle.std.specs.Prelude.{◌≡◌, ℕ, suc, ◌↔◌, List, [], ◌∷◌, length, slice_index_or}
+use Rattle.std.proofs.Math.Logic.Iff
 use Rattle.std.proofs.Math.Option.{some}
 use Rattle.std.specs.Prelude.{refl}
 use Rattle.std.proofs.Common.{eqb-true, eq-eqb}
@@ -52,8 +52,8 @@ distinct-standings q k n = (
 pub standings-over : (q : Expression) (k limit : ℕ) → (standings (glushkov q) k limit ≡ over) ↔ DistinctStandings q k (suc limit)
 unfolding standings
 standings-over q k limit =
-    Iff·trans (over-exactly (standing-tests (glushkov q) k))
-    (Iff·trans (exceeds-exactly (standing_system (glushkov q) k) (standing (glushkov q)) (standing-run (glushkov q) k) limit)
+    Iff.trans (over-exactly (standing-tests (glushkov q) k))
+    (Iff.trans (exceeds-exactly (standing_system (glushkov q) k) (standing (glushkov q)) (standing-run (glushkov q) k) limit)
     (distinct-standings q k (suc limit)))
 
 pub standings-explored : (A : Automaton) (k limit : ℕ) (l : List (Entry ℕ)) → standings A k limit ≡ all l → Explored (standing_system A k) l

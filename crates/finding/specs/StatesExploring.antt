@@ -1,5 +1,5 @@
 -- What the loops over states and lists hold and tell: the exploration of States (Exploring) in lent memory, with the trails (Trailed).
-use Rattle.core.specs.Prelude.{◌≡◌, ℕ, suc, ◌+◌, ◌*◌, ◌<◌, ◌≤◌, ◌≢◌, List, length, take, drop, slice_index, slice_set}
+use Rattle.std.specs.Prelude.{◌≡◌, ℕ, suc, ◌+◌, ◌*◌, ◌<◌, ◌≤◌, ◌≢◌, List, length, take, drop, slice_index, slice_set}
 use Rattle.std.proofs.Math.Path.{refl}
 use Rattle.std.proofs.Common.{sym, ◌∙◌, add-one, arith, length-take-le, get_or-set_other, drop-set-lt}
 use Rattle.std.proofs.Math.ListN.{length-set}

@@ -1,7 +1,7 @@
 -- The states of list words (States): the run over a word gives exactly the numbers of the standings after the paths that the word spells.
 -- So two words run to one set exactly when they have one state, and a set accepts exactly when the word is accepted.
-use Rattle.core.specs.Prelude.{◌≡◌, ℕ, suc, ◌^◌, ◌<◌, Bool, true, ◌↔◌, List, [], ◌∷◌, ◌++◌, length, slice_index, slice_index_or}
-use Rattle.std.proofs.Math.Logic.{Iff·trans}
+use Rattle.std.specs.Prelude.{◌≡◌, ℕ, suc, ◌^◌, ◌<◌, Bool, true, ◌↔◌, List, [], ◌∷◌, ◌++◌, length, slice_index, slice_index_or}
+use Rattle.std.proofs.Math.Logic.Iff
 use Rattle.std.proofs.Math.Option.{some}
 use Rattle.std.specs.Prelude.{refl}
 use Rattle.std.proofs.Common.{sym, ◌∙◌, ap, eqb-true, eq-eqb}
@@ -137,7 +137,7 @@ module _ (J : Job) (formed : WellFormed J) (found : List ℕ) (N : Numbering (gl
   unfolding state_from standing_from
   member-state_from X [] j h b = (λ m. (j, [], m, W.nothing, refl), ends-nothing X j h b)
   member-state_from X (v ∷ w) j h b =
-      Iff·trans (member-state_from (state_step (job_images J found) (length found) X v) w j (state_step-below X v) b) (ends-step X v w j h)
+      Iff.trans (member-state_from (state_step (job_images J found) (length found) X v) w j (state_step-below X v) b) (ends-step X v w j h)
 
   -- The set of a word is a set of standing numbers ..
   pub state_of-below : (w : Word) → state_of J found w < 2 ^ length found
@@ -147,7 +147,7 @@ module _ (J : Job) (formed : WellFormed J) (found : List ℕ) (N : Numbering (gl
   pub member-state_of : (w : Word) (j : ℕ) → j < length found
       → Member j (state_of J found w) ↔ ((p : Path) × SpelledBy J w p × (standing (glushkov J.query) p ≡ slice_index found j))
   unfolding standing
-  member-state_of w j b = Iff·trans (member-state_from (one 0) w j (one_below (length found) 0 N.start.0) b) (there, back)
+  member-state_of w j b = Iff.trans (member-state_from (one 0) w j (one_below (length found) 0 N.start.0) b) (there, back)
     where
       A : Automaton
       A = glushkov J.query
@@ -192,7 +192,7 @@ module _ (J : Job) (formed : WellFormed J) (found : List ℕ) (N : Numbering (gl
   pub state-accepts : (w : Word)
       → (state_accepts (accepting_standings (glushkov J.query) found) (state_of J found w) ≡ true) ↔ Accepted J w
   unfolding accepting_standings
-  state-accepts w = Iff·trans (state_accepts-exactly (collect test (length found)) (state_of J found w)) (there, back)
+  state-accepts w = Iff.trans (state_accepts-exactly (collect test (length found)) (state_of J found w)) (there, back)
     where
       A : Automaton
       A = glushkov J.query
@@ -234,6 +234,6 @@ module _ (J : Job) (formed : WellFormed J) (found : List ℕ) (N : Numbering (gl
   pub states-over : (limit : ℕ) → (states (job_images J found) (length found) limit ≡ over) ↔ DistinctStates J (suc limit)
   unfolding states
   states-over limit =
-      Iff·trans (over-exactly (state-tests (job_images J found) (length found)))
-      (Iff·trans (exceeds-exactly (job_states J found) (state_of J found)
+      Iff.trans (over-exactly (state-tests (job_images J found) (length found)))
+      (Iff.trans (exceeds-exactly (job_states J found) (state_of J found)
       (state-run (job_images J found) (length found) (one 0)) limit) (distinct-states (suc limit)))

@@ -1,5 +1,5 @@
 -- What the code for the states promises on the tables of a job, from the standings and their moves on: it leaves what find_states gives.
-use Rattle.core.specs.Prelude.{◌≡◌, ℕ, suc, ◌-◌, ◌*◌, ◌<◌, ◌≤◌, List, ◌++◌, map, length, get_or, take, drop, replicate, slice_index, slice_index_or}
+use Rattle.std.specs.Prelude.{◌≡◌, ℕ, suc, ◌-◌, ◌*◌, ◌<◌, ◌≤◌, List, ◌++◌, map, length, get_or, take, drop, replicate, slice_index, slice_index_or}
 use Rattle.std.specs.Prelude.{refl}
 use Rattle.std.proofs.Common.{sym, ap₂, ◌∙◌, subst, arith, length-take}
 use Rattle.std.proofs.Math.Path.{ap}

@@ -1,6 +1,6 @@
 -- The automata that the tables of a job hold (reading's Tables), as plain data: number x has its follow sets from 64 × x on and what its
 -- labels enter from 32 × x on. Those of the job's expressions are Glushkov's automata.
-use Rattle.core.specs.Prelude.{◌≡◌, ℕ, suc, ◌+◌, ◌*◌, ◌^◌, ◌<◌, ◌≤◌, List, length, take, drop, slice_index, slice_index_or}
+use Rattle.std.specs.Prelude.{◌≡◌, ℕ, suc, ◌+◌, ◌*◌, ◌^◌, ◌<◌, ◌≤◌, List, length, take, drop, slice_index, slice_index_or}
 use Rattle.std.specs.Prelude.{refl}
 use Rattle.std.proofs.Common.{sym, ap, ap₂, ◌∙◌, arith, ne_eqb, length-take, get_or-take, get_or-drop}
 use Rattle.std.proofs.Math.Path.{fun_ext}

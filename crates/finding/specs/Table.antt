@@ -1,6 +1,6 @@
 -- Find's table and flags (Find): the entry at 16 × state + list is the number of the next state, so the table, followed from a state by a
 -- word, ends at the number of the set that the word leads to.
-use Rattle.core.specs.Prelude.{◌≡◌, ℕ, zero, suc, ◌+◌, ◌-◌, ◌*◌, ◌<◌, ◌≤◌, Bool, true, false, ◌⊎◌, ◌↔◌, List, [], ◌∷◌, ◌++◌, map, length, replicate, ◌==◌, slice_index}
+use Rattle.std.specs.Prelude.{◌≡◌, ℕ, zero, suc, ◌+◌, ◌-◌, ◌*◌, ◌<◌, ◌≤◌, Bool, true, false, ◌⊎◌, ◌↔◌, List, [], ◌∷◌, ◌++◌, map, length, replicate, ◌==◌, slice_index}
 use Rattle.std.proofs.Common.{true≢false, append_assoc, inl, inr, ◌∙◌, ap₂, add-zero, zero-add, eq-eqb, ne_eqb, get_or-append-add}
 use Rattle.std.proofs.Math.Path.{refl, sym, ap}
 use native.Mathlib.Omega.{arith}

@@ -1,5 +1,5 @@
 -- What the code that merges states is lent: a complete table of states over lists, with its flags, and zeros in all that is not used.
-use Rattle.core.specs.Prelude.{◌≡◌, ℕ, ◌+◌, ◌*◌, ◌<◌, ◌≤◌, ◌⊎◌, List, length, slice_index}
+use Rattle.std.specs.Prelude.{◌≡◌, ℕ, ◌+◌, ◌*◌, ◌<◌, ◌≤◌, ◌⊎◌, List, length, slice_index}
 use Rattle.std.proofs.Common.{arith}
 use Rattle.theory.specs.Deterministic.{Complete}
 use Rattle.finding.specs.Find.{deterministic}

@@ -1,5 +1,5 @@
 -- The first accepted word as it is told (document 01, "Find"): its list numbers with zeros up to 256, or that there is none.
-use Rattle.core.specs.Prelude.{◌≡◌, ◌-◌, Bool, true, false, ◌++◌, length, take, replicate}
+use Rattle.std.specs.Prelude.{◌≡◌, ◌-◌, Bool, true, false, ◌++◌, length, take, replicate}
 use Rattle.std.proofs.Math.Option.{Option, some, none}
 use Rattle.std.specs.Prelude.{refl}
 use Rattle.std.proofs.Common.{ap, take_at}

@@ -1,11 +1,11 @@
 // What Find tells.
-ghost use Rattle.core.specs.Prelude.{◌≡◌};
+ghost use Rattle.std.specs.Prelude.{◌≡◌};
 ghost use Rattle.finding.specs.Outcome.{refused_with};
 
 use crate::first::{FirstWord, no_word};
 use syntax::Refusal;
 
-#[derive(Drop)]
+#[derive(Clone, Copy)]
 pub enum Finding {
     // The numbers of standings and of states.
     Found(u64, u64),
@@ -13,7 +13,7 @@ pub enum Finding {
     Refused(Refusal, u64),
 }
 
-#[derive(Drop)]
+#[derive(Clone, Copy)]
 pub struct FindAnswer {
     pub finding: Finding,
     pub first: FirstWord,

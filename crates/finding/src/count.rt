@@ -1,5 +1,5 @@
 // How many standings an automaton has.
-ghost use Rattle.core.specs.Prelude.{◌≡◌};
+ghost use Rattle.std.specs.Prelude.{◌≡◌};
 ghost use Rattle.finding.specs.Count.{count_standings};
 
 use crate::standings::{Explored, standings};

@@ -1,5 +1,5 @@
 // The first accepted word: that of the first state with flag 1, read off by following the parents back.
-ghost use Rattle.core.specs.Prelude.{◌≡◌, ◌<◌, ◌≤◌, length};
+ghost use Rattle.std.specs.Prelude.{◌≡◌, ◌<◌, ◌≤◌, length};
 ghost use Rattle.std.proofs.Math.Option.{none};
 ghost use Rattle.finding.specs.Standings.{place_of};
 ghost use Rattle.finding.specs.WordTold.{first_word};
@@ -8,7 +8,7 @@ ghost use Rattle.finding.specs.FirstWords.{TrailLength, Spelled, FirstTold};
 use crate::number::wide;
 
 // Its symbols, with zeros behind them. `any` is false where no word is accepted.
-#[derive(Drop)]
+#[derive(Clone, Copy)]
 pub struct FirstWord {
     pub any: bool,
     pub length: u64,

@@ -1,5 +1,5 @@
 // Which standings and which states accept.
-ghost use Rattle.core.specs.Prelude.{◌≡◌, ◌≤◌, ◌++◌, map, length, take, drop};
+ghost use Rattle.std.specs.Prelude.{◌≡◌, ◌≤◌, ◌++◌, map, length, take, drop};
 ghost use Rattle.theory.specs.Automaton.{Automaton};
 ghost use Rattle.finding.specs.States.{accepting_standings, state_accepts};
 ghost use Rattle.finding.specs.Find.{flag};

@@ -1,6 +1,6 @@
 // The images of the query's standings under a list (document 001, section 2), read off the sources of the pairs of a standing and a list
 // place.
-ghost use Rattle.core.specs.Prelude.{◌≡◌, ℕ, ◌*◌, ◌<◌, ◌≤◌, length, replicate};
+ghost use Rattle.std.specs.Prelude.{◌≡◌, ℕ, ◌*◌, ◌<◌, ◌≤◌, length, replicate};
 ghost use Rattle.theory.specs.Places.{Member};
 ghost use Rattle.finding.specs.ImageSearch.{tables, Fitting};
 ghost use Rattle.finding.specs.ImagesTurned.{Ended, Added, Inside, Turned};

@@ -1,6 +1,6 @@
 // An index of the numbers found: 509 buckets, each with a chain of its numbers, the newest first. A number stands as itself, in a byte; 0
 // ends each chain, so that the start, the number 0, is in none.
-ghost use Rattle.core.specs.Prelude.{◌≡◌, ◌<◌, ◌≤◌, length, take};
+ghost use Rattle.std.specs.Prelude.{◌≡◌, ◌<◌, ◌≤◌, length, take};
 ghost use Rattle.finding.specs.Standings.{place_of};
 ghost use Rattle.finding.specs.Buckets.{Noted};
 ghost use Rattle.finding.specs.NumberIndex.{bucket_of, Indexed};

@@ -1,6 +1,6 @@
 // The level of a state: how many lists its shortest accepted continuation has. States that have the same continuations have one level, so
 // that the levels are the first classes to refine; in a long sequence they spare a round for each state.
-ghost use Rattle.core.specs.Prelude.{◌≡◌, ◌<◌, ◌≤◌, true, ◌⊎◌, length};
+ghost use Rattle.std.specs.Prelude.{◌≡◌, ◌<◌, ◌≤◌, true, ◌⊎◌, length};
 ghost use Rattle.finding.specs.TableLent.{RowLent, RowsLent, TableLent};
 ghost use Rattle.finding.specs.LevelTold.{flag_level, FlagLevels, LeastNext, Lowered, Swept, Levelled};
 

@@ -1,7 +1,9 @@
 // Find: the query's standings, the images of lists, states, and Find itself.
+#![tactic(auto)]
+
 pub mod answer;
 pub mod clear;
-pub mod core;
+pub mod job_rows;
 pub mod count;
 pub mod first;
 mod flags;

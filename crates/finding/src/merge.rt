@@ -1,5 +1,5 @@
 // Merging: the classes of states with the same continuations become the states, numbered by their first members, in the lent table and flags.
-ghost use Rattle.core.specs.Prelude.{◌≡◌, ℕ, ◌<◌, ◌≤◌, length, slice_index};
+ghost use Rattle.std.specs.Prelude.{◌≡◌, ℕ, ◌<◌, ◌≤◌, length, slice_index};
 ghost use Rattle.theory.specs.Leaders.{Led};
 ghost use Rattle.theory.specs.Refinement.{class_at};
 ghost use Rattle.theory.specs.Minimized.{class_number};

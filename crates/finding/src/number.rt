@@ -1,5 +1,5 @@
 // Numbers in lent memory.
-ghost use Rattle.core.specs.Prelude.{◌≡◌, ◌<◌, slice_index};
+ghost use Rattle.std.specs.Prelude.{◌≡◌, ◌<◌, slice_index};
 
 // The number at place i, 0 beyond the end.
 pub fn number_at(numbers: &[u64], i: u64) -> u64

@@ -1,11 +1,11 @@
 // Find (document 01): the greatest rewriting of a job's query, from the job text.
-ghost use Rattle.core.specs.Prelude.{◌≡◌, ◌≤◌, length};
+ghost use Rattle.std.specs.Prelude.{◌≡◌, ◌≤◌, length};
 ghost use Rattle.reading.specs.RowRoom.{asked_rows, HasRows};
 ghost use Rattle.finding.specs.Outcome.{left, told};
 ghost use Rattle.finding.specs.Operation.{leaving, outcome};
 
 use crate::answer::{FindAnswer, refused};
-use crate::core::find_rows;
+use crate::job_rows::find_rows;
 use reading::{ReadAnswer, lists_at_most, load_rows};
 use syntax::Refusal;
 

@@ -1,6 +1,6 @@
 // Partition refinement: the classes of states with the same continuations, each named by its first state. States that differ from the
 // first of their class in the flag, or in the classes of their next states, leave it together, until none does.
-ghost use Rattle.core.specs.Prelude.{◌≡◌, ℕ, ◌<◌, ◌≤◌, true, ◌↔◌, length};
+ghost use Rattle.std.specs.Prelude.{◌≡◌, ℕ, ◌<◌, ◌≤◌, true, ◌↔◌, length};
 ghost use Rattle.theory.specs.Leaders.{Led};
 ghost use Rattle.theory.specs.Refinement.{class_at};
 ghost use Rattle.finding.specs.TableLent.{RowLent, TableLent};

@@ -1,5 +1,5 @@
 // The table and the flags of a rewriting, entry by entry.
-ghost use Rattle.core.specs.Prelude.{◌≡◌, ◌+◌, ◌*◌, slice_index};
+ghost use Rattle.std.specs.Prelude.{◌≡◌, ◌+◌, ◌*◌, slice_index};
 ghost use Rattle.finding.specs.Find.{row_width};
 
 // The next state of a state for a list.

@@ -1,6 +1,6 @@
 // The search over (standing, list place) from all standings at once (document 001, section 2): for each pair its sources, the standings
 // from which, with the list's start, the labels lead to it. The word count × place + standing holds them.
-ghost use Rattle.core.specs.Prelude.{◌≡◌, ℕ, ◌+◌, ◌*◌, ◌^◌, ◌<◌, ◌≤◌, List, length, replicate, slice_index};
+ghost use Rattle.std.specs.Prelude.{◌≡◌, ℕ, ◌+◌, ◌*◌, ◌^◌, ◌<◌, ◌≤◌, List, length, replicate, slice_index};
 ghost use Rattle.theory.specs.Places.{Member};
 ghost use Rattle.finding.specs.ImageSearch.{tables, Fitting};
 ghost use Rattle.finding.specs.Sources.{sources, gain_of, gathered, Followed, Only, Moved, Labelled, Begun, Searched};

@@ -1,5 +1,5 @@
 // The query's standings (document 01, "Standing"), by exploration over the labels, and where each label leads from each of them.
-ghost use Rattle.core.specs.Prelude.{◌≡◌, ◌*◌, ◌<◌, ◌≤◌, length};
+ghost use Rattle.std.specs.Prelude.{◌≡◌, ◌*◌, ◌<◌, ◌≤◌, length};
 ghost use Rattle.finding.specs.NumberIndex.{Indexed, IndexedAll};
 ghost use Rattle.finding.specs.StandingsExploring.{standing_task, Room, RowTold, SweepTold};
 ghost use Rattle.finding.specs.StandingsTold.{StandingsTold};
@@ -9,7 +9,7 @@ use crate::index::{bucket, find_place, note};
 use crate::step::follows;
 use places::Places;
 
-#[derive(Drop)]
+#[derive(Clone, Copy)]
 pub enum Explored {
     // All standings are found: how many.
     All(u64),

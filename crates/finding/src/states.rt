@@ -1,7 +1,7 @@
 // The states of list words (document 01, "State"), by exploration over the lists. `images` has at 64 × list + standing the image of the
 // standing; `found` gets the states, `parents` and `symbols` for each state after the first the state and the list that it was first
 // reached from, and `table` at 16 × state + list the next state.
-ghost use Rattle.core.specs.Prelude.{◌≡◌, ◌+◌, ◌*◌, ◌<◌, ◌≤◌, length, take, drop};
+ghost use Rattle.std.specs.Prelude.{◌≡◌, ◌+◌, ◌*◌, ◌<◌, ◌≤◌, length, take, drop};
 ghost use Rattle.theory.specs.Automaton.{nexts};
 ghost use Rattle.finding.specs.NumberIndex.{Indexed, IndexedAll};
 ghost use Rattle.finding.specs.StatesTold.{StatesTold};

@@ -1,5 +1,5 @@
 // Where the places of a standing lead. Only the follow sets of the places that the standing holds are read.
-ghost use Rattle.core.specs.Prelude.{◌≡◌, ◌%◌, ◌^◌};
+ghost use Rattle.std.specs.Prelude.{◌≡◌, ◌%◌, ◌^◌};
 ghost use Rattle.theory.specs.Automaton.{nexts};
 
 use places::Places;

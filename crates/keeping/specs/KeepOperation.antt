@@ -1,6 +1,6 @@
 -- What Keep leaves for a text and a lent output (document 01, "Keep"), in all cases. Where the output is long enough and the text is a
 -- job's, its named part is written; nothing behind the named part changes.
-use Rattle.core.specs.Prelude.{◌-◌, true, false, List, [], ◌∷◌, ◌++◌, length, drop, replicate, nat_lt}
+use Rattle.std.specs.Prelude.{◌-◌, true, false, List, [], ◌∷◌, ◌++◌, length, drop, replicate, nat_lt}
 use Rattle.syntax.specs.Byte.{Bytes}
 use Rattle.syntax.specs.Reply.{Reply, given, refusing}
 use Rattle.syntax.specs.declared.refusal.Refusal.TheVariants.{BufferTooShort}

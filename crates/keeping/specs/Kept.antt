@@ -1,6 +1,6 @@
 -- The bytes of a kept rewriting (document 01, "Keep"): the mark, the version, the counts, the lists' names and, for each state, its flag and
 -- its next states. Numbers of 16 bits stand high byte first.
-use Rattle.core.specs.Prelude.{ℕ, zero, suc, ◌+◌, ◌*◌, ◌/◌, ◌%◌, List, [], ◌∷◌, ◌++◌, length, slice_index}
+use Rattle.std.specs.Prelude.{ℕ, zero, suc, ◌+◌, ◌*◌, ◌/◌, ◌%◌, List, [], ◌∷◌, ◌++◌, length, slice_index}
 use Rattle.syntax.specs.Byte.{Bytes}
 use Rattle.finding.specs.Find.{Rewriting, row_width}
 

@@ -1,5 +1,5 @@
 -- A kept file, read off its bytes by the layout of document 01 ("Keep") alone: what somebody does who has the file and nothing else.
-use Rattle.core.specs.Prelude.{ℕ, zero, suc, ◌+◌, ◌*◌, [], ◌∷◌, take, drop, slice_index}
+use Rattle.std.specs.Prelude.{ℕ, zero, suc, ◌+◌, ◌*◌, [], ◌∷◌, take, drop, slice_index}
 use Rattle.theory.specs.Word.{Word}
 use Rattle.syntax.specs.Byte.{Bytes}
 

@@ -1,6 +1,6 @@
 -- What a kept file says (KeptFile) is what was kept: its counts, the lists' names, the flags and the next states, whatever bytes stand
 -- behind. So a list word ends at flag 1 in the file exactly when it is sound.
-use Rattle.core.specs.Prelude.{◌≡◌, ℕ, zero, suc, ◌+◌, ◌-◌, ◌*◌, ◌/◌, ◌%◌, ◌<◌, ◌≤◌, ◌↔◌, List, [], ◌∷◌, ◌++◌, length, get_or, take, drop, slice_index, slice_index_or}
+use Rattle.std.specs.Prelude.{◌≡◌, ℕ, zero, suc, ◌+◌, ◌-◌, ◌*◌, ◌/◌, ◌%◌, ◌<◌, ◌≤◌, ◌↔◌, List, [], ◌∷◌, ◌++◌, length, get_or, take, drop, slice_index, slice_index_or}
 use mathlib.Core.List.{append_assoc}
 use Rattle.std.proofs.Math.Path.{refl, ap}
 use Rattle.std.proofs.Common.{sym, ap₂, ◌∙◌, add-one, get_or-drop, drop-drop, drop-cons, take_at}

@@ -1,4 +1,6 @@
 // Kept files: a rewriting written to bytes.
+#![tactic(auto)]
+
 mod names;
 mod operation;
 mod put;

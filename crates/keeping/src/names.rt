@@ -1,5 +1,5 @@
 // The lists' names in a kept file.
-ghost use Rattle.core.specs.Prelude.{◌≡◌};
+ghost use Rattle.std.specs.Prelude.{◌≡◌};
 ghost use Rattle.syntax.specs.Resolve.{names_at};
 ghost use Rattle.output.specs.Put.{writing, puts};
 ghost use Rattle.keeping.specs.Write.{one_name, name_bytes};

@@ -1,5 +1,5 @@
 // Keep (document 01): the greatest rewriting of a job's query, written to bytes.
-ghost use Rattle.core.specs.Prelude.{◌≡◌, ◌≤◌, length};
+ghost use Rattle.std.specs.Prelude.{◌≡◌, ◌≤◌, length};
 ghost use Rattle.reading.specs.declared.answer.ReadAnswer.TheVariants.{Job};
 ghost use Rattle.reading.specs.Read.{read};
 ghost use Rattle.reading.specs.Loading.{tables, Loaded};
@@ -8,11 +8,11 @@ ghost use Rattle.keeping.specs.KeepOperation.{left, left_by_reading, outcome};
 
 use crate::writer::{clear, write};
 use finding::answer::Finding;
-use finding::core::find_rows;
+use finding::job_rows::find_rows;
 use reading::{ReadAnswer, load};
 use syntax::Refusal;
 
-#[derive(Drop)]
+#[derive(Clone, Copy)]
 pub enum KeepAnswer {
     // The length of what is kept.
     Kept(u64),

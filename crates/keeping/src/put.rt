@@ -1,5 +1,5 @@
 // Numbers put into a lent buffer, high byte first.
-ghost use Rattle.core.specs.Prelude.{◌≡◌};
+ghost use Rattle.std.specs.Prelude.{◌≡◌};
 ghost use Rattle.output.specs.Put.{writing, puts};
 ghost use Rattle.keeping.specs.Kept.{two_bytes};
 

@@ -1,5 +1,5 @@
 // The states in a kept file: for each a flag and its next states.
-ghost use Rattle.core.specs.Prelude.{◌≡◌};
+ghost use Rattle.std.specs.Prelude.{◌≡◌};
 ghost use Rattle.keeping.specs.Kept.{kept_nexts, kept_states};
 ghost use Rattle.output.specs.Put.{writing, puts};
 ghost use Rattle.keeping.specs.Write.{lent};

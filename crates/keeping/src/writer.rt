@@ -1,5 +1,5 @@
 // The writer of kept files (document 01, "Keep").
-ghost use Rattle.core.specs.Prelude.{◌≡◌, ◌-◌, min, ◌++◌, length, drop, replicate};
+ghost use Rattle.std.specs.Prelude.{◌≡◌, ◌-◌, min, ◌++◌, length, drop, replicate};
 ghost use Rattle.keeping.specs.Kept.{kept_length};
 ghost use Rattle.output.specs.Put.{writing, puts};
 ghost use Rattle.keeping.specs.Write.{header, Writes};

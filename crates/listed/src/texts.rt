@@ -6,7 +6,7 @@ ghost use Rattle.listed.specs.Texts.{text_of};
 use crate::limits::{put_followed_text, put_joined_text, put_optional_text, put_sequence_text};
 use crate::proved::put_proved;
 
-#[derive(Drop)]
+#[derive(Clone, Copy)]
 pub enum Listed {
     // P1 to P8, by their numbers.
     Proved(u64),

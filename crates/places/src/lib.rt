@@ -1,5 +1,7 @@
 // Sets of places by value (document 01: "a standing of the query is a set of at most 64 places"). A set is the number that `theory` calls
 // it by: place i is in it where bit i is 1.
+#![tactic(auto)]
+
 pub mod joined;
 pub mod wide;
 pub mod words;
@@ -7,7 +9,7 @@ pub mod words;
 ghost use Rattle.std.specs.Prelude.{◌≡◌, ltb, ◌&&◌};
 ghost use Rattle.theory.specs.Places.{member, one, union, intersection, when};
 
-#[derive(Drop)]
+#[derive(Clone, Copy)]
 pub struct Places(pub u64);
 
 impl Places {

@@ -5,7 +5,7 @@ ghost use Rattle.places.specs.Words.{number_of, Without};
 
 use crate::words::add_shifted;
 
-#[derive(Drop)]
+#[derive(Clone, Copy)]
 pub struct Wide {
     pub words: [u64; 16],
 }

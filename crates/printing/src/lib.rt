@@ -1,4 +1,6 @@
 // The printed form of a job's rewriting and verdict.
+#![tactic(auto)]
+
 mod found;
 mod judged;
 mod lines;

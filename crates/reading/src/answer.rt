@@ -1,7 +1,7 @@
 // What reading a job text tells.
 use syntax::Refusal;
 
-#[derive(Drop)]
+#[derive(Clone, Copy)]
 pub enum ReadAnswer {
     // The numbers of labels and of lists.
     Job(u64, u64),

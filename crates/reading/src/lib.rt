@@ -1,4 +1,6 @@
 // Job texts: lines, names and expressions, read once into tables.
+#![tactic(auto)]
+
 mod answer;
 mod line;
 mod names;

@@ -1,7 +1,7 @@
 // What the lines read so far give, in numbers.
 use syntax::Refusal;
 
-#[derive(Drop)]
+#[derive(Clone, Copy)]
 pub struct Progress {
     pub labels: u64,
     pub lists: u64,
@@ -10,7 +10,7 @@ pub struct Progress {
 }
 
 // What a line gives: more than before, or a refusal.
-#[derive(Drop)]
+#[derive(Clone, Copy)]
 pub enum Given {
     Good(Progress),
     Bad(Refusal),

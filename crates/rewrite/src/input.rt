@@ -2,7 +2,7 @@
 ghost use Rattle.std.specs.Prelude.{◌≤◌, length};
 ghost use Rattle.rewrite.specs.Read.{Fits};
 
-#[derive(Drop)]
+#[derive(Clone, Copy)]
 pub enum Input {
     // How many bytes were read.
     Bytes(usize),

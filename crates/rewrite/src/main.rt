@@ -1,5 +1,7 @@
 // The program `rewrite` (document 01, "The printed form"): a job from standard input, its rewriting and its verdict to standard output.
 // One byte more than a job may have is enough to refuse a longer text. Where the input cannot be read, nothing is judged.
+#![tactic(auto)]
+
 mod input;
 
 use input::{Input, read_input};

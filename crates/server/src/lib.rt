@@ -1,5 +1,7 @@
 // The functions that the hosting server, written in C, calls: numbers and bytes alone cross this boundary (include/cezhappu.h). Each lends
 // its buffers on to an operation of document 01 and tells the reply in one number.
+#![tactic(auto)]
+
 mod find;
 mod judge;
 mod keep;

@@ -19,7 +19,7 @@ use places::Places;
 
 // The automaton of an expression but for its tables: the number of its places after the start, and the accepting places; and whether the
 // text is an expression.
-#[derive(Drop)]
+#[derive(Clone, Copy)]
 pub struct Automaton {
     pub size: u64,
     pub accepting: Places,

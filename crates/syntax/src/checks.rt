@@ -17,7 +17,7 @@ pub const MOST_NESTING: u64 = 16;
 const MOST_OCCURRENCES: u64 = 63;
 
 // What is said of an expression's text: that it is fine, or its first fault.
-#[derive(Drop)]
+#[derive(Clone, Copy)]
 pub enum Check {
     Fine,
     Faulty(Refusal),

@@ -8,13 +8,13 @@ ghost use Rattle.syntax.specs.Place.{cursor_at, moved, parsed_to};
 use super::kind::{HYPHEN, LETTER};
 use super::name::LONGEST;
 
-#[derive(Drop)]
+#[derive(Clone, Copy)]
 pub struct Cursor {
     pub at: usize,
 }
 
 // Where a reader has moved to, or that what it looked for is not there.
-#[derive(Drop)]
+#[derive(Clone, Copy)]
 pub enum Moved {
     To(Cursor),
     Failed,

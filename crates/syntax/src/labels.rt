@@ -9,7 +9,7 @@ use super::kind::HYPHEN;
 use super::table::find;
 
 // Whether each label occurrence is a name of the table, and if so, how many occurrences there are.
-#[derive(Drop)]
+#[derive(Clone, Copy)]
 pub struct Labels {
     pub known: bool,
     pub count: u64,

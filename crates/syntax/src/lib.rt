@@ -1,4 +1,6 @@
 // Expressions as text: names, the grammar, its limits, and Glushkov's automaton of an expression.
+#![tactic(auto)]
+
 pub mod build;
 mod checks;
 mod cursor;

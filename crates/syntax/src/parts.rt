@@ -7,7 +7,7 @@ use places::Places;
 
 // What reading a part of an expression gives: where it ends in the text, the number of the next place, whether it has the empty path,
 // and the places that can be read first and last in it.
-#[derive(Drop)]
+#[derive(Clone, Copy)]
 pub struct Part {
     pub at: usize,
     pub next: u64,

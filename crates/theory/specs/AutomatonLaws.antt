@@ -2,7 +2,7 @@
 use Rattle.std.specs.Prelude.{ℕ, zero, suc, ◌+◌, ◌-◌, ◌/◌, ◌^◌, ◌≤◌, ◌<◌, Bool, true, false, ◌||◌, ◌&&◌, not, List, [], ◌∷◌, ◌++◌, ◌↔◌, ◌⊎◌, ◌≡◌, refl, eqb, length, get_or}
 use Rattle.std.proofs.lemmas.Bool.{false≢true, eqb-false}
 use Rattle.std.proofs.Common.{inl, inr, sym, ap, ◌∙◌, subst, add-zero, one-add, arith, length-append, get_or-append-add, eqb-true, eq-eqb, ne_eqb}
-use Rattle.std.proofs.Math.Logic.{Iff·rfl, Iff·trans, Iff·and}
+use Rattle.std.proofs.Math.Logic.Iff
 use Rattle.std.proofs.Math.Decide.{dec_lt}
 use Rattle.std.proofs.Math.ListN.{get_or-append}
 use Rattle.theory.specs.Path.{Label, Path}
@@ -51,8 +51,8 @@ pub nullable-exactly : (e : Expression) → (nullable e ≡ true) ↔ Nullable e
 unfolding nullable
 nullable-exactly empty = (λ e. tt, λ e. refl)
 nullable-exactly (label a) = (λ e. absurd (false≢true e), λ e. absurd e)
-nullable-exactly (alternative l r) = Iff·trans (or-true (nullable l) (nullable r)) (either (nullable-exactly l) (nullable-exactly r))
-nullable-exactly (sequence l r) = Iff·trans (and-true (nullable l) (nullable r)) (Iff·and (nullable-exactly l) (nullable-exactly r))
+nullable-exactly (alternative l r) = Iff.trans (or-true (nullable l) (nullable r)) (either (nullable-exactly l) (nullable-exactly r))
+nullable-exactly (sequence l r) = Iff.trans (and-true (nullable l) (nullable r)) (Iff.and (nullable-exactly l) (nullable-exactly r))
 nullable-exactly (star e) = (λ e. tt, λ e. refl)
 nullable-exactly (optional e) = (λ e. tt, λ e. refl)
 
@@ -61,11 +61,11 @@ unfolding first
 member-first k empty x = (λ m. absurd (member-none x m), λ f. absurd f)
 member-first k (label a) x = member-one x k
 member-first k (alternative l r) x =
-    Iff·trans (member_union x (first k l) (first (k + size l) r)) (either (member-first k l x) (member-first (k + size l) r x))
+    Iff.trans (member_union x (first k l) (first (k + size l) r)) (either (member-first k l x) (member-first (k + size l) r x))
 member-first k (sequence l r) x =
-    Iff·trans (member_union x (first k l) (when (nullable l) (first (k + size l) r)))
+    Iff.trans (member_union x (first k l) (when (nullable l) (first (k + size l) r)))
     (either (member-first k l x)
-    (Iff·trans (member-when (nullable l) x (first (k + size l) r)) (Iff·and (nullable-exactly l) (member-first (k + size l) r x))))
+    (Iff.trans (member-when (nullable l) x (first (k + size l) r)) (Iff.and (nullable-exactly l) (member-first (k + size l) r x))))
 member-first k (star e) x = member-first k e x
 member-first k (optional e) x = member-first k e x
 
@@ -74,10 +74,10 @@ unfolding last
 member-last k empty x = (λ m. absurd (member-none x m), λ f. absurd f)
 member-last k (label a) x = member-one x k
 member-last k (alternative l r) x =
-    Iff·trans (member_union x (last k l) (last (k + size l) r)) (either (member-last k l x) (member-last (k + size l) r x))
+    Iff.trans (member_union x (last k l) (last (k + size l) r)) (either (member-last k l x) (member-last (k + size l) r x))
 member-last k (sequence l r) x =
-    Iff·trans (member_union x (when (nullable r) (last k l)) (last (k + size l) r))
-    (either (Iff·trans (member-when (nullable r) x (last k l)) (Iff·trans (Iff·and (nullable-exactly r) (member-last k l x)) swap))
+    Iff.trans (member_union x (when (nullable r) (last k l)) (last (k + size l) r))
+    (either (Iff.trans (member-when (nullable r) x (last k l)) (Iff.trans (Iff.and (nullable-exactly r) (member-last k l x)) swap))
     (member-last (k + size l) r x))
 member-last k (star e) x = member-last k e x
 member-last k (optional e) x = member-last k e x
@@ -86,11 +86,11 @@ pub member-labelled : (k : ℕ) (e : Expression) (a : Label) (x : ℕ) → Membe
 unfolding labelled
 member-labelled k empty a x = (λ m. absurd (member-none x m), λ f. absurd f)
 member-labelled k (label b) a x =
-    Iff·trans (member-when (eqb a b) x (one k)) (Iff·trans (Iff·and (eqb-true a b, eq-eqb a b) (member-one x k)) swap)
+    Iff.trans (member-when (eqb a b) x (one k)) (Iff.trans (Iff.and (eqb-true a b, eq-eqb a b) (member-one x k)) swap)
 member-labelled k (alternative l r) a x =
-    Iff·trans (member_union x (labelled k l a) (labelled (k + size l) r a)) (either (member-labelled k l a x) (member-labelled (k + size l) r a x))
+    Iff.trans (member_union x (labelled k l a) (labelled (k + size l) r a)) (either (member-labelled k l a x) (member-labelled (k + size l) r a x))
 member-labelled k (sequence l r) a x =
-    Iff·trans (member_union x (labelled k l a) (labelled (k + size l) r a)) (either (member-labelled k l a x) (member-labelled (k + size l) r a x))
+    Iff.trans (member_union x (labelled k l a) (labelled (k + size l) r a)) (either (member-labelled k l a x) (member-labelled (k + size l) r a x))
 member-labelled k (star e) a x = member-labelled k e a x
 member-labelled k (optional e) a x = member-labelled k e a x
 
@@ -124,8 +124,8 @@ unfolding link
 member-link ends more k [] i y h = absurd (omega arith)
 member-link ends more k (s ∷ t) zero y h =
     rw (add-zero k)
-    (Iff·trans (member_union y s (when (member k ends) more))
-    (either Iff·rfl (Iff·trans (member-when (member k ends) y more) (Iff·and (member-test k ends) Iff·rfl))))
+    (Iff.trans (member_union y s (when (member k ends) more))
+    (either Iff.rfl (Iff.trans (member-when (member k ends) y more) (Iff.and (member-test k ends) Iff.rfl))))
 member-link ends more k (s ∷ t) (suc i) y h =
     let e : k + suc i ≡ suc k + i = omega arith in
     rw e (member-link ends more (suc k) t i y (omega arith))
@@ -181,8 +181,8 @@ linked : (k : ℕ) (e : Expression) (i y more : ℕ) (M : Type 0) → Member y m
     → Member y (get_or (follows k e) i 0) ↔ Follow k e (k + i) y
     → Member y (get_or (link (last k e) more k (follows k e)) i 0) ↔ (Follow k e (k + i) y ⊎ (Last k e (k + i) × M))
 linked k e i y more M exactly h ih =
-    Iff·trans (member-link (last k e) more k (follows k e) i y (omega (arith, length-follows k e)))
-    (either ih (Iff·and (member-last k e (k + i)) exactly))
+    Iff.trans (member-link (last k e) more k (follows k e) i y (omega (arith, length-follows k e)))
+    (either ih (Iff.and (member-last k e (k + i)) exactly))
 
 -- The entry j of the table of r, which stands behind n entries, is the entry i of the whole table.
 behind : (k n : ℕ) (r : Expression) (i j y : ℕ) → i ≡ n + j → Member y (get_or (follows (k + n) r) j 0) ↔ Follow (k + n) r (k + n + j) y
@@ -202,7 +202,7 @@ member-follows k (alternative l r) i y h =
     (member-follows k l i y)
     (λ j e. behind k (size l) r i j y e (member-follows (k + size l) r j y (omega arith)))
 member-follows k (sequence l r) i y h =
-    Iff·trans
+    Iff.trans
     (member-append (link (last k l) (first (k + size l) r) k (follows k l)) (follows (k + size l) r) (size l) i y
     (Follow k l (k + i) y ⊎ (Last k l (k + i) × First (k + size l) r y)) (Follow (k + size l) r (k + i) y)
     (length-link (last k l) (first (k + size l) r) k (follows k l) ∙ length-follows k l)
@@ -294,8 +294,8 @@ member-step e s a y = (
 pub member-accepting : (e : Expression) (x : ℕ) → Member x (glushkov e).accepting ↔ Final e x
 unfolding glushkov
 member-accepting e x =
-    Iff·trans (member_union x (when (nullable e) (one 0)) (last 1 e))
-    (either (Iff·trans (member-when (nullable e) x (one 0)) (Iff·trans (Iff·and (nullable-exactly e) (member-one x 0)) swap)) (member-last 1 e x))
+    Iff.trans (member_union x (when (nullable e) (one 0)) (last 1 e))
+    (either (Iff.trans (member-when (nullable e) x (one 0)) (Iff.trans (Iff.and (nullable-exactly e) (member-one x 0)) swap)) (member-last 1 e x))
 
 pub accepts-exactly : (A : Automaton) (s : ℕ) → (accepts A s ≡ true) ↔ ((x : ℕ) × Member x s × Member x A.accepting)
 unfolding accepts

@@ -1,6 +1,6 @@
 -- Following a word in a complete table, and tables that accept the same words.
 use Rattle.std.specs.Prelude.{ℕ, ◌<◌, Bool, true, false, List, [], ◌∷◌, ◌++◌, ◌↔◌, ◌≡◌, refl}
-use Rattle.std.proofs.Math.Logic.{Iff·symm, Iff·trans}
+use Rattle.std.proofs.Math.Logic.Iff
 use Rattle.std.proofs.Common.{sym, ap, subst, ◌∙◌}
 use Rattle.theory.specs.Path.{Below, nothing, next}
 use Rattle.theory.specs.PathsBelow.{below-append}
@@ -36,7 +36,7 @@ same-words-flag s b = flags-equal _ _ (s.words _ b)
 
 pub same-words-back : {D E : Deterministic} → SameWords D E → SameWords E D
 same-words-back s =
-    record { symbols = sym s.symbols; words = λ w b. Iff·symm (s.words w (subst (λ k. Below k w) (sym s.symbols) b)) }
+    record { symbols = sym s.symbols; words = λ w b. Iff.symm (s.words w (subst (λ k. Below k w) (sym s.symbols) b)) }
 
 -- Their words are over the same symbols.
 pub same-words-below : {D E : Deterministic} {w : List ℕ} → SameWords D E → Below D.symbols w → Below E.symbols w
@@ -44,7 +44,7 @@ same-words-below {w = w} s b = subst (λ k. Below k w) s.symbols b
 
 pub same-words-trans : {D E F : Deterministic} → SameWords D E → SameWords E F → SameWords D F
 same-words-trans s t =
-    record { symbols = s.symbols ∙ t.symbols; words = λ w b. Iff·trans (s.words w b) (t.words w (same-words-below s b)) }
+    record { symbols = s.symbols ∙ t.symbols; words = λ w b. Iff.trans (s.words w b) (t.words w (same-words-below s b)) }
 
 -- In tables that agree, a word leads to the same state.
 pub agree-run : {D E : Deterministic} → Complete D → Agree D E → (q : ℕ) {w : List ℕ} → q < D.states → Below D.symbols w

@@ -2,7 +2,7 @@
 -- accepts; and the standing after a path is the set that document 01 defines. So two paths have one standing exactly when the numbers are
 -- equal.
 use Rattle.std.specs.Prelude.{ℕ, Bool, true, List, [], ◌∷◌, ◌↔◌, ◌≡◌, refl}
-use Rattle.std.proofs.Math.Logic.{Iff·trans, Iff·symm}
+use Rattle.std.proofs.Math.Logic.Iff
 use Rattle.std.proofs.Common.{sym, subst}
 use Rattle.theory.specs.Path.{Label, Path}
 use Rattle.theory.specs.Expression.{Expression, IsPath}
@@ -36,7 +36,7 @@ pub member-standing_from : (e : Expression) (s : ℕ) (p : Path) (y : ℕ)
     → Member y (standing_from (glushkov e) s p) ↔ ((x : ℕ) × Member x s × StandsAt e x p y)
 unfolding standing_from
 member-standing_from e s [] y = (λ m. (y, m, done), ends-nothing e s y)
-member-standing_from e s (a ∷ p) y = Iff·trans (member-standing_from e (step (glushkov e) s a) p y) (ends-step e s a p y)
+member-standing_from e s (a ∷ p) y = Iff.trans (member-standing_from e (step (glushkov e) s a) p y) (ends-step e s a p y)
 
 pub member-standing : (e : Expression) (p : Path) (y : ℕ) → Member y (standing (glushkov e) p) ↔ StandsAt e 0 p y
 unfolding standing
@@ -49,11 +49,11 @@ member-standing e p y = (to, λ r. (member-standing_from e (one 0) p y).1 (0, re
 
 -- The standing after p, as a number, holds exactly the places of document 01's standing.
 pub glushkov-standing : (e : Expression) (p : Path) (x : ℕ) → Member x (standing (glushkov e) p) ↔ InStanding e p x
-glushkov-standing e p x = Iff·trans (member-standing e p x) (Iff·symm (standing-exactly e p x))
+glushkov-standing e p x = Iff.trans (member-standing e p x) (Iff.symm (standing-exactly e p x))
 
 -- A path is a path of the expression exactly when its standing accepts.
 pub glushkov-accepts : (e : Expression) (p : Path) → IsPath e p ↔ (accepts (glushkov e) (standing (glushkov e) p) ≡ true)
-glushkov-accepts e p = Iff·trans (path-exactly e p) (Iff·trans (to, from) (Iff·symm (accepts-exactly (glushkov e) (standing (glushkov e) p))))
+glushkov-accepts e p = Iff.trans (path-exactly e p) (Iff.trans (to, from) (Iff.symm (accepts-exactly (glushkov e) (standing (glushkov e) p))))
   where
     to : ((y : ℕ) × StandsAt e 0 p y × Final e y) → (y : ℕ) × Member y (standing (glushkov e) p) × Member y (glushkov e).accepting
     to (y, r, f) = (y, (member-standing e p y).1 r, (member-accepting e y).1 f)
@@ -66,8 +66,8 @@ pub glushkov-same : (e : Expression) (p q : Path) → SameStanding e p q ↔ (st
 glushkov-same e p q = (
   λ h.
       equal-members (standing (glushkov e) p) (standing (glushkov e) q)
-      (λ x. Iff·trans (glushkov-standing e p x) (Iff·trans (h x) (Iff·symm (glushkov-standing e q x)))),
+      (λ x. Iff.trans (glushkov-standing e p x) (Iff.trans (h x) (Iff.symm (glushkov-standing e q x)))),
   λ n x.
-      Iff·trans (Iff·symm (glushkov-standing e p x))
-      (Iff·trans (subst (λ s. Member x (standing (glushkov e) p) ↔ Member x s) n (λ m. m, λ m. m)) (glushkov-standing e q x)),
+      Iff.trans (Iff.symm (glushkov-standing e p x))
+      (Iff.trans (subst (λ s. Member x (standing (glushkov e) p) ↔ Member x s) n (λ m. m, λ m. m)) (glushkov-standing e q x)),
 )

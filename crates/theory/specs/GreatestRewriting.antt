@@ -1,7 +1,7 @@
 -- The greatest rewriting (document 001, section 2): a list word is accepted exactly when it is sound, so the accepted words are a
 -- rewriting and hold every other. What any set of sound words spells is yielded (demand 3, first part).
 use Rattle.std.specs.Prelude.{ℕ, List, [], ◌∷◌, ◌↔◌, ◌≡◌, length}
-use Rattle.std.proofs.Math.Logic.{Iff·rfl, Iff·symm, Iff·trans}
+use Rattle.std.proofs.Math.Logic.Iff
 use Rattle.theory.specs.Path.{Path, Below, nothing, next}
 use Rattle.theory.specs.Word as W
 use Rattle.theory.specs.Word.{Word}
@@ -15,7 +15,7 @@ spells-word J W.nothing = nothing
 spells-word J (W.name u r e (v, l) s) = next v (spells-word J s)
 
 pub accepted-sound : (J : Job) (w : Word) → Accepted J w → Sound J w
-accepted-sound J w a p s = a p s p (λ x. Iff·rfl)
+accepted-sound J w a p s = a p s p (λ x. Iff.rfl)
 
 pub sound-accepted : (J : Job) (w : Word) → Sound J w → Accepted J w
 sound-accepted J w sound p s = (accepts-exactly-path J.query p).1 (sound p s)
@@ -28,7 +28,7 @@ accepted-exactly-sound J w = (accepted-sound J w, sound-accepted J w)
 pub state-accepted : (J : Job) (v w : Word) → SameState J v w → Accepted J v → Accepted J w
 state-accepted J v w same a p s q h =
     let (r, t, k) = same.1 p s in
-    a r t q (λ x. Iff·trans (Iff·symm (k x)) (h x))
+    a r t q (λ x. Iff.trans (Iff.symm (k x)) (h x))
 
 -- The accepted words are a rewriting (Definition 1), and every rewriting is within them: they are the greatest.
 pub accepted-rewriting : (J : Job) → IsRewriting J (AcceptedWord J)

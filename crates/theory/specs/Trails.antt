@@ -79,7 +79,7 @@ module _ {A : Type 0} (S : System A) where
   leads-behind : {t : List ℕ} {u v : A} {w : List ℕ} → Leads S t u → Below S.symbols w → run S u w ≡ some v → Leads S (reverse_aux w t) v
   unfolding run
   leads-behind {t} {u} {v} h nothing r = subst (Leads S t) (some-injective u v r) h
-  leads-behind {t} {u} {v} h (next {a} {p} l b) r = after (S.step u a) refl r (λ x e. leads-behind (stepped h l e) b)
+  leads-behind {t} {u} {v} h (next {a} {p} l b) r = after (S.step u a) refl r (λ x e. leads-behind {t = a ∷ t} (stepped h l e) b)
     where
       after : (o : Option A) → S.step u a ≡ o → elim o [ none ↦ none | some x ↦ run S x p ] ≡ some v
           → ((x : A) → S.step u a ≡ some x → run S x p ≡ some v → Leads S (reverse_aux p (a ∷ t)) v) → Leads S (reverse_aux p (a ∷ t)) v

@@ -1,7 +1,7 @@
 -- Classes of occurrences: the occurrences of a class are entered by the same labels and led to from the same classes (a backward
 -- bisimulation), so that the same paths reach them and a cover set has all of them with a state or none. Where there are at most 64 states,
 -- sets stand turned with one column for each class (Turned). What is prepared for steps by classes, and what a step promises.
-use Rattle.core.specs.Prelude.{◌≡◌, ℕ, suc, ◌+◌, ◌*◌, ◌%◌, ◌<◌, ◌≤◌, ◌⊎◌, ◌↔◌, List, length, slice_index, slice_index_or}
+use Rattle.std.specs.Prelude.{◌≡◌, ℕ, suc, ◌+◌, ◌*◌, ◌%◌, ◌<◌, ◌≤◌, ◌⊎◌, ◌↔◌, List, length, slice_index, slice_index_or}
 use Rattle.theory.specs.Places.{Member}
 use Rattle.theory.specs.Closure.{Reaches}
 use Rattle.verdict.specs.Tables.{occupied, Ready}

@@ -1,5 +1,5 @@
 -- How pairs stand in the workspace: with the cover set as it is, or turned (Turned).
-use Rattle.core.specs.Prelude.{◌≡◌, ℕ, zero, suc, ◌<◌, Bool, true, false, List, slice_index}
+use Rattle.std.specs.Prelude.{◌≡◌, ℕ, zero, suc, ◌<◌, Bool, true, false, List, slice_index}
 use Rattle.verdict.specs.Pairs.{Pair}
 use Rattle.verdict.specs.Turned.{Turned}
 

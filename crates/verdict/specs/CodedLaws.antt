@@ -1,6 +1,6 @@
 -- The laws of how pairs stand in the workspace (Coded): a pair is known from how it stands, and how it stands from the pair. The layouts of
 -- numbers of columns.
-use Rattle.core.specs.Prelude.{◌≡◌, ℕ, zero, suc, ◌*◌, ◌^◌, ◌<◌, Bool, true, false, List, slice_index}
+use Rattle.std.specs.Prelude.{◌≡◌, ℕ, zero, suc, ◌*◌, ◌^◌, ◌<◌, Bool, true, false, List, slice_index}
 use Rattle.std.specs.Prelude.{refl}
 use Rattle.std.proofs.Common.{sym, ◌∙◌, subst, mul-zero, arith}
 use Rattle.verdict.specs.Pairs.{Pair}

@@ -1,6 +1,6 @@
 -- Cover sets by columns, where there are at most 64 states: the column of an offset is the set of the states that have a place with this
 -- offset in the set. What is prepared for steps by columns, and what a step promises.
-use Rattle.core.specs.Prelude.{◌≡◌, ℕ, zero, suc, ◌+◌, ◌*◌, ◌/◌, ◌%◌, ◌^◌, ◌<◌, ◌≤◌, ◌↔◌, List, slice_index}
+use Rattle.std.specs.Prelude.{◌≡◌, ℕ, zero, suc, ◌+◌, ◌*◌, ◌/◌, ◌%◌, ◌^◌, ◌<◌, ◌≤◌, ◌↔◌, List, slice_index}
 use Rattle.theory.specs.Places.{Member}
 use Rattle.theory.specs.Closure.{Reaches}
 use Rattle.verdict.specs.Tables.{occupied}

@@ -1,6 +1,6 @@
 -- A step by columns is the step of the cover set (Cover), whether each offset has a column of its own (Columns) or shares one (Classes): the
 -- columns hold the places that the label leads to, and the states alone that are reached from them.
-use Rattle.core.specs.Prelude.{◌≡◌, ℕ, zero, suc, ◌+◌, ◌*◌, ◌/◌, ◌%◌, ◌<◌, ◌≤◌, ◌⊎◌, ◌↔◌, List, length, slice_index}
+use Rattle.std.specs.Prelude.{◌≡◌, ℕ, zero, suc, ◌+◌, ◌*◌, ◌/◌, ◌%◌, ◌<◌, ◌≤◌, ◌⊎◌, ◌↔◌, List, length, slice_index}
 use Rattle.std.proofs.Common.{inl, inr, sym, ◌∙◌, subst, mod-lt, arith}
 use Rattle.std.specs.Prelude.{refl}
 use Rattle.std.proofs.Math.Decide.{ℕ_discrete}

@@ -1,6 +1,6 @@
 -- What is reached from one cover place without reading a label (`ends` of Cover), said with Glushkov's relations: a list ends at an
 -- occurrence that can be read last, or a list with the empty path is passed over.
-use Rattle.core.specs.Prelude.{◌≡◌, ℕ, zero, suc, ◌+◌, ◌-◌, ◌*◌, ◌/◌, ◌%◌, ◌<◌, ◌≤◌, ◌⊎◌, ◌↔◌, List, [], ◌∷◌, map, length}
+use Rattle.std.specs.Prelude.{◌≡◌, ℕ, zero, suc, ◌+◌, ◌-◌, ◌*◌, ◌/◌, ◌%◌, ◌<◌, ◌≤◌, ◌⊎◌, ◌↔◌, List, [], ◌∷◌, map, length}
 use Rattle.std.proofs.Common.{inl, inr, sym, ap, ◌∙◌, subst, add-zero, arith, le-leb, ne_eqb}
 use Rattle.std.specs.Prelude.{refl}
 use Rattle.std.proofs.Math.Nat.{mul-mod_right, mul-div_right}

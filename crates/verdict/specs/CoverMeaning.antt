@@ -1,6 +1,6 @@
 -- Which cover places a path reaches (document 01), and how that goes on: a label enters a list or moves within one, and where a path of a
 -- list ends its state is reached. Said on the meaning alone, with reading place by place.
-use Rattle.core.specs.Prelude.{◌≡◌, ℕ, zero, suc, ◌+◌, ◌*◌, ◌<◌, ◌≤◌, ◌↔◌, List, [], ◌∷◌, ◌++◌, length, slice_index}
+use Rattle.std.specs.Prelude.{◌≡◌, ℕ, zero, suc, ◌+◌, ◌*◌, ◌<◌, ◌≤◌, ◌↔◌, List, [], ◌∷◌, ◌++◌, length, slice_index}
 use Rattle.std.proofs.Common.{append-nil, append_assoc, inl, inr, sym, ap, ◌∙◌, subst, add-zero, arith}
 use Rattle.std.specs.Prelude.{refl}
 use Rattle.theory.specs.Path.{Label, Path, Language}

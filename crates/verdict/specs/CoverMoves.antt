@@ -1,8 +1,8 @@
 -- What the step over a label does to one cover place (`moves` of Cover), said with Glushkov's relations: it enters a list at an occurrence
 -- that can be read first, or moves within a list to an occurrence that can follow.
-use Rattle.core.specs.Prelude.{◌≡◌, ℕ, zero, suc, ◌+◌, ◌-◌, ◌*◌, ◌/◌, ◌%◌, ◌^◌, ◌<◌, ◌≤◌, ◌⊎◌, ◌↔◌, List, [], ◌∷◌, map, length, slice_index}
+use Rattle.std.specs.Prelude.{◌≡◌, ℕ, zero, suc, ◌+◌, ◌-◌, ◌*◌, ◌/◌, ◌%◌, ◌^◌, ◌<◌, ◌≤◌, ◌⊎◌, ◌↔◌, List, [], ◌∷◌, map, length, slice_index}
 use Rattle.std.proofs.Common.{inl, inr, sym, ap, ◌∙◌, subst, add-zero, arith, le-leb, ne_eqb}
-use Rattle.std.proofs.Math.Logic.{Iff·and, Iff·trans}
+use Rattle.std.proofs.Math.Logic.Iff
 use Rattle.std.specs.Prelude.{refl}
 use Rattle.std.proofs.Math.Nat.{mul-mod_right, mul-div_right}
 use Rattle.std.proofs.lemmas.Bool.{lt-leb}
@@ -26,7 +26,7 @@ step_from e x a = intersection (slice_index (glushkov e).follow x) ((glushkov e)
 
 member-step_from : (e : Expression) (x : ℕ) (a : Label) (z : ℕ) → Member z (step_from e x a) ↔ (FollowFrom e x z × Labelled 1 e z a)
 member-step_from e x a z =
-    Iff·trans (member-intersection z (slice_index (glushkov e).follow x) ((glushkov e).enter a)) (Iff·and (member-entry e x z) (member-enter e a z))
+    Iff.trans (member-intersection z (slice_index (glushkov e).follow x) ((glushkov e).enter a)) (Iff.and (member-entry e x z) (member-enter e a z))
 
 -- The lists that a label enters.
 

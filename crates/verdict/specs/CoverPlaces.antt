@@ -1,7 +1,7 @@
 -- The numbers of cover places (document 01): where a state with a place of one list stands, over the lists' expressions. Place 0 of a list,
 -- its start, is the state alone, for every list; the occurrences of the lists come after it, list by list. So every number is that of one
 -- cover place.
-use Rattle.core.specs.Prelude.{◌≡◌, ℕ, zero, suc, ◌+◌, ◌-◌, ◌*◌, ◌/◌, ◌%◌, ◌<◌, ◌≤◌, ◌⊎◌, List, [], ◌∷◌, map, length, take, ◌≢◌, slice_index_or}
+use Rattle.std.specs.Prelude.{◌≡◌, ℕ, zero, suc, ◌+◌, ◌-◌, ◌*◌, ◌/◌, ◌%◌, ◌<◌, ◌≤◌, ◌⊎◌, List, [], ◌∷◌, map, length, take, ◌≢◌, slice_index_or}
 use Rattle.std.proofs.Common.{inl, inr, sym, ap, ◌∙◌, mod-lt, add-zero, mul_comm, mul-le-mul_right, arith}
 use Rattle.std.specs.Prelude.{refl}
 use Rattle.std.proofs.Math.Decide.{dec_le, ℕ_discrete}

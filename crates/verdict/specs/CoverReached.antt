@@ -1,7 +1,7 @@
 -- The set of cover places that a path leads to holds exactly the cover places that the path reaches (document 01). Every member is reached:
 -- reached places are kept by the steps over labels and by the ends of lists. Every place reached is a member: the sets are closed under the
 -- ends of lists, so a word that spells the path leads through them, list by list and label by label.
-use Rattle.core.specs.Prelude.{◌≡◌, ℕ, zero, suc, ◌+◌, ◌*◌, ◌^◌, ◌<◌, ◌≤◌, ◌↔◌, List, [], ◌∷◌, ◌++◌, map, length}
+use Rattle.std.specs.Prelude.{◌≡◌, ℕ, zero, suc, ◌+◌, ◌*◌, ◌^◌, ◌<◌, ◌≤◌, ◌↔◌, List, [], ◌∷◌, ◌++◌, map, length}
 use Rattle.std.proofs.Common.{append-nil, append_assoc, sym, ap, ◌∙◌}
 use Rattle.std.specs.Prelude.{refl}
 use Rattle.std.proofs.Math.Path.{subst}

@@ -1,5 +1,5 @@
 -- The step of a cover set is what its two parts give, and the start likewise, where the tables are proper (Tables).
-use Rattle.core.specs.Prelude.{◌≡◌, ℕ, suc, ◌*◌, ◌%◌, ◌^◌, ◌<◌, ◌≤◌, List}
+use Rattle.std.specs.Prelude.{◌≡◌, ℕ, suc, ◌*◌, ◌%◌, ◌^◌, ◌<◌, ◌≤◌, List}
 use Rattle.std.proofs.Math.Path.{sym, ap, subst}
 use Rattle.std.proofs.Common.{◌∙◌, mul-pos, arith}
 use Rattle.std.proofs.Math.Nat.{mod-eq_of_lt}

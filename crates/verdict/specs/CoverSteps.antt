@@ -1,6 +1,6 @@
 -- The cover's functions (Cover) over automata in tables (Tables), one list at a time, as loops over the lists go: v is the number of the
 -- next list, m + 1 lists are left.
-use Rattle.core.specs.Prelude.{◌≡◌, ℕ, suc, ◌+◌, ◌-◌, ◌*◌, ◌%◌, ◌^◌, ◌<◌, ◌≤◌, List, length, slice_index}
+use Rattle.std.specs.Prelude.{◌≡◌, ℕ, suc, ◌+◌, ◌-◌, ◌*◌, ◌%◌, ◌^◌, ◌<◌, ◌≤◌, List, length, slice_index}
 use Rattle.std.proofs.Common.{sym, ap, ◌∙◌, mul_assoc, add_comm, add-one, arith, pow-add}
 use Rattle.std.proofs.Math.Path.{ap₂}
 use Rattle.std.proofs.lemmas.Nat.{or_mod}

@@ -1,6 +1,6 @@
 -- What the functions on cover sets promise: each adds what the cover's definitions (Cover) say to a set, or gives it, as numbers. What a
 -- function does not read is any list.
-use Rattle.core.specs.Prelude.{◌≡◌, ℕ, suc, ◌+◌, ◌*◌, ◌%◌, ◌^◌, ◌<◌, ◌≤◌, List, length, slice_index}
+use Rattle.std.specs.Prelude.{◌≡◌, ℕ, suc, ◌+◌, ◌*◌, ◌%◌, ◌^◌, ◌<◌, ◌≤◌, List, length, slice_index}
 use Rattle.theory.specs.Places.{union, union_over}
 use Rattle.places.specs.Words.{number_of}
 use Rattle.verdict.specs.Cover.{places, entered, moved_within, moves, passed, finished, ends, settled, cover_start, cover_step}

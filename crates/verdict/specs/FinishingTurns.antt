@@ -1,6 +1,6 @@
 -- The loops that read what the states lead to (Columns, Passing): the words of the state 0, and the entries where paths of lists end
 -- (Finishing). What they keep, turn by turn.
-use Rattle.core.specs.Prelude.{◌≡◌, ℕ, ◌+◌, ◌*◌, ◌/◌, ◌%◌, ◌^◌, ◌<◌, ◌≤◌, Bool, true, ◌↔◌, List, length, slice_index, slice_index_or, slice_set}
+use Rattle.std.specs.Prelude.{◌≡◌, ℕ, ◌+◌, ◌*◌, ◌/◌, ◌%◌, ◌^◌, ◌<◌, ◌≤◌, Bool, true, ◌↔◌, List, length, slice_index, slice_index_or, slice_set}
 use Rattle.std.specs.Prelude.{refl}
 use Rattle.std.proofs.Common.{sym, ap, ◌∙◌, subst, mul_comm, arith, length-set, pow_pos, get_or-set_same, get_or-set_other, below_more}
 use Rattle.std.proofs.Math.Decide.{ℕ_discrete, dec_lt}

@@ -1,6 +1,6 @@
 -- The first cover set, of the empty path (Cover): it has states alone, those that lists with the empty path lead to from the first. So where
 -- sets stand turned, with a column for the states alone, it is the set of these states.
-use Rattle.core.specs.Prelude.{◌≡◌, ℕ, suc, ◌+◌, ◌*◌, ◌^◌, ◌<◌, ◌≤◌, Bool, true, false, ◌↔◌, List, length, slice_index}
+use Rattle.std.specs.Prelude.{◌≡◌, ℕ, suc, ◌+◌, ◌*◌, ◌^◌, ◌<◌, ◌≤◌, Bool, true, false, ◌↔◌, List, length, slice_index}
 use Rattle.std.specs.Prelude.{refl}
 use Rattle.std.proofs.Common.{sym, ap, ◌∙◌, mul_comm, mul-zero}
 use Rattle.std.proofs.Math.Path.{subst}

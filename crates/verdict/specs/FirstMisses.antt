@@ -1,6 +1,6 @@
 -- The first entry whose pair misses holds the first missed path of a job (document 01): entries stand in the order of their least paths, and
 -- every query path is a path over the job's labels, so that it has an entry.
-use Rattle.core.specs.Prelude.{◌≡◌, ℕ, zero, suc, ◌<◌, Bool, true, false, ◌⊎◌, List, [], ◌∷◌, reverse, length, slice_index_or}
+use Rattle.std.specs.Prelude.{◌≡◌, ℕ, zero, suc, ◌<◌, Bool, true, false, ◌⊎◌, List, [], ◌∷◌, reverse, length, slice_index_or}
 use Rattle.std.proofs.lemmas.Bool.{false≢true}
 use Rattle.std.proofs.Common.{inl, inr, sym, ◌∙◌, subst, arith}
 use Rattle.std.proofs.Math.Option.{some, none, some-injective, none-ne-some}

@@ -1,5 +1,5 @@
 -- Rounds of a closure (theory: Closure) that follow only the places that the round before them added.
-use Rattle.core.specs.Prelude.{◌≡◌, ℕ, ◌<◌, ◌⊎◌}
+use Rattle.std.specs.Prelude.{◌≡◌, ℕ, ◌<◌, ◌⊎◌}
 use Rattle.std.proofs.Common.{inl, inr, sym, subst}
 use Rattle.theory.specs.Places.{Member, union, union_over}
 use Rattle.theory.specs.PlacesLaws.{dec_member, member_union, member-union_over, equal-members}

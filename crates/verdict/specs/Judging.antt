@@ -1,6 +1,6 @@
 -- The answers of the verdict's functions are the definition's (VerdictTold): the first missed pair of those held and its path, and the four
 -- ways through the verdict.
-use Rattle.core.specs.Prelude.{◌≡◌, ℕ, suc, ◌+◌, ◌-◌, ◌*◌, ◌<◌, ◌≤◌, List, reverse, length, take, drop, ◌≢◌, slice_index}
+use Rattle.std.specs.Prelude.{◌≡◌, ℕ, suc, ◌+◌, ◌-◌, ◌*◌, ◌<◌, ◌≤◌, List, reverse, length, take, drop, ◌≢◌, slice_index}
 use Rattle.std.proofs.Math.Option.{Option, some, none}
 use Rattle.std.proofs.Math.Path.{refl, sym, ap, subst}
 use Rattle.std.proofs.Common.{◌∙◌, arith, length-drop, ext_get_or, get_or-drop, le-leb}

@@ -1,10 +1,10 @@
 -- A pair misses exactly when its paths are missed (document 01): they are query paths, and no accepted list word spells them, since none of
 -- the states that they reach alone accepts.
-use Rattle.core.specs.Prelude.{◌≡◌, ℕ, zero, suc, ◌*◌, ◌<◌, true, false, ◌⊎◌, ◌↔◌, ◌==◌, slice_index}
+use Rattle.std.specs.Prelude.{◌≡◌, ℕ, zero, suc, ◌*◌, ◌<◌, true, false, ◌⊎◌, ◌↔◌, ◌==◌, slice_index}
 use Rattle.std.proofs.Math.Bool.{and-eq-true_iff}
 use Rattle.std.proofs.lemmas.Bool.{false≢true}
 use Rattle.std.proofs.Common.{inl, inr, sym, ap, ◌∙◌, arith}
-use Rattle.std.proofs.Math.Logic.{Iff·and, Iff·symm, Iff·trans}
+use Rattle.std.proofs.Math.Logic.Iff
 use Rattle.std.specs.Prelude.{refl}
 use Rattle.std.proofs.Math.Decide.{ℕ_discrete}
 use borrow.Author.Tests.{eqb-true, eq-eqb}
@@ -86,9 +86,9 @@ module _ (J : Job) (R : Rewritten) (decides : Decides J R) where
   pub misses-exactly : (p : Path) → (misses (glushkov J.query) R (automata J) (pair_of J R p) ≡ true) ↔ Missed J p
   unfolding misses
   misses-exactly p =
-      Iff·trans (and-eq-true_iff (accepts (glushkov J.query) (standing (glushkov J.query) p)) (accepting_places J R p == 0))
-      (Iff·and (Iff·symm (glushkov-accepts J.query p))
-      (Iff·trans (eqb-true (accepting_places J R p) 0, eq-eqb (accepting_places J R p) 0) (none-yielded p)))
+      Iff.trans (and-eq-true_iff (accepts (glushkov J.query) (standing (glushkov J.query) p)) (accepting_places J R p == 0))
+      (Iff.and (Iff.symm (glushkov-accepts J.query p))
+      (Iff.trans (eqb-true (accepting_places J R p) 0, eq-eqb (accepting_places J R p) 0) (none-yielded p)))
 
   -- The query paths of a pair that does not miss are yielded.
   pub kept-yielded : (p : Path) → misses (glushkov J.query) R (automata J) (pair_of J R p) ≡ false → QueryPath J p → Yielded J p

@@ -1,9 +1,9 @@
 -- The exploration of pairs tells how many distinct pairs the paths of a job have (document 01): `over` exactly where there are more than
 -- the allowance, and otherwise as many entries as there are pairs.
-use Rattle.core.specs.Prelude.{◌≡◌, ℕ, suc, ◌<◌, ◌≤◌, ◌↔◌, List, [], ◌∷◌, map, reverse, length, get_or, ◌==◌, slice_index_or}
+use Rattle.std.specs.Prelude.{◌≡◌, ℕ, suc, ◌<◌, ◌≤◌, ◌↔◌, List, [], ◌∷◌, map, reverse, length, get_or, ◌==◌, slice_index_or}
 use Rattle.std.proofs.Math.Bool.{and-eq-true_iff}
 use Rattle.std.proofs.lemmas.List.{reverse-reverse, length-map}
-use Rattle.std.proofs.Math.Logic.{Iff·trans}
+use Rattle.std.proofs.Math.Logic.Iff
 use Rattle.std.proofs.Math.Option.{some, some-injective}
 use Rattle.std.specs.Prelude.{refl}
 use Rattle.std.proofs.Common.{sym, ◌∙◌, subst, arith, eqb-true, eq-eqb}
@@ -112,7 +112,7 @@ module _ (J : Job) (R : Rewritten) where
         → (pairs (glushkov J.query) J.labels R (automata J) allowance ≡ over) ↔ DistinctPairs J R (suc allowance)
     unfolding pairs
     pairs-over allowance =
-        Iff·trans (over-exactly (pair-tests (glushkov J.query) J.labels R (automata J))) (exceeds-distinct, distinct-exceeds)
+        Iff.trans (over-exactly (pair-tests (glushkov J.query) J.labels R (automata J))) (exceeds-distinct, distinct-exceeds)
 
     pub pairs-explored : (allowance : ℕ) (l : List (Entry Pair))
         → pairs (glushkov J.query) J.labels R (automata J) allowance ≡ all l → Explored (job_pairs J R) l × (length l ≤ allowance)

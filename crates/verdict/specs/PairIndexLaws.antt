@@ -1,6 +1,6 @@
 -- The laws of the index of pairs (PairIndex): the bucket is computed word by word, the index grows with the pairs, and the walk along a
 -- chain finds a pair that is among them (finding: BucketsLaws).
-use Rattle.core.specs.Prelude.{◌≡◌, ℕ, zero, suc, ◌+◌, ◌-◌, ◌*◌, ◌/◌, ◌%◌, ◌^◌, ◌<◌, ◌≤◌, true, false, List, [], ◌∷◌, length, drop, replicate, bit_xor, slice_index, slice_index_or}
+use Rattle.std.specs.Prelude.{◌≡◌, ℕ, zero, suc, ◌+◌, ◌-◌, ◌*◌, ◌/◌, ◌%◌, ◌^◌, ◌<◌, ◌≤◌, true, false, List, [], ◌∷◌, length, drop, replicate, bit_xor, slice_index, slice_index_or}
 use Rattle.std.proofs.Common.{true≢false, sym, ap, ap₂, ◌∙◌, subst, subst₂, arith, below_none, below_more}
 use Rattle.std.proofs.lemmas.Bool.{false≢true}
 use Rattle.std.specs.Prelude.{refl}

@@ -1,7 +1,7 @@
 -- Two paths lead to one pair of numbers exactly when they have the same pair (document 01): the same query standing, and the same cover
 -- places reached.
-use Rattle.core.specs.Prelude.{◌≡◌, ℕ, suc, ◌<◌, ◌≤◌, ◌↔◌, [], length, slice_index_or}
-use Rattle.std.proofs.Math.Logic.{Iff·trans, Iff·symm}
+use Rattle.std.specs.Prelude.{◌≡◌, ℕ, suc, ◌<◌, ◌≤◌, ◌↔◌, [], length, slice_index_or}
+use Rattle.std.proofs.Math.Logic.Iff
 use Rattle.std.proofs.Common.{sym, ap, subst, arith}
 use Rattle.theory.specs.Path.{Path}
 use Rattle.theory.specs.Standing.{size}
@@ -37,17 +37,17 @@ held_same J R p r same n (within q v x l e h) =
 pub same-pair-sym : {J : Job} {R : Rewritten} {p r : Path} → SamePair J R p r → SamePair J R r p
 same-pair-sym same =
     record {
-      standing = λ x. Iff·symm (same.standing x);
-      states = λ q. Iff·symm (same.states q);
-      occurrences = λ q v x l. Iff·symm (same.occurrences q v x l);
+      standing = λ x. Iff.symm (same.standing x);
+      states = λ q. Iff.symm (same.states q);
+      occurrences = λ q v x l. Iff.symm (same.occurrences q v x l);
     }
 
 pub same-pair-trans : {J : Job} {R : Rewritten} {p r s : Path} → SamePair J R p r → SamePair J R r s → SamePair J R p s
 same-pair-trans f g =
     record {
-      standing = λ x. Iff·trans (f.standing x) (g.standing x);
-      states = λ q. Iff·trans (f.states q) (g.states q);
-      occurrences = λ q v x l. Iff·trans (f.occurrences q v x l) (g.occurrences q v x l);
+      standing = λ x. Iff.trans (f.standing x) (g.standing x);
+      states = λ q. Iff.trans (f.states q) (g.states q);
+      occurrences = λ q v x l. Iff.trans (f.occurrences q v x l) (g.occurrences q v x l);
     }
 
 -- There are no more distinct pairs than are counted, so a count of all pairs is the only one.

@@ -1,6 +1,6 @@
 -- Pairs in a lent workspace: 18 words a pair. Word 0 is the standing, words 1 to 16 are the cover set, and word 17 tells how the pair was
 -- first reached: its lowest 13 bits are the place of the pair before it, the next 6 bits the label.
-use Rattle.core.specs.Prelude.{◌≡◌, ℕ, zero, suc, ◌+◌, ◌*◌, ◌/◌, ◌%◌, ◌^◌, ◌<◌, ◌≤◌, Bool, true, false, List, [], ◌∷◌, length, ◌≢◌, slice_index, slice_index_or}
+use Rattle.std.specs.Prelude.{◌≡◌, ℕ, zero, suc, ◌+◌, ◌*◌, ◌/◌, ◌%◌, ◌^◌, ◌<◌, ◌≤◌, Bool, true, false, List, [], ◌∷◌, length, ◌≢◌, slice_index, slice_index_or}
 use Rattle.theory.specs.Exploration.{System, Entry}
 use Rattle.theory.specs.Explored.{entry_at}
 use Rattle.places.specs.Words.{number_of}

@@ -1,5 +1,5 @@
 -- Pairs (document 01): of a path over the job's labels, its query standing with the set of cover places that it reaches; by exploration.
-use Rattle.core.specs.Prelude.{ℕ, Bool, true, false, ◌&&◌, List, [], ◌∷◌, reverse, ◌==◌}
+use Rattle.std.specs.Prelude.{ℕ, Bool, true, false, ◌&&◌, List, [], ◌∷◌, reverse, ◌==◌}
 use Rattle.std.proofs.Math.Option.{Option, some, none}
 use Rattle.theory.specs.Path.{Path}
 use Rattle.theory.specs.Places.{one, intersection}

@@ -1,6 +1,6 @@
 -- What the exploration of pairs promises: the entries that `pairs` tells (Pairs) are held in the workspace (PairTable), the cover sets in some
 -- layout (Coded); or there are more pairs than the allowance.
-use Rattle.core.specs.Prelude.{◌≡◌, ℕ, suc, ◌+◌, ◌*◌, ◌<◌, ◌≤◌, List, length, take, slice_index, slice_index_or}
+use Rattle.std.specs.Prelude.{◌≡◌, ℕ, suc, ◌+◌, ◌*◌, ◌<◌, ◌≤◌, List, length, take, slice_index, slice_index_or}
 use Rattle.theory.specs.Automaton.{nexts, step}
 use Rattle.theory.specs.Exploration.{System, Entry, all, over, row}
 use Rattle.theory.specs.Explored.{entry_at}

@@ -1,5 +1,5 @@
 -- The loops that tell which states lists with the empty path lead to (Columns, Passing): what they keep, turn by turn.
-use Rattle.core.specs.Prelude.{◌≡◌, ℕ, ◌+◌, ◌*◌, ◌/◌, ◌%◌, ◌^◌, ◌<◌, ◌≤◌, Bool, false, ◌≢◌, ◌⊎◌, ◌↔◌, List, length, slice_index, slice_index_or, slice_set}
+use Rattle.std.specs.Prelude.{◌≡◌, ℕ, ◌+◌, ◌*◌, ◌/◌, ◌%◌, ◌^◌, ◌<◌, ◌≤◌, Bool, false, ◌≢◌, ◌⊎◌, ◌↔◌, List, length, slice_index, slice_index_or, slice_set}
 use Rattle.std.proofs.Common.{inl, inr, sym, ap, ◌∙◌, subst, mul_comm, mul-le-mul_right, arith, get_or-set_same, get_or-set_other}
 use Rattle.std.specs.Prelude.{refl}
 use Rattle.std.proofs.Math.Decide.{ℕ_discrete}

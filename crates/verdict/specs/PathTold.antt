@@ -1,5 +1,5 @@
 -- The path of a pair that is held in a workspace (PairTable), by following the pairs before it: its length, and its labels in a lent buffer.
-use Rattle.core.specs.Prelude.{◌≡◌, ℕ, suc, ◌+◌, ◌-◌, ◌<◌, ◌≤◌, ◌≢◌, List, [], ◌∷◌, ◌++◌, reverse, length, take, drop, slice_index, slice_set}
+use Rattle.std.specs.Prelude.{◌≡◌, ℕ, suc, ◌+◌, ◌-◌, ◌<◌, ◌≤◌, ◌≢◌, List, [], ◌∷◌, ◌++◌, reverse, length, take, drop, slice_index, slice_set}
 use mathlib.Core.List.{reverse-cons, append_assoc, append-nil}
 use Rattle.std.specs.Prelude.{refl}
 use Rattle.std.proofs.Common.{sym, ap, ◌∙◌, arith, length-set, length-take, drop_of_length-le, drop-cons, drop-set-lt, get_or-set_same, get_or-set_other, length-take-le}

@@ -1,5 +1,5 @@
 -- Whether there are few enough cover places, told from the width (VerdictTold, Placed).
-use Rattle.core.specs.Prelude.{ℕ, suc, ◌*◌, ◌<◌, ◌≤◌, List}
+use Rattle.std.specs.Prelude.{ℕ, suc, ◌*◌, ◌<◌, ◌≤◌, List}
 use Rattle.std.proofs.Common.{ap, mul-le-mul_left, mul-one, arith}
 use Rattle.verdict.specs.Tables.{occupied, Counted}
 use Rattle.verdict.specs.CoverTold.{WidthTold}

@@ -1,7 +1,7 @@
 -- Steps of turned sets are prepared, by columns (Columns) where there are at most 64 states, else by ranges (Ranges): the tables have room,
 -- and it is known which places lead to each place of a list and which states are reached where a path of a list ends, or from each state. Or
 -- steps by classes (Classes) are, or steps by rows of two words (WideRows): then sets stand as they are.
-use Rattle.core.specs.Prelude.{◌≡◌, ℕ, ◌*◌, ◌<◌, ◌≤◌, Bool, true, false, ◌↔◌, List, length}
+use Rattle.std.specs.Prelude.{◌≡◌, ℕ, ◌*◌, ◌<◌, ◌≤◌, Bool, true, false, ◌↔◌, List, length}
 use Rattle.std.proofs.Common.{sym, subst, mul-le-mul_left, arith}
 use Rattle.theory.specs.Places.{Member}
 use Rattle.theory.specs.Closure.{Reaches}

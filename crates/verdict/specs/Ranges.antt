@@ -1,6 +1,6 @@
 -- Turned cover sets (Turned) with more than 64 states: the column of an offset is a range of n places, up to four words of them. What is
 -- prepared for steps by such ranges, and what a step promises.
-use Rattle.core.specs.Prelude.{◌≡◌, ℕ, ◌+◌, ◌*◌, ◌<◌, ◌≤◌, ◌⊎◌, ◌↔◌, List, length, slice_index}
+use Rattle.std.specs.Prelude.{◌≡◌, ℕ, ◌+◌, ◌*◌, ◌<◌, ◌≤◌, ◌⊎◌, ◌↔◌, List, length, slice_index}
 use Rattle.theory.specs.Places.{Member}
 use Rattle.places.specs.Words.{number_of}
 use Rattle.verdict.specs.Tables.{occupied, Counted}

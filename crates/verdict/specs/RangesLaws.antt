@@ -1,6 +1,6 @@
 -- What a step by ranges asks (Ranges), where the tables are ready and the states that are reached from each state are told; and where the
 -- places after it lie.
-use Rattle.core.specs.Prelude.{◌≡◌, ℕ, suc, ◌+◌, ◌*◌, ◌^◌, ◌<◌, ◌≤◌, List, length, slice_index}
+use Rattle.std.specs.Prelude.{◌≡◌, ℕ, suc, ◌+◌, ◌*◌, ◌^◌, ◌<◌, ◌≤◌, List, length, slice_index}
 use Rattle.std.proofs.Common.{inl, inr, subst, mul_comm, arith}
 use Rattle.theory.specs.PlacesLaws.{members-below}
 use Rattle.theory.specs.Closure.{here}

@@ -1,5 +1,5 @@
 -- Places of a set that lie together, as a set: a row of a cover set, or of a turned set a column.
-use Rattle.core.specs.Prelude.{ℕ, ◌/◌, ◌%◌, ◌^◌}
+use Rattle.std.specs.Prelude.{ℕ, ◌/◌, ◌%◌, ◌^◌}
 
 -- The w places of s from `at` on, counted from `at`.
 abbrev pub row_of : ℕ → ℕ → ℕ → ℕ

@@ -1,5 +1,5 @@
 -- The pairs explored in the layout that the columns give (PairsTold, Coded), and words that are all zero.
-use Rattle.core.specs.Prelude.{◌≡◌, ℕ, zero, suc, ◌<◌, Bool, true, false, List, replicate, slice_index}
+use Rattle.std.specs.Prelude.{◌≡◌, ℕ, zero, suc, ◌<◌, Bool, true, false, List, replicate, slice_index}
 use Rattle.std.specs.Prelude.{refl}
 use Rattle.std.proofs.Math.Decide.{dec_lt}
 use Rattle.std.proofs.Common.{arith}

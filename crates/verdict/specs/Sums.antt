@@ -1,6 +1,6 @@
 -- Sums of what is reached where a path of a list ends (Columns, Finishing): one word for each set of four neighbouring states. The words of
 -- the lists stand first, 64 for each; behind them stand the sums, sixteen for each four states of a list.
-use Rattle.core.specs.Prelude.{◌≡◌, ℕ, ◌+◌, ◌*◌, ◌/◌, ◌%◌, ◌^◌, ◌<◌, ◌≤◌, List, length, slice_index}
+use Rattle.std.specs.Prelude.{◌≡◌, ℕ, ◌+◌, ◌*◌, ◌/◌, ◌%◌, ◌^◌, ◌<◌, ◌≤◌, List, length, slice_index}
 use Rattle.theory.specs.Places.{Member, union_over}
 
 -- How many times four states there are, an even number, the last perhaps empty.

@@ -1,6 +1,6 @@
 -- What is reached from one cover place without reading a label (`ends` of Cover), said with the entries of the tables (Tables): from a
 -- state alone the states that lists with the empty path lead to, from an occurrence the state where its list may end.
-use Rattle.core.specs.Prelude.{◌≡◌, ℕ, zero, suc, ◌+◌, ◌-◌, ◌*◌, ◌<◌, ◌≤◌, ◌⊎◌, List, length, slice_index, slice_index_or}
+use Rattle.std.specs.Prelude.{◌≡◌, ℕ, zero, suc, ◌+◌, ◌-◌, ◌*◌, ◌<◌, ◌≤◌, ◌⊎◌, List, length, slice_index, slice_index_or}
 use Rattle.std.proofs.Common.{inl, inr, sym, ap₂, ◌∙◌}
 use Rattle.std.specs.Prelude.{refl}
 use Rattle.std.proofs.Math.Path.{ap, subst}

@@ -1,6 +1,6 @@
 -- The step of one cover place over a label (`moves` of Cover), said with the entries of the tables (Tables): from a place of a list to
 -- those places that follow it and that the label enters.
-use Rattle.core.specs.Prelude.{◌≡◌, ℕ, zero, suc, ◌+◌, ◌-◌, ◌*◌, ◌/◌, ◌%◌, ◌^◌, ◌<◌, ◌≤◌, ◌⊎◌, List, [], length, slice_index, slice_index_or}
+use Rattle.std.specs.Prelude.{◌≡◌, ℕ, zero, suc, ◌+◌, ◌-◌, ◌*◌, ◌/◌, ◌%◌, ◌^◌, ◌<◌, ◌≤◌, ◌⊎◌, List, [], length, slice_index, slice_index_or}
 use Rattle.std.proofs.Common.{inl, inr, sym, ◌∙◌, mod-lt}
 use Rattle.std.specs.Prelude.{refl}
 use Rattle.std.proofs.Math.Path.{ap, ap₂, subst}

@@ -1,7 +1,7 @@
 -- The automata of a job's expressions side by side in lent tables: expression x has its follow sets in the 64 entries from 64 × x on, the
 -- places that each label enters in the 32 entries from 32 × x on, its number of occurrences and its accepting places. Expression 0 is the
 -- query, and the list number v is expression v + 1.
-use Rattle.core.specs.Prelude.{◌≡◌, ℕ, zero, suc, ◌+◌, ◌*◌, ◌^◌, ◌<◌, ◌≤◌, List, [], ◌∷◌, length, take, drop, slice_index}
+use Rattle.std.specs.Prelude.{◌≡◌, ℕ, zero, suc, ◌+◌, ◌*◌, ◌^◌, ◌<◌, ◌≤◌, List, [], ◌∷◌, length, take, drop, slice_index}
 use Rattle.theory.specs.Automaton.{Automaton}
 use Rattle.finding.specs.Plain.{plain}
 use Rattle.finding.specs.Rewritten.{Rewritten}

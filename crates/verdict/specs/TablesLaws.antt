@@ -1,5 +1,5 @@
 -- The laws of automata in tables (Tables): what each entry of an automaton is, and how many occurrences the lists have.
-use Rattle.core.specs.Prelude.{◌≡◌, ℕ, zero, suc, pred, ◌+◌, ◌-◌, ◌*◌, ◌<◌, ◌≤◌, List, length, take, drop, slice_index, slice_index_or}
+use Rattle.std.specs.Prelude.{◌≡◌, ℕ, zero, suc, pred, ◌+◌, ◌-◌, ◌*◌, ◌<◌, ◌≤◌, List, length, take, drop, slice_index, slice_index_or}
 use Rattle.std.proofs.Math.Path.{refl, ap, ap₂}
 use Rattle.std.proofs.Common.{sym, ◌∙◌, subst, add-one, arith, length-drop, length-take-le, get_or-take, get_or-drop}
 use Rattle.theory.specs.Places.{intersection}

@@ -1,7 +1,7 @@
 -- Cover sets turned: the columns of a set stand one after the other, n places each, so that a step never takes a set apart place by place.
 -- The offset o has the column number f o, of k columns: each offset its own, or one with all offsets that the same paths reach (Classes). The
 -- place of the state q with the offset o is n × f o + q there, and w × q + o in the set itself.
-use Rattle.core.specs.Prelude.{◌≡◌, ℕ, ◌+◌, ◌*◌, ◌^◌, ◌<◌, ◌↔◌, List, slice_index}
+use Rattle.std.specs.Prelude.{◌≡◌, ℕ, ◌+◌, ◌*◌, ◌^◌, ◌<◌, ◌↔◌, List, slice_index}
 use Rattle.theory.specs.Places.{Member}
 
 -- Each of k columns is that of some offset, of w offsets.

@@ -1,6 +1,6 @@
 -- The columns that stand in a turned set (Turned), one after the other: a column that is put there changes no other, and a set whose columns
 -- from the offset w on are empty has no places from n × w on.
-use Rattle.core.specs.Prelude.{◌≡◌, ℕ, ◌+◌, ◌*◌, ◌/◌, ◌%◌, ◌^◌, ◌<◌, ◌≤◌, ◌≢◌, ◌⊎◌, ◌↔◌, List, slice_index}
+use Rattle.std.specs.Prelude.{◌≡◌, ℕ, ◌+◌, ◌*◌, ◌/◌, ◌%◌, ◌^◌, ◌<◌, ◌≤◌, ◌≢◌, ◌⊎◌, ◌↔◌, List, slice_index}
 use Rattle.std.proofs.Common.{inl, inr, sym, subst, mod-lt, mul_comm, arith}
 use Rattle.std.proofs.Math.Decide.{dec_lt}
 use Rattle.std.proofs.Math.Nat.{div-add-mod}

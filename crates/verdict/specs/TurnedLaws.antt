@@ -1,6 +1,6 @@
 -- The laws of turned cover sets (Turned): a set determines its turned set and is determined by it, and each set of so many places is some set
 -- turned.
-use Rattle.core.specs.Prelude.{◌≡◌, ℕ, ◌+◌, ◌*◌, ◌/◌, ◌%◌, ◌^◌, ◌<◌}
+use Rattle.std.specs.Prelude.{◌≡◌, ℕ, ◌+◌, ◌*◌, ◌/◌, ◌%◌, ◌^◌, ◌<◌}
 use Rattle.std.specs.Prelude.{refl}
 use Rattle.std.proofs.Common.{sym, ap, ◌∙◌, subst, mod-lt, mul_comm}
 use Rattle.std.proofs.Math.Nat.{div-add-mod}

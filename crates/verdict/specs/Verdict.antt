@@ -1,5 +1,5 @@
 -- What Verdict gives (document 01): complete, or the first missed path, with the number of distinct pairs; or refusal 12 or 13.
-use Rattle.core.specs.Prelude.{ℕ, Bool, true, false, List, length, nat_le}
+use Rattle.std.specs.Prelude.{ℕ, Bool, true, false, List, length, nat_le}
 use Rattle.std.proofs.Math.Option.{Option, some, none}
 use Rattle.theory.specs.Path.{Path}
 use Rattle.theory.specs.Automaton.{Automaton}

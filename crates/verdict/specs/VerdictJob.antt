@@ -1,5 +1,5 @@
 -- The verdict on a job: Find's rewriting, then the verdict on it (document 01, "Verdict", after Read's checks).
-use Rattle.core.specs.Prelude.{ℕ, map}
+use Rattle.std.specs.Prelude.{ℕ, map}
 use Rattle.theory.specs.Job.{Job}
 use Rattle.theory.specs.Automaton.{glushkov}
 use Rattle.finding.specs.Find.{Found, found, find}

@@ -1,5 +1,5 @@
 -- What a verdict on a job means (demand 3, second part): T6 on the rewriting that Find gives.
-use Rattle.core.specs.Prelude.{◌≡◌, ℕ, ◌<◌, ◌≤◌, ◌⊎◌, length}
+use Rattle.std.specs.Prelude.{◌≡◌, ℕ, ◌<◌, ◌≤◌, ◌⊎◌, length}
 use Rattle.std.proofs.Common.{inl, inr, sym, ◌∙◌, ap, subst}
 use Rattle.std.proofs.Math.Path.{refl}
 use Rattle.theory.specs.Path.{Path}

@@ -1,7 +1,7 @@
 -- The verdict of a job (T6): it is complete exactly when every query path is yielded, and else it tells the first missed path; the count is
 -- the number of distinct pairs over all paths; refusals 12 and 13 exactly under their conditions. For every rewriting that decides the
 -- accepted words of the job, wherever it comes from, and for any limits.
-use Rattle.core.specs.Prelude.{◌≡◌, ℕ, suc, ◌*◌, ◌<◌, ◌≤◌, ◌↔◌, List, length}
+use Rattle.std.specs.Prelude.{◌≡◌, ℕ, suc, ◌*◌, ◌<◌, ◌≤◌, ◌↔◌, List, length}
 use Rattle.std.proofs.Math.Option.{Option, some, none}
 use Rattle.std.specs.Prelude.{refl}
 use Rattle.std.proofs.Common.{ap, subst, arith, le-leb}

@@ -1,6 +1,6 @@
 -- What Verdict leaves for a text, an allowance and four lent buffers (document 01, "Verdict"), in all cases. Refusals 9, 10, 12 and 13 zero
 -- the named parts, every other refusal changes nothing, and what lies beyond the named parts never changes.
-use Rattle.core.specs.Prelude.{◌≡◌, ℕ, ◌*◌, ◌≤◌, Bool, true, false, ◌&&◌, List, [], ◌∷◌, map, length, take, nat_le, slice_index}
+use Rattle.std.specs.Prelude.{◌≡◌, ℕ, ◌*◌, ◌≤◌, Bool, true, false, ◌&&◌, List, [], ◌∷◌, map, length, take, nat_le, slice_index}
 use Rattle.theory.specs.Job.{Job, WellFormed}
 use Rattle.theory.specs.Automaton.{glushkov}
 use Rattle.syntax.specs.Byte.{Bytes}

@@ -1,5 +1,5 @@
 -- The steps of Verdict on a job text leave what it says (VerdictOperation).
-use Rattle.core.specs.Prelude.{◌≡◌, ℕ, ◌-◌, ◌*◌, ◌<◌, ◌≤◌, Bool, true, false, ◌&&◌, List, ◌++◌, map, length, take, drop, replicate, nat_le}
+use Rattle.std.specs.Prelude.{◌≡◌, ℕ, ◌-◌, ◌*◌, ◌<◌, ◌≤◌, Bool, true, false, ◌&&◌, List, ◌++◌, map, length, take, drop, replicate, nat_le}
 use Rattle.std.proofs.Common.{append_assoc, ap₂, ◌∙◌, arith, le-leb, take-append-drop, take_at}
 use Rattle.std.proofs.Math.Path.{refl, sym, ap, subst}
 use Rattle.std.proofs.lemmas.Bool.{lt-leb}

@@ -1,6 +1,6 @@
 -- What Verdict tells is small: no more pairs than the most allowance, a missed path shorter than that, and no line over one more than the
 -- most bytes of a text.
-use Rattle.core.specs.Prelude.{◌≡◌, ℕ, suc, ◌<◌, ◌≤◌, Bool, true, false, ◌&&◌, List, nat_le, slice_index_or}
+use Rattle.std.specs.Prelude.{◌≡◌, ℕ, suc, ◌<◌, ◌≤◌, Bool, true, false, ◌&&◌, List, nat_le, slice_index_or}
 use Rattle.std.proofs.Math.Path.{refl}
 use Rattle.std.proofs.Common.{arith, leb-true}
 use Rattle.syntax.specs.Byte.{Bytes}

@@ -1,5 +1,5 @@
 -- What the verdict's function promises: its answer is the definition's (Verdict), and the first missed path stands in the lent buffer.
-use Rattle.core.specs.Prelude.{◌≡◌, ℕ, suc, ◌+◌, ◌*◌, ◌^◌, ◌<◌, ◌≤◌, List, length, take, drop, slice_index, slice_index_or}
+use Rattle.std.specs.Prelude.{◌≡◌, ℕ, suc, ◌+◌, ◌*◌, ◌^◌, ◌<◌, ◌≤◌, List, length, take, drop, slice_index, slice_index_or}
 use Rattle.std.proofs.Math.Option.{Option, some, none}
 use Rattle.theory.specs.Path.{Path}
 use Rattle.theory.specs.Automaton.{Automaton}

@@ -1,6 +1,6 @@
 -- Cover sets by rows of two words, where there are more than 64 and at most 128 offsets: the row of a state is the set of the offsets that
 -- its places have, the first word having the first 64 of them. What is prepared for steps by such rows, and what a step promises.
-use Rattle.core.specs.Prelude.{◌≡◌, ℕ, zero, suc, ◌+◌, ◌*◌, ◌/◌, ◌%◌, ◌<◌, ◌≤◌, ◌≢◌, ◌⊎◌, ◌↔◌, List, slice_index}
+use Rattle.std.specs.Prelude.{◌≡◌, ℕ, zero, suc, ◌+◌, ◌*◌, ◌/◌, ◌%◌, ◌<◌, ◌≤◌, ◌≢◌, ◌⊎◌, ◌↔◌, List, slice_index}
 use Rattle.theory.specs.Places.{Member}
 use Rattle.places.specs.Words.{number_of}
 use Rattle.verdict.specs.Tables.{occupied}

@@ -1,6 +1,6 @@
 // The step of a cover set by classes, where there are at most 64 states: the occurrences of a class share a column, which is joined from the
 // columns of the classes that lead to it.
-ghost use Rattle.core.specs.Prelude.{◌≡◌, ℕ, ◌+◌, ◌*◌, ◌/◌, ◌^◌, ◌<◌, ◌≤◌, length};
+ghost use Rattle.std.specs.Prelude.{◌≡◌, ℕ, ◌+◌, ◌*◌, ◌/◌, ◌^◌, ◌<◌, ◌≤◌, length};
 ghost use Rattle.theory.specs.Places.{Member};
 ghost use Rattle.places.specs.Words.{number_of};
 ghost use Rattle.verdict.specs.Columns.{StatesWithin};

@@ -1,5 +1,5 @@
 // The states that are reached where a path of a list ends at an occurrence of a class, from each state, in sums of four states (sums.rt).
-ghost use Rattle.core.specs.Prelude.{◌≡◌, ℕ, ◌+◌, ◌*◌, ◌<◌, ◌≤◌, true, List, length, slice_index};
+ghost use Rattle.std.specs.Prelude.{◌≡◌, ℕ, ◌+◌, ◌*◌, ◌<◌, ◌≤◌, true, List, length, slice_index};
 ghost use Rattle.theory.specs.Places.{Member};
 ghost use Rattle.verdict.specs.Columns.{NextBelow, Passing};
 ghost use Rattle.verdict.specs.Tables.{Counted, occupied};

@@ -1,6 +1,6 @@
 // Classes of occurrences: those that are entered by the same labels, and led to from the same classes, are reached by the same paths. They
 // are looked for by partition refinement; that they are such classes is tested afterwards (stable.rt), so nothing of that is promised here.
-ghost use Rattle.core.specs.Prelude.{◌≡◌, ℕ, ◌+◌, ◌*◌, ◌<◌, ◌≤◌, length, slice_index};
+ghost use Rattle.std.specs.Prelude.{◌≡◌, ℕ, ◌+◌, ◌*◌, ◌<◌, ◌≤◌, length, slice_index};
 ghost use Rattle.theory.specs.Places.{Member};
 ghost use Rattle.verdict.specs.Columns.{PlacesWithin};
 ghost use Rattle.verdict.specs.Tables.{Counted, occupied};

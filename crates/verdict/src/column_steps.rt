@@ -1,6 +1,6 @@
 // The step of a cover set by columns, where there are at most 64 states: an occurrence is reached by the states of the places that lead to
 // it, and a state alone from the states at whose occurrences a path of a list may end.
-ghost use Rattle.core.specs.Prelude.{◌≡◌, suc, ◌+◌, ◌*◌, ◌^◌, ◌<◌, ◌≤◌, length};
+ghost use Rattle.std.specs.Prelude.{◌≡◌, suc, ◌+◌, ◌*◌, ◌^◌, ◌<◌, ◌≤◌, length};
 ghost use Rattle.theory.specs.Places.{member, when};
 ghost use Rattle.places.specs.Words.{number_of};
 ghost use Rattle.verdict.specs.Tables.{Counted, occupied};

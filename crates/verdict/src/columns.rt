@@ -1,6 +1,6 @@
 // Cover sets by columns, where there are at most 64 states: the column of the offset o is the word of the states q with width × q + o in
 // the set.
-ghost use Rattle.core.specs.Prelude.{◌≡◌, ◌+◌, ◌*◌, ◌^◌, ◌<◌, ◌≤◌, length};
+ghost use Rattle.std.specs.Prelude.{◌≡◌, ◌+◌, ◌*◌, ◌^◌, ◌<◌, ◌≤◌, length};
 ghost use Rattle.places.specs.Words.{number_of};
 ghost use Rattle.verdict.specs.Turned.{Stacked};
 ghost use Rattle.verdict.specs.CoverTold.{Gains};

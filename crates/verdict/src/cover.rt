@@ -1,6 +1,6 @@
 // Cover places (document 01, "Cover place"): a set of them is a wide set, the place of the state q with the offset o is width × q + o. The
 // automata of the lists stand side by side in lent tables, a list's number plus 1 being its row.
-ghost use Rattle.core.specs.Prelude.{◌≡◌, ◌+◌, ◌*◌, ◌<◌, ◌≤◌, length};
+ghost use Rattle.std.specs.Prelude.{◌≡◌, ◌+◌, ◌*◌, ◌<◌, ◌≤◌, length};
 ghost use Rattle.verdict.specs.Tables.{Counted};
 ghost use Rattle.verdict.specs.CoverLoops.{end_at};
 ghost use Rattle.verdict.specs.CoverTold.{Gains, Moving, Entered, MovedWithin, Moves, Moved, Ending, Passed, Finished, Ends, Round, Settled};

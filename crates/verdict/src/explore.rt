@@ -1,5 +1,5 @@
 // The pairs explored (document 01, "Verdict"), in tables for what steps need: these are as large as the lists and the states ask for.
-ghost use Rattle.core.specs.Prelude.{◌≡◌, suc, ◌+◌, ◌*◌, ◌<◌, ◌≤◌, true, length, slice_index};
+ghost use Rattle.std.specs.Prelude.{◌≡◌, suc, ◌+◌, ◌*◌, ◌<◌, ◌≤◌, true, length, slice_index};
 ghost use Rattle.verdict.specs.Classes.{Merged};
 ghost use Rattle.verdict.specs.PairsTold.{lent, SearchTold, Searched};
 ghost use Rattle.verdict.specs.Prepared.{WayChosen};
@@ -15,14 +15,14 @@ use crate::wide_rows::prepare_rows;
 
 // What is known once the pairs are explored: whether their cover sets stand turned, then by how many columns, else 0; and how many pairs
 // there are.
-#[derive(Drop)]
+#[derive(Clone, Copy)]
 pub struct Search {
     pub turned: u64,
     pub found: Explored,
 }
 
 // How steps go: by columns, of sets that stand turned, or by rows of two words, of sets as they stand; in each case the width, else 0.
-#[derive(Drop)]
+#[derive(Clone, Copy)]
 struct Way {
     turned: u64,
     rows: u64,

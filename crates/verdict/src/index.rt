@@ -1,5 +1,5 @@
 // An index of the pairs in a lent workspace: 4,093 buckets, each with a chain of its pairs, the newest first.
-ghost use Rattle.core.specs.Prelude.{◌≡◌, ◌+◌, ◌*◌, ◌^◌, ◌<◌, ◌≤◌, length};
+ghost use Rattle.std.specs.Prelude.{◌≡◌, ◌+◌, ◌*◌, ◌^◌, ◌<◌, ◌≤◌, length};
 ghost use Rattle.places.specs.Words.{number_of};
 ghost use Rattle.finding.specs.Buckets.{Noted};
 ghost use Rattle.verdict.specs.PairTable.{words_at, Compared, Seen};

@@ -1,5 +1,5 @@
 // The labels that enter each occurrence of the lists, as a word at its offset.
-ghost use Rattle.core.specs.Prelude.{◌+◌, ◌*◌, ◌≤◌, length};
+ghost use Rattle.std.specs.Prelude.{◌+◌, ◌*◌, ◌≤◌, length};
 ghost use Rattle.verdict.specs.Tables.{Counted, occupied};
 ghost use Rattle.verdict.specs.Classes.{Kinds};
 ghost use Rattle.verdict.specs.KindsTurns.{ListKinds};

@@ -1,5 +1,5 @@
 // The places that lead to a place of a list, at 64 × list + place: the follow sets the other way round.
-ghost use Rattle.core.specs.Prelude.{◌≡◌, ◌+◌, ◌*◌, ◌<◌, ◌≤◌, true, length};
+ghost use Rattle.std.specs.Prelude.{◌≡◌, ◌+◌, ◌*◌, ◌<◌, ◌≤◌, true, length};
 ghost use Rattle.verdict.specs.Tables.{Counted};
 ghost use Rattle.verdict.specs.Columns.{Leading};
 ghost use Rattle.verdict.specs.LeadingTurns.{LedFrom, ListLed};

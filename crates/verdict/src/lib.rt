@@ -1,4 +1,6 @@
 // The verdict: cover places, pairs, and whether every query path is yielded.
+#![tactic(auto)]
+
 mod class_steps;
 mod class_sums;
 mod classes;

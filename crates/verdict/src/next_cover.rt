@@ -1,5 +1,5 @@
 // Cover sets as they stand in the workspace, turned where there are columns: the first one, and the step over a label.
-ghost use Rattle.core.specs.Prelude.{◌≡◌, ℕ, suc, ◌+◌, ◌*◌, ◌^◌, ◌<◌, ◌≤◌, length};
+ghost use Rattle.std.specs.Prelude.{◌≡◌, ℕ, suc, ◌+◌, ◌*◌, ◌^◌, ◌<◌, ◌≤◌, length};
 ghost use Rattle.places.specs.Words.{number_of};
 ghost use Rattle.verdict.specs.Columns.{StatesWithin, PlacesWithin, EndedWithin, Stepped};
 ghost use Rattle.verdict.specs.Coded.{layout_of};

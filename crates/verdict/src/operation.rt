@@ -1,5 +1,5 @@
 // Verdict (document 01): whether the greatest rewriting of a job's query loses a path, from the job text.
-ghost use Rattle.core.specs.Prelude.{◌≡◌, ◌≤◌};
+ghost use Rattle.std.specs.Prelude.{◌≡◌, ◌≤◌};
 ghost use Rattle.theory.specs.Job.{Job};
 ghost use Rattle.reading.specs.Read.{read};
 ghost use Rattle.reading.specs.RowRoom.{asked_rows, HasRows};
@@ -10,11 +10,11 @@ ghost use Rattle.verdict.specs.VerdictOperation.{Sized, JobGiven, SomeJob, Found
 use crate::verdict::{Told, verdict};
 use finding::answer::Finding;
 use finding::clear::{clear_bytes, clear_numbers, clear_words};
-use finding::core::find_rows;
+use finding::job_rows::find_rows;
 use reading::{ReadAnswer, lists_at_most, load_rows};
 use syntax::Refusal;
 
-#[derive(Drop)]
+#[derive(Clone, Copy)]
 pub enum VerdictAnswer {
     // Every query path is yielded: how many distinct pairs there are.
     Complete(u64),

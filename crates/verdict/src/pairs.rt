@@ -1,5 +1,5 @@
 // Pairs (document 01, "Pair") by exploration over the labels, in a lent workspace.
-ghost use Rattle.core.specs.Prelude.{◌≡◌, ℕ, suc, ◌+◌, ◌*◌, ◌<◌, ◌≤◌, List, length};
+ghost use Rattle.std.specs.Prelude.{◌≡◌, ℕ, suc, ◌+◌, ◌*◌, ◌<◌, ◌≤◌, List, length};
 ghost use Rattle.verdict.specs.PairTable.{Stored};
 ghost use Rattle.verdict.specs.Workspace.{Put, pair};
 ghost use Rattle.verdict.specs.PairIndex.{bucket_of, Indexed, IndexedAll, Short, ShortAll};
@@ -14,7 +14,7 @@ use crate::next_cover::{first_cover, lay, next_cover, used_words};
 use finding::step::follows;
 use places::Places;
 
-#[derive(Drop)]
+#[derive(Clone, Copy)]
 pub enum Explored {
     // All pairs are found: how many.
     All(u64),

@@ -1,6 +1,6 @@
 // The states that lists with the empty path lead to from each state, as k words at k × state; and, where one word is enough, those that are
 // reached where a path of a list ends, at 64 × list + state.
-ghost use Rattle.core.specs.Prelude.{◌≡◌, ℕ, ◌+◌, ◌*◌, ◌<◌, ◌≤◌, true, ◌↔◌, List, length};
+ghost use Rattle.std.specs.Prelude.{◌≡◌, ℕ, ◌+◌, ◌*◌, ◌<◌, ◌≤◌, true, ◌↔◌, List, length};
 ghost use Rattle.theory.specs.Places.{Member};
 ghost use Rattle.places.specs.Words.{number_of};
 ghost use Rattle.verdict.specs.Columns.{NextBelow, LeadsIn, Passing, Finishing};

@@ -1,5 +1,5 @@
 // The path of a pair that was found: the pairs before it are followed back to the first.
-ghost use Rattle.core.specs.Prelude.{◌≡◌, ◌+◌, ◌*◌, slice_index};
+ghost use Rattle.std.specs.Prelude.{◌≡◌, ◌+◌, ◌*◌, slice_index};
 ghost use Rattle.verdict.specs.PathTold.{DepthTold, PathWritten};
 
 // How the pair number i was reached; 0 where there is no such pair.

@@ -1,5 +1,5 @@
 // What steps by columns or by ranges need, computed once for all pairs.
-ghost use Rattle.core.specs.Prelude.{◌≡◌, ℕ, ◌*◌, ◌<◌, ◌≤◌, true, List, length, slice_index};
+ghost use Rattle.std.specs.Prelude.{◌≡◌, ℕ, ◌*◌, ◌<◌, ◌≤◌, true, List, length, slice_index};
 ghost use Rattle.theory.specs.Places.{Member};
 ghost use Rattle.verdict.specs.Classes.{ClassSums, EndingLists};
 ghost use Rattle.verdict.specs.Columns.{NextBelow, Finishing, Passing};

@@ -1,6 +1,6 @@
 // Steps of turned cover sets with more than 64 states: the column of an offset has n places, up to four words of them. `reached` has at
 // 4 × state the states that lists with the empty path lead to from it, itself among them, as four words.
-ghost use Rattle.core.specs.Prelude.{◌≡◌, ℕ, ◌+◌, ◌*◌, ◌/◌, ◌<◌, ◌≤◌, length};
+ghost use Rattle.std.specs.Prelude.{◌≡◌, ℕ, ◌+◌, ◌*◌, ◌/◌, ◌<◌, ◌≤◌, length};
 ghost use Rattle.theory.specs.Places.{Member};
 ghost use Rattle.places.specs.Words.{number_of};
 ghost use Rattle.verdict.specs.ColumnOffsets.{offset_from};

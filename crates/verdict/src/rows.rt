@@ -1,5 +1,5 @@
 // At most 64 places of a set that lie together, as a word; and the places of a list that a label leads to.
-ghost use Rattle.core.specs.Prelude.{◌≡◌, ◌+◌, ◌*◌, ◌%◌, ◌^◌, ◌<◌, ◌≤◌, length};
+ghost use Rattle.std.specs.Prelude.{◌≡◌, ◌+◌, ◌*◌, ◌%◌, ◌^◌, ◌<◌, ◌≤◌, length};
 ghost use Rattle.places.specs.Words.{number_of};
 ghost use Rattle.verdict.specs.CoverSteps.{step_at};
 ghost use Rattle.verdict.specs.Rows.{row_of};

@@ -1,6 +1,6 @@
 // Sums: the states that are reached where a path of a list ends, from each set of four neighbouring states. They stand behind what is reached
 // from each state alone, sixteen words for four states, so that a step joins one word for four states.
-ghost use Rattle.core.specs.Prelude.{◌≡◌, ℕ, ◌+◌, ◌*◌, ◌/◌, ◌<◌, ◌≤◌, length, slice_index};
+ghost use Rattle.std.specs.Prelude.{◌≡◌, ℕ, ◌+◌, ◌*◌, ◌/◌, ◌<◌, ◌≤◌, length, slice_index};
 ghost use Rattle.theory.specs.Places.{Member};
 ghost use Rattle.verdict.specs.Sums.{SumsRoom, FourSummed, ListSummed, Sums, SumsJoined};
 

@@ -1,5 +1,5 @@
 // The verdict (document 01, "Verdict"): complete, or the first missed path.
-ghost use Rattle.core.specs.Prelude.{◌≡◌, ◌+◌, ◌*◌, ◌<◌, ◌≤◌, length};
+ghost use Rattle.std.specs.Prelude.{◌≡◌, ◌+◌, ◌*◌, ◌<◌, ◌≤◌, length};
 ghost use Rattle.places.specs.Words.{number_of};
 ghost use Rattle.verdict.specs.PairTable.{pair_at};
 ghost use Rattle.verdict.specs.PairsTold.{lent};
@@ -14,7 +14,7 @@ use crate::workspace::load;
 use places::wide::Wide;
 use syntax::Refusal;
 
-#[derive(Drop)]
+#[derive(Clone, Copy)]
 pub enum Told {
     // Every query path is yielded: how many distinct pairs there are.
     Complete(u64),

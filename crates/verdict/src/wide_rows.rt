@@ -2,7 +2,7 @@
 // its places have, the first word having the first 64 of them. What steps need is prepared once, in 352 words: at 2 × offset the offsets
 // that can come next from an offset, at 256 + 2 × label those that a label enters, at 320 + 2 × list those at which a path of a list may
 // end.
-ghost use Rattle.core.specs.Prelude.{◌≡◌, ℕ, ◌+◌, ◌-◌, ◌*◌, ◌^◌, ◌<◌, ◌≤◌, true, ◌↔◌, length};
+ghost use Rattle.std.specs.Prelude.{◌≡◌, ℕ, ◌+◌, ◌-◌, ◌*◌, ◌^◌, ◌<◌, ◌≤◌, true, ◌↔◌, length};
 ghost use Rattle.theory.specs.Places.{Member};
 ghost use Rattle.places.specs.Words.{number_of};
 ghost use Rattle.verdict.specs.Columns.{EndedWithin};

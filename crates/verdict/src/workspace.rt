@@ -1,6 +1,6 @@
 // Pairs in a lent workspace, 18 words a pair: the standing, the cover set, and how the pair was first reached (13 bits for the place of the
 // pair before it, the next 6 bits for the label).
-ghost use Rattle.core.specs.Prelude.{◌≡◌, ◌+◌, ◌*◌, ◌≤◌, length};
+ghost use Rattle.std.specs.Prelude.{◌≡◌, ◌+◌, ◌*◌, ◌≤◌, length};
 ghost use Rattle.verdict.specs.PairTable.{words_at};
 
 use places::wide::Wide;

@@ -1,6 +1,6 @@
 -- What the walks of the view's functions share: what a slice and a view own, each had of the other, and the calls of `at` and `current`.
 -- A `&[u16]` and a view of one are Copy, so what they own is had as often as it is needed.
-use Rattle.core.specs.Prelude.{◌≡◌, ℕ, ◌^◌, ◌<◌, List, [], ◌∷◌, length}
+use Rattle.std.specs.Prelude.{◌≡◌, ℕ, ◌^◌, ◌<◌, List, [], ◌∷◌, length}
 use mathlib.Core.Path.{refl}
 use seplogic.Ra.Ura.{Ura}
 use mir.Syntax.{named, w64}

@@ -1,0 +1,22 @@
+-- `mark` meets its contract. The loop's invariant: the marks of the recordings below y stand before what is left of the lent marks, and
+-- their ones are counted.
+use Rattle.std.specs.Prelude.{◌≡◌, ◌-◌, ◌*◌, ◌<◌, ◌≤◌, ◌++◌, length, drop}
+use mathlib.Core.Path.{refl, sym, subst}
+use lib.ListN.{length-set}
+use borrow.Author.Tests.{not-true, not-false}
+use Rattle.answering.specs.Marked.{ones}
+use Rattle.answering.specs.Pairs.{row_below}
+use Rattle.answering.specs.Marks.{meets, marks_of, Markable}
+use Rattle.answering.specs.MarksSteps.{mark-at-most, marks-stored, marks-counted}
+use native.Mathlib.Omega.{arith}
+use borrow.Author.Rules.{rules}
+use Rattle.answering.proofs.marks.mark.Given as goal
+
+abbrev pub invariant-loop-y : goal.invariant-loop-y
+invariant-loop-y l =
+    (l.y ≤ l.end) × (l.count ≤ l.y) × (length l.marks ≡ length l.initial.marks) × (l.marks ≡ marks_of l.words l.reached l.accepting l.y 0 ++ drop l.y l.initial.marks)
+    × (l.count ≡ ones (marks_of l.words l.reached l.accepting l.y 0))
+
+abbrev pub decreases-loop-y : goal.decreases-loop-y
+decreases-loop-y l =
+    l.end - l.y

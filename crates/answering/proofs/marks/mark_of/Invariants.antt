@@ -1,0 +1,18 @@
+-- `mark_of` meets its contract. The loop's invariant: what is joined is 0 exactly when the words passed have nothing in common with the
+-- accepting words.
+use Rattle.std.specs.Prelude.{◌≡◌, ◌-◌, ◌≤◌, not, eqb}
+use mathlib.Core.Path.{refl, sym, ap, ◌∙◌}
+use Rattle.answering.specs.MarksLaws.{mark_of}
+use Rattle.answering.specs.Marks.{meets}
+use Rattle.answering.specs.MarksSteps.{meets-next, mark-none, mark-some}
+use native.Mathlib.Omega.{arith}
+use borrow.Author.Rules.{rules}
+use Rattle.answering.proofs.marks.mark_of.Given as goal
+
+abbrev pub invariant-loop-k : goal.invariant-loop-k
+invariant-loop-k l =
+    (l.k ≤ l.words) × (meets l.reached l.accepting l.base l.k ≡ not (eqb l.common 0))
+
+abbrev pub decreases-loop-k : goal.decreases-loop-k
+decreases-loop-k l =
+    l.words - l.k

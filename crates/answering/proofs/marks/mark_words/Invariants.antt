@@ -1,0 +1,22 @@
+-- `mark_words` meets its contract. The loop's invariant: the marks of the recordings below y stand before what is left of the lent marks,
+-- and their ones are counted.
+use Rattle.std.specs.Prelude.{◌≡◌, ◌-◌, ◌*◌, ◌<◌, ◌≤◌, ◌++◌, length, get_or, drop}
+use mathlib.Core.Logic.{⊎_elim}
+use mathlib.Core.Path.{refl, sym, ap, ◌∙◌}
+use lib.ListN.{length-set}
+use Rattle.theory.specs.Places.{intersection}
+use Rattle.answering.specs.Marked.{ones}
+use Rattle.answering.specs.MarksLaws.{mark_of}
+use Rattle.answering.specs.Marks.{meets, marks_of}
+use Rattle.answering.specs.MarksSteps.{meets_word, mark-none, mark-some, marks-stored, marks-counted}
+use native.Mathlib.Omega.{arith}
+use borrow.Author.Rules.{rules}
+use Rattle.answering.proofs.marks.mark_words.Given as goal
+
+abbrev pub invariant-loop-y : goal.invariant-loop-y
+invariant-loop-y l =
+    (l.y ≤ l.recordings) × (l.count ≤ l.y) × (length l.marks ≡ length l.initial.marks) × (l.marks ≡ marks_of 1 l.reached l.accepting l.y 0 ++ drop l.y l.initial.marks)
+    × (l.count ≡ ones (marks_of 1 l.reached l.accepting l.y 0))
+
+abbrev pub decreases-loop-y : goal.decreases-loop-y
+decreases-loop-y l = l.recordings - l.y

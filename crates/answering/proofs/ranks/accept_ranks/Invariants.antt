@@ -1,0 +1,15 @@
+-- `accept_ranks` meets its contract. The loop's invariant: the words have the ranks below r of states with flag 1.
+use Rattle.std.specs.Prelude.{◌≡◌, ℕ, ◌-◌, ◌≤◌, length, get_or}
+use mathlib.Core.Logic.{⊎_elim}
+use mathlib.Core.Path.{refl, sym, ap, ◌∙◌}
+use Rattle.answering.specs.Ranks.{AcceptedRanks, member-room, accepted-pass, accepted-put}
+use native.Mathlib.Omega.{arith}
+use borrow.Author.Rules.{rules}
+use Rattle.answering.proofs.ranks.accept_ranks.Given as goal
+
+abbrev pub invariant-loop-r : goal.invariant-loop-r
+invariant-loop-r l =
+    (l.r ≤ l.count) × (length l.accepts ≡ length l.initial.accepts) × AcceptedRanks l.flags l.kept l.r l.accepts
+
+abbrev pub decreases-loop-r : goal.decreases-loop-r
+decreases-loop-r l = l.count - l.r

@@ -1,0 +1,15 @@
+-- `brings` meets its contract. The loop's invariant: the words passed have nothing new.
+use Rattle.std.specs.Prelude.{◌≡◌, ℕ, ◌+◌, ◌-◌, ◌<◌, ◌≤◌}
+use mathlib.Core.Bool.{false≢true}
+use mathlib.Core.Path.{sym}
+use borrow.Author.Count.{below_more}
+use Rattle.answering.specs.SetRows.{word_of, new_of, some-new, none-new}
+use native.Mathlib.Omega.{arith}
+use borrow.Author.Rules.{rules}
+use Rattle.answering.proofs.rows.brings.Given as goal
+
+abbrev pub invariant-loop-j : goal.invariant-loop-j
+invariant-loop-j l = (l.j ≤ l.count) × ((k : ℕ) → k < l.j → new_of l.sets l.from l.known l.base k ≡ 0)
+
+abbrev pub decreases-loop-j : goal.decreases-loop-j
+decreases-loop-j l = l.count - l.j

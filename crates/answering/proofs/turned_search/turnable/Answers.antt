@@ -1,0 +1,33 @@
+-- `turnable` meets its contract: the tests come one after the other.
+use Rattle.std.specs.Prelude.{◌*◌, ◌≤◌}
+use mathlib.Core.Bool.{false≢true}
+use native.Mathlib.Nat.{mul-le-mul}
+use Rattle.answering.specs.TurnedTest.{turnable-told}
+use native.Mathlib.Omega.{arith}
+use borrow.Author.Rules.{rules}
+use Rattle.answering.proofs.turned_search.turnable.Goals as goal
+
+pub returns-then-sizes-eq0 : goal.returns-then-sizes-eq0
+returns-then-sizes-eq0 c e = absurd (false≢true e)
+
+pub returns-then-sizes-gt16 : goal.returns-then-sizes-gt16
+returns-then-sizes-gt16 c e = absurd (false≢true e)
+
+pub returns-then-sizes-gt256 : goal.returns-then-sizes-gt256
+returns-then-sizes-gt256 c e = absurd (false≢true e)
+
+pub overflow_mul-sizes : goal.overflow_mul-sizes
+overflow_mul-sizes c =
+    let at-start = c in
+    let z = at-start.args.sizes in
+    let m : z.symbols * z.recordings ≤ 32 * 256 = mul-le-mul {n₂ = 32} {m₂ = 256} at-start.requires.0 (omega arith) in
+    omega (arith, m)
+
+pub returns-then-sizes-gt768 : goal.returns-then-sizes-gt768
+returns-then-sizes-gt768 c e = absurd (false≢true e)
+
+pub returns : goal.returns
+returns c e =
+    let at-start = c in
+    let p = at-start.requires in
+    (turnable-told (omega arith) (omega arith) p.0 p.1 (c.rows_within.ensures e), omega arith, omega arith)

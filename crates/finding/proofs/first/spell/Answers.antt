@@ -1,0 +1,37 @@
+use Rattle.std.specs.Prelude.{◌<◌, get_or}
+use mathlib.Core.Path.{refl}
+use native.Mathlib.Omega.{arith}
+use Rattle.finding.specs.FirstWords.{Spelling, spelling-start, spelling-more, spelling-end}
+use borrow.Author.Rules.{rules}
+use Rattle.finding.proofs.first.spell.Goals as goal
+
+pub loop-end-init : goal.loop-end-init
+loop-end-init c =
+    let a = c.args in
+    (c.requires.0, spelling-start a.parents.now a.symbols.now a.state a.size a.word.now c.requires.1)
+
+pub bounds-word-end : goal.bounds-word-end
+bounds-word-end c = omega (arith, c.loop-end.invariant.1.below, c.loop-end.invariant.1.sized)
+
+pub loop-end-preserved : goal.loop-end-preserved
+loop-end-preserved c =
+    let head = c in
+    let start = head in
+    let a = start.args in
+    let l = head.loop-end in (
+      c.wide-at.ensures.1,
+      spelling-more a.parents.now a.symbols.now a.state a.size a.word.now l.at l.end
+          (get_or a.symbols.now l.at 0) c.wide-at.result l.word l.invariant.1 start.requires.1
+          c.loop-end-test.true refl c.wide-at.ensures.0,
+    )
+
+pub shape_of-word : goal.shape_of-word
+shape_of-word c = c.loop-end.invariant.1.sized
+
+pub returns : goal.returns
+returns c =
+    let start = c in
+    let a = start.args in
+    let l = c.loop-end in
+    spelling-end a.parents.now a.symbols.now a.state a.size a.word.now l.at l.end l.word l.invariant.1 start.requires.1
+    c.loop-end-test.false

@@ -1,0 +1,15 @@
+-- The flags are written into cleared memory, and the first accepted word is read off them.
+use Rattle.finding.specs.FoundTold.{found-told}
+use native.Mathlib.Omega.{arith}
+use borrow.Author.Rules.{rules}
+use Rattle.finding.proofs.job_rows.found_answer.Goals as goal
+
+pub returns : goal.returns
+returns c =
+    let flagged = c in
+    let stood = flagged in
+    let start = stood in
+    let a = start.args in
+    found-told a.found.now a.count a.accepting a.explored.now a.n a.parents.now a.symbols.now a.marks.now
+    flagged.flags.new.flags stood.accepting_standings-good.result c.first-word.result stood.accepting_standings-good.ensures
+    flagged.flags.ensures c.first-word.ensures (omega arith)

@@ -1,0 +1,15 @@
+-- The loop's invariant: what is told of the lists below v.
+use Rattle.std.specs.Prelude.{◌≡◌, ◌+◌, ◌-◌, ◌*◌, ◌≤◌}
+use mathlib.Core.Path.{subst}
+use Rattle.finding.specs.LevelTold.{LeastNext}
+use Rattle.finding.specs.LevelLaws.{least-none, least_more}
+use native.Mathlib.Omega.{arith}
+use borrow.Author.Rules.{rules}
+use Rattle.finding.proofs.level.least_next.Given as goal
+
+abbrev pub invariant-loop-v : goal.invariant-loop-v
+invariant-loop-v l =
+    (l.v ≤ l.lists) × LeastNext l.table l.v l.s l.levels l.least
+
+abbrev pub decreases-loop-v : goal.decreases-loop-v
+decreases-loop-v l = l.lists - l.v

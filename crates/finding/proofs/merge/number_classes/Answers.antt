@@ -1,0 +1,43 @@
+use Rattle.std.specs.Prelude.{◌≡◌, ◌-◌, ◌<◌, ◌≤◌}
+use mathlib.Core.Logic.{⊎_elim}
+use native.Mathlib.Omega.{arith}
+use Rattle.theory.specs.Leaders.{leaders-at-most}
+use Rattle.theory.specs.Refinement.{class_at}
+use Rattle.finding.specs.MergeTold.{ClassNumbers}
+use Rattle.finding.specs.MergeLaws.{numbers-none, numbers-first, numbers-later}
+use borrow.Author.Rules.{rules}
+use Rattle.finding.proofs.merge.number_classes.Goals as goal
+
+pub loop-s-init : goal.loop-s-init
+loop-s-init c = (omega arith, numbers-none _ _ c.requires.2)
+
+pub overflow_cast-first : goal.overflow_cast-first
+overflow_cast-first c = omega (arith, (let it : class_at c.args.classes.now c.loop-s.s < 256 = let p = c.requires in omega (arith, p.1.at_most c.loop-s.s c.loop-s-test.true, p.0) in it))
+
+pub overflow_cast-numbers : goal.overflow_cast-numbers
+overflow_cast-numbers c = omega (arith, (let it : c.loop-s.count < 256 = let l = c.loop-s in omega (arith, l.invariant.1.count, leaders-at-most (class_at c.args.classes.now) l.s, c.requires.0) in it))
+
+pub overflow_add-count : goal.overflow_add-count
+overflow_add-count c = omega (arith, (let it : c.loop-s.count < 256 = let l = c.loop-s in omega (arith, l.invariant.1.count, leaders-at-most (class_at c.args.classes.now) l.s, c.requires.0) in it))
+
+pub bounds-numbers-first : goal.bounds-numbers-first
+bounds-numbers-first c = omega (arith, (let it : class_at c.args.classes.now c.loop-s.s < 256 = let p = c.requires in omega (arith, p.1.at_most c.loop-s.s c.loop-s-test.true, p.0) in it))
+
+pub loop-s-preserved : goal.loop-s-preserved
+loop-s-preserved c =
+    let start = c in
+    let l = c.loop-s in
+    let h = c.loop-s-test.true in
+    let room : l.s < 256 = omega (arith, start.requires.0) in (
+      omega arith,
+      ⊎_elim
+          (λ w. rw (w.1, w.2) (numbers-first l.invariant.1 room w.0.taken))
+          (λ w. rw (w.2, w.3) (numbers-later l.invariant.1 room start.requires.1 h w.0.left))
+          c.if-first-s.branch,
+    )
+
+pub returns : goal.returns
+returns c =
+    let l = c.loop-s in
+    let e : l.s ≡ c.args.states = omega arith in
+    rw e at l.invariant.1

@@ -1,0 +1,30 @@
+-- The loop's invariant: the keys of the states below s are stored, and it is told whether one of them leaves its class.
+use Rattle.std.specs.Prelude.{◌≡◌, ℕ, ◌+◌, ◌-◌, ◌<◌, ◌≤◌, true, false, List, length, set}
+use mathlib.Core.Bool.{true≢false, false≢true}
+use mathlib.Core.Logic.{⊎_elim}
+use mathlib.Core.Path.{sym, ◌∙◌}
+use lib.ListN.{length-set}
+use lib.Seq.{get_or-set_same, get_or-set_other}
+use Rattle.theory.specs.Refinement.{class_at}
+use Rattle.finding.specs.TableLent.{row-lent}
+use Rattle.finding.specs.ClassesTold.{key_at, SplitKey}
+use Rattle.finding.specs.ClassesLaws.{rows_alike, split-keyed, key-keeps, key-leaves}
+use Rattle.finding.specs.Filling.{filled_more}
+use native.Mathlib.Omega.{arith}
+use borrow.Author.Rules.{rules}
+use Rattle.finding.proofs.refine.split_keys.Given as goal
+
+-- Some state below s leaves its class.
+abbrev pub Leaving : List ℕ → ℕ → Type 0
+Leaving keys s = (q : ℕ) × (q < s) × (256 ≤ key_at keys q)
+
+abbrev pub invariant-loop-s : goal.invariant-loop-s
+invariant-loop-s l =
+    (l.s ≤ l.states)
+    × (length l.keys ≡ 256)
+    × ((q : ℕ) → q < l.s → SplitKey l.table l.flags l.lists l.classes q (key_at l.keys q))
+    × (l.leaves ≡ true → Leaving l.keys l.s)
+    × (l.leaves ≡ false → (q : ℕ) → q < l.s → key_at l.keys q < 256)
+
+abbrev pub decreases-loop-s : goal.decreases-loop-s
+decreases-loop-s l = l.states - l.s

@@ -1,0 +1,56 @@
+-- `follow_places` meets its contract: there are no places, there are many, or there is the least alone, which is below `places` or not.
+use Rattle.std.specs.Prelude.{◌<◌}
+use mathlib.Core.Path.{sym, subst}
+use lib.Count.{trailing_le}
+use Rattle.theory.specs.Places.{Member}
+use Rattle.theory.specs.PlacesLaws.{member-none}
+use Rattle.places.specs.Followed.{least-small}
+use Rattle.finding.specs.MoveTable.{row_within}
+use Rattle.finding.specs.Sources.{sources}
+use Rattle.finding.specs.SourcesLaws.{followed-none, followed_same}
+use Rattle.finding.specs.SourcesBrought.{one_place}
+use native.Mathlib.Omega.{arith}
+use borrow.Author.Rules.{rules}
+use Rattle.finding.proofs.sources.follow_places.Goals as goal
+
+pub returns-then-entered-eq0 : goal.returns-then-entered-eq0
+returns-then-entered-eq0 c =
+    let x = c.args in
+    followed-none (sources x.from.now x.pending.now x.waiting)
+    (λ u v m. member-none v.1 (subst (Member v.1) c.if-entered-eq0.true m.2.0))
+
+pub overflow_cast-next : goal.overflow_cast-next
+overflow_cast-next c = omega (arith, trailing_le 64 c.args.entered)
+
+pub follow_standings-requires : goal.follow_standings-requires
+follow_standings-requires c =
+    let start = c in
+    let x = start.args in
+    let p = start.requires in (
+      p.0,
+      p.1,
+      least-small x.entered c.if-entered-eq0.false start.ranges.entered.fits,
+      p.3,
+      omega (arith, p.4, row_within x.count x.p x.places p.2),
+      omega (arith, p.4, row_within x.count _ x.places c.if-next-places.true),
+    )
+
+pub returns-then-next-places : goal.returns-then-next-places
+returns-then-next-places c =
+    let start = c in
+    let x = start.args in
+    let alone = one_place x.entered c.if-entered-eq0.false start.ranges.entered.fits
+    c.if-entered-ne0.false in
+    let low = c.if-next-places.true in
+    followed_same c.follow_standings.ensures (λ u v. (
+      λ (e, t, (n, h), m, b). (e, t, (alone v.1).0 n, m, b),
+      λ (e, t, n, m, b). (e, t, ((alone v.1).1 n, subst (◌< x.places) (sym n) low), m, b),
+    ))
+
+pub returns : goal.returns
+returns c =
+    let start = c in
+    let x = start.args in
+    let alone = one_place x.entered c.if-entered-eq0.false start.ranges.entered.fits c.if-entered-ne0.false in
+    followed-none (sources x.from.now x.pending.now x.waiting)
+    (λ u v m. omega (arith, c.if-next-places.false, (alone v.1).0 m.2.0, m.2.1))

@@ -1,0 +1,74 @@
+use Rattle.std.specs.Prelude.{◌≡◌, ◌-◌, get_or, take}
+use mathlib.Core.Logic.{⊎_elim, inl, inr}
+use mathlib.Core.Path.{ap}
+use lib.Seq.{length-take-le}
+use Rattle.theory.specs.Places.{intersection}
+use Rattle.theory.specs.Automaton.{nexts as reached, step}
+use Rattle.finding.specs.PlaceOfLaws.{place-within}
+use Rattle.finding.specs.NumberIndex.{Indexed}
+use Rattle.finding.specs.NumberIndexLaws.{indexed-more, indexed-as, indexed-all, indexed-over}
+use Rattle.finding.specs.StandingsExploring.{standing_task, RowLoop, row-begins, row_ends, loop-turn, loop-over}
+use native.Mathlib.Omega.{arith}
+use borrow.Author.Rules.{rules}
+use Rattle.finding.proofs.standings.row.Goals as goal
+
+pub loop-a-init : goal.loop-a-init
+loop-a-init c = let s = c in (c.follows-after.ensures, row-begins s.requires.0.within, s.requires.1)
+
+pub find_place-to-requires : goal.find_place-to-requires
+find_place-to-requires c =
+    let head = c in
+    let l = head.loop-a in
+    let p = head.requires.0 in (
+      omega (arith, l.invariant.1.within, l.invariant.1.room, p.numbers),
+      omega (arith, l.invariant.1.within, p.most),
+      c.bucket-at.ensures,
+      l.invariant.2,
+    )
+
+pub overflow_cast-moves : goal.overflow_cast-moves
+overflow_cast-moves c =
+    let head = c in
+    let l = head.loop-a in
+    let entered = get_or head.args.enter.now l.a 0 in
+    let next = intersection head.follows-after.result.0 entered in
+    omega (arith, c.find_place-to.ensures, place-within next (take l.m l.found), length-take-le l.m l.found (omega arith))
+
+pub returns-then-m-limit : goal.returns-then-m-limit
+unfolding step
+returns-then-m-limit c =
+    let head = c in
+    let start = head in
+    let l = head.loop-a in
+    let p = start.requires.0 in
+    let more = c.loop-a-test.true in
+    let entered = get_or start.args.enter.now l.a 0 in
+    let f = c.find_place-to in record { row_told = loop-over l.invariant.1 more p.inside p.numbers p.row (omega (arith, more, p.inside, p.within, p.row, p.rows))
+          (intersection head.follows-after.result.0 entered) f.result
+          (ap (λ y. intersection y entered) l.invariant.0) f.ensures c.if-to-m.true (omega arith); indexed = indexed-over }
+
+pub loop-a-preserved : goal.loop-a-preserved
+unfolding step
+loop-a-preserved c =
+    let head = c in
+    let start = head in
+    let l = head.loop-a in
+    let p = start.requires.0 in
+    let more = c.loop-a-test.true in
+    let entered = get_or start.args.enter.now l.a 0 in
+    let next = intersection head.follows-after.result.0 entered in
+    let f = c.find_place-to in (
+      l.invariant.0,
+      loop-turn l.invariant.1 more p.inside p.numbers p.row (omega (arith, more, p.inside, p.within, p.row, p.rows))
+          next f.result (ap (λ y. intersection y entered) l.invariant.0) f.ensures c.if-to-m.m c.if-to-m.found
+          (⊎_elim (λ w. inl (w.0.taken, omega arith, w.5, w.8)) (λ w. inr (w.0.left, w.1, w.4)) c.if-to-m.branch),
+      ⊎_elim
+          (λ w. indexed-as w.5 w.6 w.7 w.8
+          (indexed-more l.found l.m next _ _ _ _ _ c.bucket-at.ensures
+          (omega (arith, p.most, l.invariant.1.within)) (omega arith) (omega (arith, f.ensures, w.0.taken)) l.invariant.2 w.4.ensures))
+          (λ w. indexed-as w.1 w.2 w.3 w.4 l.invariant.2)
+          c.if-to-m.branch,
+    )
+
+pub returns : goal.returns
+returns c = let l = c.loop-a in record { row_told = row_ends l.invariant.1 c.loop-a-test.false; indexed = indexed-all l.invariant.2 }

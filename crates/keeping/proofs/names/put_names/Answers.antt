@@ -1,0 +1,30 @@
+use Rattle.std.specs.Prelude.{◌≡◌, ◌-◌, ◌*◌, ◌≤◌, drop}
+use mathlib.Core.Path.{refl, ◌∙◌}
+use native.Mathlib.Omega.{arith}
+use Rattle.syntax.specs.Resolve.{names_at}
+use Rattle.keeping.specs.KeptLaws.{puts-name, names-end}
+use Rattle.output.specs.Put.{writing, puts, puts_none, puts-length}
+use Rattle.keeping.specs.Write.{name_bytes}
+use borrow.Author.Rules.{rules}
+use Rattle.keeping.proofs.names.put_names.Goals as goal
+
+pub loop-i-init : goal.loop-i-init
+loop-i-init c = (omega arith, refl)
+
+pub loop-i-preserved : goal.loop-i-preserved
+loop-i-preserved c =
+    let wrote = c in
+    let l = wrote.loop-i in
+    let a = wrote.args in
+    let step = puts-name a.text.now a.names.now l.i (writing l.out l.next) (omega arith) wrote.part.ensures
+    wrote.put_name-next.ensures in
+    (omega arith, step ∙ l.invariant.1)
+
+pub shape_of-out : goal.shape_of-out
+shape_of-out c = let l = c.loop-i in puts-length (writing l.out l.next) (writing _ _) _ _ l.invariant.1
+
+pub returns : goal.returns
+returns c =
+    let a = c.args in
+    let l = c.loop-i in
+    puts_none (writing l.out l.next) (names-end a.text.now a.names.now l.i (omega arith)) l.invariant.1

@@ -1,0 +1,15 @@
+-- `put_part` meets its contract. The loop's invariant: to put the bytes that are left comes to what to put all of them comes to.
+use Prim.Native.Nat.{◌-◌, ◌≤◌}
+use mathlib.Core.Path.{◌≡◌, refl, ◌∙◌}
+use native.Mathlib.Omega.{arith}
+use lib.ListN.{length, drop, drop_of_length-le}
+use borrow.Author.Rules.{rules}
+use Rattle.output.specs.Put.{writing, puts, puts-part, puts_none, puts-length}
+use Rattle.output.proofs.put.put_part.Given as goal
+
+abbrev pub invariant-loop-i : goal.invariant-loop-i
+invariant-loop-i l =
+    (l.i ≤ length l.bytes) × (puts (writing l.out l.next) (drop l.i l.bytes) ≡ puts (writing l.initial.out l.initial.next) l.bytes)
+
+abbrev pub decreases-loop-i : goal.decreases-loop-i
+decreases-loop-i l = length l.bytes - l.i

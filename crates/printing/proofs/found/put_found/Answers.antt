@@ -1,0 +1,15 @@
+-- `put_found` meets its contract: its lines are put one after another.
+use borrow.Author.Rules.{rules}
+use Rattle.output.specs.Put.{writing}
+use Rattle.printing.specs.ToldLaws.{puts-rewriting}
+use Rattle.printing.proofs.found.put_found.Goals as goal
+
+pub returns : goal.returns
+returns c =
+    let rowed = c in
+    let stated = rowed in
+    let counted = stated in
+    let a = counted.args in
+    puts-rewriting a.text.now a.names.now a.standings a.states a.table.now a.flags.now a.first
+    (writing a.out.now a.at) counted.put_count-counted.ensures stated.put_count-stated.ensures rowed.put_rows-rowed.ensures
+    c.put_first.ensures

@@ -1,0 +1,11 @@
+-- `print` meets its contract: there is room for all that is printed.
+use native.Mathlib.Omega.{arith}
+use borrow.Author.Rules.{rules}
+use Rattle.printing.specs.PrintLaws.{prints}
+use Rattle.printing.proofs.printer.print.Goals as goal
+
+pub returns : goal.returns
+returns c =
+    let p = c.put_printed in
+    let a = c.args in
+    prints 128 a.text.now a.out.now p.result _ (omega arith) p.ensures

@@ -1,0 +1,21 @@
+-- `suffixes` meets its contract. The loop's invariant: the marks that are left give what all the marks give.
+use native.Mathlib.Omega.{arith}
+use Prim.Native.Nat.{◌≤◌, ◌-◌, ◌+◌}
+use mathlib.Core.Bool.{true}
+use mathlib.Core.Path.{◌≡◌, refl, sym, ap, ◌∙◌}
+use mathlib.Core.Logic.{⊎_elim}
+use lib.ListN.{length, drop}
+use Rattle.theory.specs.Automaton.{link}
+use Rattle.theory.specs.AutomatonLaws.{length-link}
+use Rattle.syntax.specs.Build.{marked}
+use Rattle.syntax.specs.MarkedLaws.{marked-star, marked-question, marked_other, marked-end}
+use borrow.Author.Rules.{rules}
+use Rattle.syntax.proofs.leaf.suffixes.Given as goal
+
+abbrev pub invariant-loop-at : goal.invariant-loop-at
+invariant-loop-at l =
+    (l.initial.at ≤ l.at) × (length l.follow ≡ length l.initial.follow)
+    × (marked l.last.0 l.first.0 (drop l.at l.s) l.nullable l.follow ≡ marked l.last.0 l.first.0 (drop l.initial.at l.s) l.initial.nullable l.initial.follow)
+
+abbrev pub decreases-loop-at : goal.decreases-loop-at
+decreases-loop-at l = length l.s - l.at

@@ -1,0 +1,16 @@
+-- `find_letter` meets its contract. The loop's invariant: what is found is what a search over the names that were looked at gives.
+use Prim.Native.Nat.{◌+◌, ◌-◌, ◌≤◌}
+use mathlib.Core.List.{[], ◌∷◌}
+use mathlib.Core.Path.{◌≡◌, sym, ap, ◌∙◌}
+use native.Mathlib.Omega.{arith}
+use borrow.Author.Rules.{rules}
+use Rattle.syntax.specs.Byte.{Bytes}
+use Rattle.syntax.specs.Name.{same_name}
+use Rattle.syntax.specs.TableLaws.{name_at, find_from, find_from-here, find_from-past, find_from-end}
+use Rattle.syntax.proofs.table.find_letter.Given as goal
+
+abbrev pub invariant-loop-i : goal.invariant-loop-i
+invariant-loop-i l = (l.i ≤ l.count) × (l.found ≡ find_from l.text l.names (l.letter ∷ []) l.i)
+
+abbrev pub decreases-loop-i : goal.decreases-loop-i
+decreases-loop-i l = l.i

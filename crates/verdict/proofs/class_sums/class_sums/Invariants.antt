@@ -1,0 +1,19 @@
+-- The loop's invariant: the sums of the classes before c are put down (SumsPut). The measure is the number of classes left.
+use Rattle.std.specs.Prelude.{◌≡◌, ℕ, ◌+◌, ◌-◌, ◌≤◌, List, length, get_or, set}
+use mathlib.Core.Bool.{false≢true}
+use mathlib.Core.Logic.{⊎_elim}
+use mathlib.Core.Path.{refl, sym, ap, ◌∙◌, subst}
+use lib.ListN.{length-set}
+use Rattle.verdict.specs.ClassSumsTurns.{reached_by, SumsPut, put-start, put-none, put-turn, put_all}
+use Rattle.verdict.specs.WordBits.{cleared-zero}
+use native.Mathlib.Omega.{arith}
+use borrow.Author.Rules.{rules}
+use Rattle.verdict.proofs.class_sums.class_sums.Given as goal
+
+abbrev pub invariant-loop-c : goal.invariant-loop-c
+invariant-loop-c l =
+    (l.c ≤ 64) × (length l.ended ≡ length l.initial.ended)
+    × SumsPut l.states (λ d. reached_by l.passes l.table (get_or l.ends d 0)) l.ends l.ended l.c l.at
+
+abbrev pub decreases-loop-c : goal.decreases-loop-c
+decreases-loop-c l = l.k - l.c

@@ -1,0 +1,49 @@
+use Rattle.std.specs.Prelude.{◌≡◌, ◌+◌, ◌-◌, ◌<◌, ◌≤◌, length}
+use mathlib.Core.Logic.{⊎_elim}
+use mathlib.Core.Path.{◌∙◌}
+use lib.ListN.{length-set}
+use Rattle.verdict.specs.ClassesTurns.{NumberedBefore, numbered-turn, numbered-end}
+use native.Mathlib.Omega.{arith}
+use borrow.Author.Rules.{rules}
+use Rattle.verdict.proofs.classes.number.Goals as goal
+
+pub loop-o-preserved : goal.loop-o-preserved
+loop-o-preserved c =
+    let s = c in
+    let l = c.loop-o in
+    let f = c.find_key-c in
+    let more = c.if-c-count.count in
+    let counts : (f.result < more) × (l.count ≤ more) × (more ≤ 63) × (more ≤ l.count + 1) =
+    ⊎_elim
+    (λ w. (
+      omega (arith, w.4, w.0.taken),
+      omega (arith, w.4),
+      omega (arith, w.4, w.1.left, l.invariant.3),
+      omega (arith, w.4),
+    ))
+    (λ w. (
+      omega (arith, w.2, w.0.left, f.ensures.1),
+      omega (arith, w.2),
+      omega (arith, w.2, l.invariant.3),
+      omega (arith, w.2),
+    ))
+    c.if-c-count.branch in (
+      omega arith,
+      omega (arith, c.loop-o-test.true),
+      omega (arith, counts.1, l.invariant.2),
+      counts.2,
+      omega (arith, counts.3, l.invariant.4),
+      length-set l.classes _ _ ∙ l.invariant.5,
+      numbered-turn l.o l.count more f.result _ l.classes l.invariant.0
+          (omega (arith, l.invariant.5, s.requires.2, c.loop-o-test.true)) f.ensures.0 counts.0 counts.1 l.invariant.6,
+    )
+
+pub returns : goal.returns
+returns c =
+    let s = c in
+    let l = c.loop-o in (
+      λ h. numbered-end s.args.w l.o l.count _ l.classes l.invariant.2 l.invariant.3 (omega (arith, l.invariant.4, l.invariant.1))
+          (omega (arith, c.loop-o-test.false)) l.invariant.6,
+      l.invariant.3,
+      l.invariant.6.alone,
+    )

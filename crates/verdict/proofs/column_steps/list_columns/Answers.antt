@@ -1,0 +1,132 @@
+use Rattle.std.specs.Prelude.{◌≡◌, ◌+◌, ◌-◌, ◌*◌, ◌^◌, ◌<◌, length}
+use mathlib.Core.Logic.{⊎_elim}
+use mathlib.Core.Path.{refl, sym, ap, ◌∙◌}
+use native.Mathlib.Nat.{zero-mul}
+use lib.Count.{count_trailing_zeros, trailing_le}
+use lib.Bits.{and_le_r}
+use Rattle.places.specs.Words.{number_of}
+use Rattle.verdict.specs.CoverTold.{Gains}
+use Rattle.verdict.specs.CoverLoops.{gains-none}
+use Rattle.verdict.specs.ColumnLists.{ColumnsLeft, columns-start, least-inside, columns-turn, columns-end, column-within}
+use Rattle.verdict.specs.TurnedColumns.{column_in, put-column}
+use Rattle.verdict.specs.TurnedTurns.{column-room}
+use native.Mathlib.Omega.{arith}
+use Rattle.verdict.proofs.column_steps.list_columns.Goals as goal
+
+pub inner-rest-requires : goal.inner-rest-requires
+inner-rest-requires c = c.requires.1
+
+pub loop-rest-init : goal.loop-rest-init
+loop-rest-init c =
+    let s = c in (
+      omega arith,
+      s.requires.4,
+      columns-start s.args.v s.args.size s.args.base s.args.entered s.args.accepting s.args.now
+          s.args.columns.now (column_in s.args.n s.args.words.now) c.inner-rest.result c.inner-rest.ensures,
+    )
+
+pub overflow_cast-p : goal.overflow_cast-p
+overflow_cast-p c = omega (arith, trailing_le 64 c.loop-rest.rest)
+
+pub overflow_add-p : goal.overflow_add-p
+overflow_add-p c = omega (arith, trailing_le 64 c.loop-rest.rest)
+
+pub overflow_mul-v : goal.overflow_mul-v
+overflow_mul-v c = omega (arith, c.requires.0)
+
+pub overflow_add-v : goal.overflow_add-v
+overflow_add-v c = omega (arith, trailing_le 64 c.loop-rest.rest, c.requires.0)
+
+pub offset_bounds-before-v : goal.offset_bounds-before-v
+offset_bounds-before-v c = omega (arith, trailing_le 64 c.loop-rest.rest, c.requires.0)
+
+pub bounds-before-v : goal.bounds-before-v
+bounds-before-v c =
+    let s = c in
+    let l = c.loop-rest in
+    omega (arith, least-inside _ _ _ _ _ _ _ _ _ _ l.rest c.loop-rest-test.true l.invariant.0 l.invariant.2, s.requires.1, s.requires.9)
+
+pub joined-states-requires : goal.joined-states-requires
+joined-states-requires c o m =
+    let s = c in
+    let l = c.loop-rest in
+    let h = least-inside _ _ _ _ _ _ _ _ _ _ l.rest c.loop-rest-test.true l.invariant.0 l.invariant.2 in
+    omega (arith, s.requires.2, s.requires.3 o (1 + count_trailing_zeros 64 l.rest) (omega (arith, h, s.requires.1)) m)
+
+pub ending-over-requires : goal.ending-over-requires
+ending-over-requires c =
+    let s = c in
+    let l = c.loop-rest in
+    omega (arith, least-inside _ _ _ _ _ _ _ _ _ _ l.rest c.loop-rest-test.true l.invariant.0 l.invariant.2, s.requires.1)
+
+pub overflow_add-base : goal.overflow_add-base
+overflow_add-base c =
+    let s = c in
+    let l = c.loop-rest in
+    omega (arith, least-inside _ _ _ _ _ _ _ _ _ _ l.rest c.loop-rest-test.true l.invariant.0 l.invariant.2, s.requires.2)
+
+pub overflow_mul-n : goal.overflow_mul-n
+overflow_mul-n c =
+    let s = c in
+    let l = c.loop-rest in
+    let h = least-inside _ _ _ _ _ _ _ _ _ _ l.rest c.loop-rest-test.true l.invariant.0 l.invariant.2 in
+    omega (
+      arith,
+      column-room (s.args.base + s.args.size + 1) s.args.n _ (s.args.base + (1 + count_trailing_zeros 64 l.rest))
+          (omega (arith, h)) s.requires.7 refl,
+    )
+
+pub put_at-requires : goal.put_at-requires
+put_at-requires c =
+    let s = c in
+    let l = c.loop-rest in
+    let h = least-inside _ _ _ _ _ _ _ _ _ _ l.rest c.loop-rest-test.true l.invariant.0 l.invariant.2 in (
+      l.invariant.1,
+      column-within s.args.n s.args.v s.args.size s.args.base s.args.now s.args.columns.now s.requires.1
+          s.requires.3 s.requires.8 _ c.joined-states.result h c.joined-states.ensures,
+      s.requires.5,
+      s.requires.6,
+      column-room (s.args.base + s.args.size + 1) s.args.n _ (s.args.base + (1 + count_trailing_zeros 64 l.rest)) (omega (arith, h))
+          s.requires.7 refl,
+    )
+
+pub overflow_sub-rest : goal.overflow_sub-rest
+overflow_sub-rest c = omega (arith, c.loop-rest-test.true)
+
+pub loop-rest-smaller : goal.loop-rest-smaller
+loop-rest-smaller c =
+    let l = c.loop-rest in
+    omega (arith, c.loop-rest-test.true, and_le_r l.rest (l.rest - 1))
+
+pub loop-rest-preserved : goal.loop-rest-preserved
+loop-rest-preserved c =
+    let s = c in
+    let l = c.loop-rest in
+    let d = c.loop-rest-test.true in
+    let joined = c.joined-states in
+    let h = least-inside _ _ _ _ _ _ _ _ _ _ l.rest d l.invariant.0 l.invariant.2 in
+    let o = s.args.base + (1 + count_trailing_zeros 64 l.rest) in
+    let at = s.args.n * o in
+    let room = column-room (s.args.base + s.args.size + 1) s.args.n at o (omega (arith, h)) s.requires.7 refl in
+    let small =
+    column-within s.args.n s.args.v s.args.size s.args.base s.args.now s.args.columns.now s.requires.1
+    s.requires.3 s.requires.8 _ joined.result h joined.ensures in
+    let gains : Gains l.words (joined.result * 2 ^ at) c.if-states-ne0.words =
+    ⊎_elim (λ w. ap number_of w.5 ∙ w.2.ensures)
+    (λ w. ap number_of w.1 ∙ gains-none l.words _ (ap (λ z. z * 2 ^ at) w.0.left ∙ zero-mul (2 ^ at)))
+    c.if-states-ne0.branch in (
+      omega (arith, l.invariant.0, and_le_r l.rest (l.rest - 1)),
+      ⊎_elim (λ w. ap length w.5 ∙ w.2.kept.0 ∙ l.invariant.1) (λ w. ap length w.1 ∙ l.invariant.1) c.if-states-ne0.branch,
+      columns-turn s.args.v s.args.size s.args.base s.args.entered s.args.accepting s.args.now
+          s.args.columns.now _ (column_in s.args.n l.words) (column_in s.args.n c.if-states-ne0.words) l.ends l.rest
+          joined.result c.ending-over.result d l.invariant.0 joined.ensures c.ending-over.ensures
+          (put-column s.args.n at o joined.result l.words c.if-states-ne0.words refl small room gains) l.invariant.2,
+    )
+
+pub shape_of-words : goal.shape_of-words
+shape_of-words c = c.loop-rest.invariant.1 ∙ sym c.requires.4
+
+pub returns : goal.returns
+returns c =
+    let l = c.loop-rest in
+    columns-end _ _ _ _ _ _ _ _ _ l.ends l.rest c.loop-rest-test.false l.invariant.2

@@ -1,0 +1,74 @@
+-- The sums are put down, so that steps by classes are ready; where they have no room, nothing is done.
+use Rattle.std.specs.Prelude.{◌≡◌, true, length}
+use mathlib.Core.Bool.{false≢true}
+use mathlib.Core.Path.{refl, sym}
+use borrow.Author.Tests.{not-false}
+use Rattle.verdict.specs.Searches.{told-search}
+use native.Mathlib.Omega.{arith}
+use borrow.Author.Rules.{rules}
+use Rattle.verdict.proofs.explore.explore_sums.Goals as goal
+
+pub prepare_classes-requires : goal.prepare_classes-requires
+prepare_classes-requires c =
+    let s = c in
+    let m = s.requires.0 in (
+      s.requires.1,
+      s.requires.2,
+      m.ready.counted.few,
+      m.ready.accepting-room,
+      m.ready.table-room,
+      m.few-classes,
+      s.requires.3,
+      λ v d h. ((m.ending.exact v d).0 h).0,
+    )
+
+pub shape_of-ended-then-not-prepare_classes : goal.shape_of-ended-then-not-prepare_classes
+shape_of-ended-then-not-prepare_classes c = c.prepare_classes.auto.ended
+
+pub returns-then-not-prepare_classes : goal.returns-then-not-prepare_classes
+returns-then-not-prepare_classes c = record { done = λ h. absurd (omega arith); nothing = λ e. refl }
+
+pub pairs-found-requires : goal.pairs-found-requires
+pairs-found-requires c =
+    let s = c in
+    let m = s.requires.0 in
+    let p = c.prepare_classes.ensures (not-false _ c.if-not-prepare_classes.false-raw) in
+    let room : length s.args.merged.now ≡ 128 = search rules in (
+      record {
+        apart = λ h e. absurd (false≢true (sym e));
+        classed = λ h e. record {
+          ready = m.ready;
+          some = s.requires.1;
+          few = s.requires.2;
+          some-class = m.some-class;
+          few-classes = m.few-classes;
+          few-places = m.few-places;
+          few-labels = m.few-labels;
+          before = m;
+          leading = m.leading;
+          stable = m.stable;
+          merged-room = omega (arith, room);
+          sums = p.0 _ _ m.ending;
+        };
+      },
+      λ h. p.1,
+      s.requires.4,
+      λ h. absurd (omega arith),
+    )
+
+pub shape_of-ended : goal.shape_of-ended
+shape_of-ended c = c.prepare_classes.auto.ended
+
+pub shape_of-laid : goal.shape_of-laid
+shape_of-laid c = c.pairs-found.auto.laid
+
+pub shape_of-workspace : goal.shape_of-workspace
+shape_of-workspace c = c.pairs-found.auto.workspace
+
+pub returns : goal.returns
+returns c =
+    let s = c in
+    record {
+      done = λ h. told-search _ true _ c.pairs-found.ensures;
+      nothing = λ e. absurd (omega (arith, s.requires.0.some-class));
+    }

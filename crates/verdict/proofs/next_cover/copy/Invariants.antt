@@ -1,0 +1,15 @@
+-- The loop's invariant: the first j words are copied.
+use Rattle.std.specs.Prelude.{◌-◌, ◌≤◌}
+use mathlib.Core.Path.{refl, sym, ◌∙◌}
+use lib.Seq.{ext_get_or}
+use Rattle.places.specs.WordsLaws.{Joined, joined-none, joined-next, joined-all}
+use Rattle.places.proofs.Held.{array_count}
+use native.Mathlib.Omega.{arith}
+use borrow.Author.Rules.{rules}
+use Rattle.verdict.proofs.next_cover.copy.Given as goal
+
+abbrev pub invariant-loop-j : goal.invariant-loop-j
+invariant-loop-j l = (l.j ≤ 16) × Joined (λ x y. y) l.initial.words l.from l.words l.j
+
+abbrev pub decreases-loop-j : goal.decreases-loop-j
+decreases-loop-j l = 16 - l.j

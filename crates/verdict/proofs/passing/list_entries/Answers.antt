@@ -1,0 +1,50 @@
+use Rattle.std.specs.Prelude.{◌≡◌, ◌+◌, ◌-◌, ◌*◌, ◌≤◌}
+use mathlib.Core.Bool.{false≢true}
+use mathlib.Core.Path.{subst}
+use Rattle.verdict.specs.FinishingTurns.{EntriesBefore, entries-start, entries-turn}
+use native.Mathlib.Omega.{arith}
+use borrow.Author.Rules.{rules}
+use Rattle.verdict.proofs.passing.list_entries.Goals as goal
+
+pub loop-q-init : goal.loop-q-init
+loop-q-init c = (omega arith, entries-start _ _ _ _ _)
+
+pub overflow_cast-next : goal.overflow_cast-next
+overflow_cast-next c =
+    let s = c in
+    omega (arith, c.shared_slice_known-1.given (16 * c.loop-q.q + s.args.v))
+
+pub shape_of-ended-then-next-states : goal.shape_of-ended-then-next-states
+shape_of-ended-then-next-states c = c.loop-q.invariant.1.size
+
+pub returns-then-next-states : goal.returns-then-next-states
+returns-then-next-states c =
+    record { size = c.loop-q.invariant.1.size; entries = λ e. absurd (false≢true e) }
+
+pub bounds-ended-v : goal.bounds-ended-v
+bounds-ended-v c =
+    let l = c.loop-q in
+    omega (arith, l.invariant.1.size)
+
+pub loop-q-preserved : goal.loop-q-preserved
+loop-q-preserved c =
+    let l = c.loop-q in
+    let s = c in (
+      omega arith,
+      entries-turn s.args.states s.args.v s.args.table.now s.args.passes.now s.args.ended.now l.ended l.q
+          (omega (arith, l.invariant.1.size)) (omega (arith, c.if-next-states.false)) l.invariant.1,
+    )
+
+pub shape_of-ended : goal.shape_of-ended
+shape_of-ended c = c.loop-q.invariant.1.size
+
+pub returns : goal.returns
+returns c =
+    let l = c.loop-q in
+    let s = c in
+    let a = s.args in
+    let e : l.q ≡ a.states = omega arith in
+    record {
+      size = l.invariant.1.size;
+      entries = λ t. subst (EntriesBefore a.states a.v a.table.now a.passes.now a.ended.now l.ended) e l.invariant.1;
+    }

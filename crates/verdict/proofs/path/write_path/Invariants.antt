@@ -1,0 +1,13 @@
+-- The loop's invariant: the labels from k on are written, and the path of the pair number j comes before them.
+use Rattle.std.specs.Prelude.{◌-◌, ◌/◌, ◌%◌, set}
+use mathlib.Core.Path.{sym, subst}
+use Rattle.verdict.specs.PathTold.{WriteLoop, write-start, write-turn, write-end, write-short}
+use native.Mathlib.Omega.{arith}
+use borrow.Author.Rules.{rules}
+use Rattle.verdict.proofs.path.write_path.Given as goal
+
+abbrev pub invariant-loop-k : goal.invariant-loop-k
+invariant-loop-k l = WriteLoop l.workspace l.i l.labels l.initial.path l.j l.k l.path
+
+abbrev pub decreases-loop-k : goal.decreases-loop-k
+decreases-loop-k l = l.k

@@ -1,0 +1,16 @@
+-- The loop's invariant: the set has gained the first j words of what the state leads to. The measure is the number of words left.
+use Rattle.std.specs.Prelude.{◌≡◌, ◌+◌, ◌-◌, ◌*◌, ◌/◌, ◌%◌, ◌≤◌, length, get_or}
+use mathlib.Core.Path.{sym, ◌∙◌}
+use lib.ListN.{length-set}
+use Rattle.verdict.specs.ColumnLists.{tested}
+use Rattle.verdict.specs.Ranges.{Adds}
+use Rattle.verdict.specs.RangesTurns.{LeadsBelow, state-start, state-turn, state-end, state-there}
+use native.Mathlib.Omega.{arith}
+use borrow.Author.Rules.{rules}
+use Rattle.verdict.proofs.ranges.add_state.Given as goal
+
+abbrev pub invariant-loop-j : goal.invariant-loop-j
+invariant-loop-j l = (l.j ≤ 4) × (length l.words ≡ 16) × Adds (LeadsBelow l.reached l.t l.j) l.initial.words l.words
+
+abbrev pub decreases-loop-j : goal.decreases-loop-j
+decreases-loop-j l = 4 - l.j

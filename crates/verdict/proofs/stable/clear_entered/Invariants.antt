@@ -1,0 +1,14 @@
+-- The loop's invariant: the entries from 64 to i are cleared (ClearedTo). The measure is the number of entries left.
+use Rattle.std.specs.Prelude.{◌≡◌, ◌-◌, ◌≤◌, length}
+use mathlib.Core.Path.{refl, ◌∙◌}
+use lib.ListN.{length-set}
+use Rattle.verdict.specs.StableTurns.{ClearedTo, clear-start, clear-turn, clear-end}
+use native.Mathlib.Omega.{arith}
+use borrow.Author.Rules.{rules}
+use Rattle.verdict.proofs.stable.clear_entered.Given as goal
+
+abbrev pub invariant-loop-i : goal.invariant-loop-i
+invariant-loop-i l = (64 ≤ l.i) × (l.i ≤ 128) × (length l.merged ≡ length l.initial.merged) × ClearedTo l.i l.initial.merged l.merged
+
+abbrev pub decreases-loop-i : goal.decreases-loop-i
+decreases-loop-i l = 128 - l.i

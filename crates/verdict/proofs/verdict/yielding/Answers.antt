@@ -1,0 +1,47 @@
+use Rattle.std.specs.Prelude.{◌≡◌, ◌+◌, ◌-◌, ◌≤◌}
+use mathlib.Core.Logic.{⊎_elim}
+use mathlib.Core.Path.{refl, sym, subst}
+use native.Mathlib.Nat.{mul-le-mul_right, mul_comm}
+use Rattle.places.specs.Words.{number_of}
+use Rattle.verdict.specs.Cover.{yielding as yielding_of}
+use Rattle.verdict.specs.Missing.{Yields, yields-in, yields-out}
+use native.Mathlib.Omega.{arith}
+use borrow.Author.Rules.{rules}
+use Rattle.verdict.proofs.verdict.yielding.Goals as goal
+
+pub loop-q-init : goal.loop-q-init
+unfolding number_of yielding_of
+loop-q-init c = (omega arith, record { told = λ any table. refl })
+
+pub bounds-flags-q : goal.bounds-flags-q
+bounds-flags-q c = omega (arith, c.loop-q-test.true, c.requires.2)
+
+pub overflow_mul-w : goal.overflow_mul-w
+overflow_mul-w c =
+    let s = c in
+    let l = c.loop-q in
+    omega (arith, mul-le-mul_right s.args.w l.invariant.0, mul_comm l.q s.args.w, s.requires.1)
+
+pub overflow_add-q : goal.overflow_add-q
+overflow_add-q c = omega (arith, c.loop-q-test.true)
+
+pub loop-q-preserved : goal.loop-q-preserved
+loop-q-preserved c =
+    let s = c in
+    let l = c.loop-q in (
+      omega arith,
+      ⊎_elim
+          (λ x. subst (λ z. Yields s.args.flags.now s.args.w (l.q + 1) z.words) (sym x.2)
+          (yields-in s.args.flags.now s.args.states s.args.w l.q l.set.words x.1.result.words s.requires.0 s.requires.1
+          c.loop-q-test.true x.0.taken l.invariant.1 x.1.ensures))
+          (λ x. subst (λ z. Yields s.args.flags.now s.args.w (l.q + 1) z.words) (sym x.1)
+          (yields-out s.args.flags.now s.args.w l.q l.set.words x.0.left l.invariant.1))
+          c.if-flags-q-eq1.branch,
+    )
+
+pub returns : goal.returns
+returns c =
+    let s = c in
+    let l = c.loop-q in
+    let e : l.q ≡ s.args.states = omega (arith, l.invariant.0, c.loop-q-test.false) in
+    subst (λ z. Yields s.args.flags.now s.args.w z l.set.words) e l.invariant.1

@@ -1,0 +1,37 @@
+use Rattle.std.specs.Prelude.{◌≡◌, ℕ, ◌+◌, ◌-◌, ◌≤◌, ◌↔◌}
+use mathlib.Core.Logic.{⊎_elim}
+use mathlib.Core.Path.{sym, subst}
+use Rattle.theory.specs.Places.{Member}
+use Rattle.verdict.specs.WideRows.{Has, Ends}
+use Rattle.verdict.specs.WideRowsTurns.{ends-start, ends_some, ends-none}
+use native.Mathlib.Omega.{arith}
+use borrow.Author.Rules.{rules}
+use Rattle.verdict.proofs.wide_rows.ended_row.Goals as goal
+
+pub loop-v-init : goal.loop-v-init
+loop-v-init c = (omega arith, λ t. ends-start c.args.rows.now c.args.ended.now c.args.q c.args.low c.args.high t)
+
+pub loop-v-preserved : goal.loop-v-preserved
+loop-v-preserved c =
+    let s = c in
+    let test = c.loop-v-test in
+    let a = s.args in
+    let l = c.loop-v in
+    let Reached : ℕ → Type 0 =
+    λ z. (t : ℕ) → Member t z ↔ Ends (l.v + 1) a.rows.now a.ended.now a.q (Has a.low a.high) t in (
+      omega (arith, test.true),
+      ⊎_elim
+          (λ w. subst Reached (sym w.2)
+          (ends_some a.rows.now a.ended.now a.q a.low a.high l.alone l.v (omega arith) (omega arith) w.0.taken
+          l.invariant.1))
+          (λ w. subst Reached (sym w.1)
+          (ends-none a.rows.now a.ended.now a.q a.low a.high l.alone l.v w.0.left l.invariant.1))
+          c.if-low-rows-ne0.branch,
+    )
+
+pub returns : goal.returns
+returns c =
+    let a = c.args in
+    let l = c.loop-v in
+    let e : l.v ≡ a.lists = omega (arith, l.invariant.0, c.loop-v-test.false) in
+    λ t. subst (λ z. Member t l.alone ↔ Ends z a.rows.now a.ended.now a.q (Has a.low a.high) t) e (l.invariant.1 t)

@@ -1,0 +1,21 @@
+-- The loop's invariant: the lists before v are prepared (Preparing). The measure is the number of lists left.
+use Rattle.std.specs.Prelude.{◌≡◌, ℕ, ◌+◌, ◌-◌, ◌≤◌, List, length, get_or}
+use mathlib.Core.Bool.{false≢true}
+use mathlib.Core.Path.{refl, sym, ap, ◌∙◌, subst}
+use borrow.Author.Tests.{not-false}
+use Rattle.verdict.specs.Tables.{occupied}
+use Rattle.verdict.specs.TablesLaws.{occupied-more}
+use Rattle.verdict.specs.ColumnOffsets.{occupied-room}
+use Rattle.verdict.specs.WideRows.{RowsPrepared}
+use Rattle.verdict.specs.WideRowsPrepared.{Preparing, preparing-start, preparing-turn}
+use Rattle.verdict.specs.WordBits.{cleared-zero}
+use native.Mathlib.Omega.{arith}
+use borrow.Author.Rules.{rules}
+use Rattle.verdict.proofs.wide_rows.prepare_rows.Given as goal
+
+abbrev pub invariant-loop-v : goal.invariant-loop-v
+invariant-loop-v l =
+    (l.v ≤ l.lists) × (l.base ≡ occupied l.sizes 0 l.v) × (length l.rows ≡ length l.initial.rows) × Preparing l.v l.follow l.enter l.sizes l.accepting l.rows
+
+abbrev pub decreases-loop-v : goal.decreases-loop-v
+decreases-loop-v l = l.lists - l.v

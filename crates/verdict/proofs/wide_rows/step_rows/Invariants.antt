@@ -1,0 +1,17 @@
+-- The loop's invariant: the rows of the states before q are stepped (RowsWalked). The measure is the number of states left.
+use Rattle.std.specs.Prelude.{◌≡◌, ◌+◌, ◌-◌, ◌*◌, ◌≤◌, length, get_or}
+use mathlib.Core.Logic.{⊎_elim}
+use mathlib.Core.Path.{sym, ap, ◌∙◌, subst}
+use lib.Bits.{and_le_r}
+use Rattle.verdict.specs.CoverBounds.{state-places}
+use Rattle.verdict.specs.TurnedTurns.{next-column}
+use Rattle.verdict.specs.WideRowsTurns.{RowsWalked, walked_start, high-below, walked-some, walked_none, alone-room, walked_end, stepped-below}
+use native.Mathlib.Omega.{arith}
+use Rattle.verdict.proofs.wide_rows.step_rows.Given as goal
+
+abbrev pub invariant-loop-q : goal.invariant-loop-q
+invariant-loop-q l =
+    (l.q ≤ l.states) × (l.from ≡ l.w * l.q) × (length l.words ≡ 16) × RowsWalked l.w l.lists l.a l.rows l.ended l.laid l.words l.alone l.q
+
+abbrev pub decreases-loop-q : goal.decreases-loop-q
+decreases-loop-q l = l.states - l.q
