@@ -5,6 +5,7 @@ use Rattle.answering.specs.Ranks.{AcceptedRanks, member-room, accepted-pass, acc
 use native.Mathlib.Omega.{arith}
 use borrow.Author.Rules.{rules}
 use Rattle.answering.proofs.ranks.accept_ranks.Goals as goal
+use Rattle.answering.proofs.ranks.accept_ranks.Goals.{else-flags-index-eq1, then-flags-index-eq1}
 
 pub loop-r-init : goal.loop-r-init
 loop-r-init c =
@@ -49,14 +50,11 @@ loop-r-preserved c =
     let h = at-loop-test.loop-r-test.true in
     let flag : ℕ → ℕ = λ s. get_or at-start.args.flags.now s 0 in
     let same = ap flag at-index.index.ensures in
-    ⊎_elim
-    (λ w. (
+    (elim c.if-flags-index-eq1.branch [ then-flags-index-eq1 w ↦ (
       omega arith,
-      ap length w.5 ∙ w.2.kept.0 ∙ e,
-      rw (w.5, w.2.ensures) (accepted-put l.invariant.2 p.0 (omega (arith, p.3)) h (sym same ∙ w.0.taken)),
-    ))
-    (λ w. (omega arith, ap length w.1 ∙ e, rw w.1 (accepted-pass l.invariant.2 (λ q. w.0.left (same ∙ q)))))
-    c.if-flags-index-eq1.branch
+      ap length w.accepts-is ∙ w.put.kept.0 ∙ e,
+      rw (w.accepts-is, w.put.ensures) (accepted-put l.invariant.2 p.0 (omega (arith, p.3)) h (sym same ∙ w.if-flags-index-eq1.true)),
+    ) | else-flags-index-eq1 w ↦ (omega arith, ap length w.accepts-is ∙ e, rw w.accepts-is (accepted-pass l.invariant.2 (λ q. w.if-flags-index-eq1.false (same ∙ q)))) ])
 
 pub returns : goal.returns
 returns c =

@@ -6,6 +6,7 @@ use Rattle.answering.specs.Ranks.{Ranks, ranks-start, ranks-out, ranks-next}
 use native.Mathlib.Omega.{arith}
 use borrow.Author.Rules.{rules}
 use Rattle.answering.proofs.ranks.rank_states.Goals as goal
+use Rattle.answering.proofs.ranks.rank_states.Goals.{else-leads_nowhere, then-leads_nowhere}
 
 pub loop-s-init : goal.loop-s-init
 loop-s-init c =
@@ -41,20 +42,17 @@ loop-s-preserved c =
     let at-loop-test = at-leads-nowhere in
     let (few, ranks-fit, most, kept-fit) = (let it : let l = at-leads-nowhere.loop-s in (l.s < 256) × (l.s < length l.ranks) × (l.count ≤ l.s) × (l.count < length l.auto) = let l = at-leads-nowhere.loop-s in let at-start = at-leads-nowhere in let p = at-start.requires in let v = l.invariant in let h = at-leads-nowhere.loop-s-test.true in ( omega (arith, p.few), omega (arith, v.1, p.ranks-fit), v.3.few, omega (arith, v.2, p.kept-fit, v.3.few), ) in it) in
     let v = at-loop-test.loop-s.invariant in
-    ⊎_elim
-    (λ w. rw (w.1, w.2, w.3) (
+    (elim c.if-leads_nowhere.branch [ then-leads_nowhere w ↦ rw (w.ranks-is, w.kept-is, w.count-is) (
       omega arith,
       simp length-set v.1,
       v.2,
-      ranks-out v.3 few ranks-fit (at-leads-nowhere.leads_nowhere.ensures.0 w.0.taken),
-    ))
-    (λ w. rw (w.1, w.2, w.3) (
+      ranks-out v.3 few ranks-fit (at-leads-nowhere.leads_nowhere.ensures.0 w.if-leads_nowhere.true),
+    ) | else-leads_nowhere w ↦ rw (w.ranks-is, w.kept-is, w.count-is) (
       omega arith,
       simp length-set v.1,
       simp length-set v.2,
       ranks-next v.3 few ranks-fit kept-fit,
-    ))
-    c.if-leads_nowhere.branch
+    ) ])
 
 pub returns : goal.returns
 returns c =

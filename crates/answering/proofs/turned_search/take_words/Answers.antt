@@ -5,6 +5,7 @@ use Rattle.answering.specs.TurnedRounds.{WordsTaken, words-none, words_more, wor
 use native.Mathlib.Omega.{arith}
 use borrow.Author.Rules.{rules}
 use Rattle.answering.proofs.turned_search.take_words.Goals as goal
+use Rattle.answering.proofs.turned_search.take_words.Goals.{else-take_word, then-take_word}
 
 pub loop-i-init : goal.loop-i-init
 loop-i-init c =
@@ -33,8 +34,7 @@ loop-i-preserved c =
       omega arith,
       f.auto.sets ∙ v.1,
       f.auto.done ∙ v.2,
-      ⊎_elim (λ w. rw w.1 (words_more v.3 f.ensures w.0.taken)) (λ w. rw w.1 (words_same v.3 f.ensures w.0.left))
-          c.if-take_word.branch,
+      (elim c.if-take_word.branch [ then-take_word w ↦ rw w.more-is (words_more v.3 f.ensures w.if-take_word.true) | else-take_word w ↦ rw w.more-is (words_same v.3 f.ensures w.if-take_word.false) ]),
     )
 
 pub returns : goal.returns

@@ -14,6 +14,7 @@ use Rattle.finding.specs.CollectLaws.{collect-none, collect-yes, collect-no, col
 use borrow.Author.Rules.{rules}
 use Rattle.finding.proofs.flags.accepting_standings.Invariants.{meets}
 use Rattle.finding.proofs.flags.accepting_standings.Goals as goal
+use Rattle.finding.proofs.flags.accepting_standings.Goals.{else-number_at-accepting-ne0, then-number_at-accepting-ne0}
 
 passes : (found : List ℕ) (accepting i s : ℕ) → s ≡ get_or found i 0 → intersection s accepting ≢ 0 → i < 64
     → union (collect (meets found accepting) i) (1 * 2 ^ i % 2 ^ 64) ≡ collect (meets found accepting) (i + 1)
@@ -50,11 +51,8 @@ loop-i-preserved c =
     let at = c.number_at in (
       omega arith,
       l.invariant.1,
-      ⊎_elim
-          (λ w. w.1 ∙ (ap (λ n. union n (1 * 2 ^ l.i % 2 ^ 64)) l.invariant.2
-          ∙ passes a.found.now a.accepting.0 l.i at.result at.ensures w.0.taken (omega arith)))
-          (λ w. w.1 ∙ (l.invariant.2 ∙ fails a.found.now a.accepting.0 l.i at.result at.ensures w.0.left))
-          c.if-number_at-accepting-ne0.branch,
+      (elim c.if-number_at-accepting-ne0.branch [ then-number_at-accepting-ne0 w ↦ w.numbers-is ∙ (ap (λ n. union n (1 * 2 ^ l.i % 2 ^ 64)) l.invariant.2
+          ∙ passes a.found.now a.accepting.0 l.i at.result at.ensures w.if-number_at-accepting-ne0.true (omega arith)) | else-number_at-accepting-ne0 w ↦ w.numbers-is ∙ (l.invariant.2 ∙ fails a.found.now a.accepting.0 l.i at.result at.ensures w.if-number_at-accepting-ne0.false) ]),
     )
 
 pub returns : goal.returns

@@ -7,6 +7,7 @@ use Rattle.finding.specs.MergeTold.{ClassNumbers}
 use Rattle.finding.specs.MergeLaws.{numbers-none, numbers-first, numbers-later}
 use borrow.Author.Rules.{rules}
 use Rattle.finding.proofs.merge.number_classes.Goals as goal
+use Rattle.finding.proofs.merge.number_classes.Goals.{else-first-s, then-first-s}
 
 pub loop-s-init : goal.loop-s-init
 loop-s-init c = (omega arith, numbers-none _ _ c.requires.2)
@@ -30,10 +31,7 @@ loop-s-preserved c =
     let h = c.loop-s-test.true in
     let room : l.s < 256 = omega (arith, start.requires.0) in (
       omega arith,
-      ⊎_elim
-          (λ w. rw (w.1, w.2) (numbers-first l.invariant.1 room w.0.taken))
-          (λ w. rw (w.2, w.3) (numbers-later l.invariant.1 room start.requires.1 h w.0.left))
-          c.if-first-s.branch,
+      (elim c.if-first-s.branch [ then-first-s w ↦ rw (w.numbers-is, w.count-is) (numbers-first l.invariant.1 room w.if-first-s.true) | else-first-s w ↦ rw (w.numbers-is, w.count-is) (numbers-later l.invariant.1 room start.requires.1 h w.if-first-s.false) ]),
     )
 
 pub returns : goal.returns

@@ -9,6 +9,7 @@ use Rattle.finding.specs.MergeTold.{ClassesPut}
 use Rattle.finding.specs.MergeLaws.{classes-none, classes-later, classes-first, row-waits}
 use borrow.Author.Rules.{rules}
 use Rattle.finding.proofs.merge.put_classes.Goals as goal
+use Rattle.finding.proofs.merge.put_classes.Goals.{else-classes-s, then-classes-s}
 
 abbrev begun : goal.In-loop-s → tie.Start invariant-loop decreases-loop
 begun c = c
@@ -57,11 +58,8 @@ loop-s-preserved c =
     let l = at.loop-s in
     let h = at.loop-s-test.true in (
       omega arith,
-      ⊎_elim
-          (λ w. rw (w.7, w.8)
-          (classes-first p.0 p.1 l.invariant.1 h p.2 w.0.taken (number at w.0.taken) w.3.ensures))
-          (λ w. rw (w.1, w.2) (classes-later p.0 p.1 l.invariant.1 h w.0.left))
-          c.if-classes-s.branch,
+      (elim c.if-classes-s.branch [ then-classes-s w ↦ rw (w.table-is, w.flags-is)
+          (classes-first p.0 p.1 l.invariant.1 h p.2 w.if-classes-s.true (number at w.if-classes-s.true) w.put_row.ensures) | else-classes-s w ↦ rw (w.table-is, w.flags-is) (classes-later p.0 p.1 l.invariant.1 h w.if-classes-s.false) ]),
     )
 
 pub returns : goal.returns

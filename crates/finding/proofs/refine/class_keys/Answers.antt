@@ -4,6 +4,7 @@ use Rattle.finding.proofs.Classing.{Classing, classing-none, classing-joins, cla
 use native.Mathlib.Omega.{arith}
 use borrow.Author.Rules.{rules}
 use Rattle.finding.proofs.refine.class_keys.Goals as goal
+use Rattle.finding.proofs.refine.class_keys.Goals.{else-keys-first, then-keys-first}
 
 pub loop-s-init : goal.loop-s-init
 loop-s-init c = (omega arith, classing-none c.args.keys.now c.args.classes.now c.requires.2)
@@ -53,8 +54,7 @@ loop-s-preserved c =
     let key = at-loop.requires.1 l.s c.loop-s-test.true in
     let small : l.s < 256 = omega (arith, c.loop-s-test.true, at-loop.requires.0) in (
       omega arith,
-      ⊎_elim (λ w. rw (w.1, w.2) (classing-joins l.invariant.1 small key w.0.taken))
-          (λ w. rw (w.1, w.2) (classing-leads l.invariant.1 small key w.0.left)) c.if-keys-first.branch,
+      (elim c.if-keys-first.branch [ then-keys-first w ↦ rw (w.classes-is, w.firsts-is) (classing-joins l.invariant.1 small key w.if-keys-first.true) | else-keys-first w ↦ rw (w.classes-is, w.firsts-is) (classing-leads l.invariant.1 small key w.if-keys-first.false) ]),
     )
 
 pub returns : goal.returns

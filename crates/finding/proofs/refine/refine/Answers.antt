@@ -9,6 +9,7 @@ use Rattle.finding.specs.Find.{deterministic}
 use Rattle.finding.specs.ClassesLaws.{classed-led, one_class, levels-class, split-class, split-falls, classes-refined}
 use native.Mathlib.Omega.{arith}
 use Rattle.finding.proofs.refine.refine.Goals as goal
+use Rattle.finding.proofs.refine.refine.Goals.{else-find_levels, then-find_levels}
 
 pub find_levels-requires : goal.find_levels-requires
 find_levels-requires c = (c.requires.0, refl)
@@ -25,12 +26,12 @@ loop-keys-init c =
     let levels = c.find_levels.ensures in
     let T = start.requires.0 in
     let one = one_class T start.args.classes.now start.requires.1 in
-    ⊎_elim (λ w. rw w.4 (
-      w.3.ensures.sized,
+    (elim c.if-find_levels.branch [ then-find_levels w ↦ rw w.classes-is (
+      w.class_keys.ensures.sized,
       levels.0,
-      classed-led w.3.ensures,
-      levels-class T (levels.1 w.0.taken) w.3.ensures,
-    )) (λ w. rw w.1 (start.requires.2, levels.0, one.0, one.1)) c.if-find_levels.branch
+      classed-led w.class_keys.ensures,
+      levels-class T (levels.1 w.if-find_levels.true) w.class_keys.ensures,
+    ) | else-find_levels w ↦ rw w.classes-is (start.requires.2, levels.0, one.0, one.1) ])
 
 pub split_keys-requires : goal.split_keys-requires
 split_keys-requires c =

@@ -13,6 +13,7 @@ use native.Mathlib.Omega.{arith}
 use borrow.Author.Rules.{rules}
 use Rattle.finding.proofs.refine.split_keys.Invariants.{Leaving}
 use Rattle.finding.proofs.refine.split_keys.Goals as goal
+use Rattle.finding.proofs.refine.split_keys.Goals.{else-key-ge256, then-key-ge256}
 
 leaving-here : (keys : List ℕ) (s key : ℕ) → s < length keys → 256 ≤ key → Leaving (set keys s key) (s + 1)
 leaving-here keys s key h k = (s, omega arith, omega (arith, get_or-set_same keys s key 0 h))
@@ -51,11 +52,10 @@ loop-s-preserved c =
       length-set l.keys l.s key ∙ l.invariant.1,
       filled_more (SplitKey a.table.now a.flags.now a.lists a.classes.now) l.keys l.s key room l.invariant.2
           c.split_key-key.ensures,
-      λ f. ⊎_elim (λ w. leaving-here l.keys l.s key room w.0.taken)
-          (λ w. leaving-more l.keys l.s key (l.invariant.3 (sym w.1 ∙ f))) c.if-key-ge256.branch,
+      λ f. (elim c.if-key-ge256.branch [ then-key-ge256 w ↦ leaving-here l.keys l.s key room w.if-key-ge256.true | else-key-ge256 w ↦ leaving-more l.keys l.s key (l.invariant.3 (sym w.leaves-is ∙ f)) ]),
       λ f. filled_more (λ q n. n < 256) l.keys l.s key room
-          (⊎_elim (λ w. absurd (true≢false (sym w.1 ∙ f))) (λ w. l.invariant.4 (sym w.1 ∙ f)) c.if-key-ge256.branch)
-          (⊎_elim (λ w. absurd (true≢false (sym w.1 ∙ f))) (λ w. w.0.left) c.if-key-ge256.branch),
+          ((elim c.if-key-ge256.branch [ then-key-ge256 w ↦ absurd (true≢false (sym w.leaves-is ∙ f)) | else-key-ge256 w ↦ l.invariant.4 (sym w.leaves-is ∙ f) ]))
+          ((elim c.if-key-ge256.branch [ then-key-ge256 w ↦ absurd (true≢false (sym w.leaves-is ∙ f)) | else-key-ge256 w ↦ w.if-key-ge256.false ])),
     )
 
 pub returns : goal.returns

@@ -11,6 +11,7 @@ use Rattle.finding.specs.SourcesBrought.{Given, followed-given, place_in, place_
 use native.Mathlib.Omega.{arith}
 use borrow.Author.Rules.{rules}
 use Rattle.finding.proofs.sources.follow_many.Goals as goal
+use Rattle.finding.proofs.sources.follow_many.Goals.{else-next-places, then-next-places}
 
 pub gather-met-requires : goal.gather-met-requires
 gather-met-requires c =
@@ -56,12 +57,9 @@ loop-rest-preserved c =
     let d = c.loop-rest-test.true in (
       omega (arith, l.invariant.0, and_le_r l.rest (l.rest - 1)),
       rest-within x.entered l.rest l.invariant.1 d l.invariant.0,
-      ⊎_elim
-          (λ w. sources-as (Gained _ _ _) w.7 w.8 w.9
-          (place_in x.entered l.rest l.invariant.1 d l.invariant.0 x.places g.result moved l.invariant.2 w.0.taken w.4.ensures))
-          (λ w. sources-as (Gained _ _ _) w.1 w.2 w.3
-          (place_out x.entered l.rest l.invariant.1 d l.invariant.0 x.places g.result moved l.invariant.2 w.0.left))
-          c.if-next-places.branch,
+      (elim c.if-next-places.branch [ then-next-places w ↦ sources-as (Gained _ _ _) w.pending-is w.all-is w.9
+          (place_in x.entered l.rest l.invariant.1 d l.invariant.0 x.places g.result moved l.invariant.2 w.if-next-places.true w.from-1.ensures) | else-next-places w ↦ sources-as (Gained _ _ _) w.from-is w.pending-is w.all-is
+          (place_out x.entered l.rest l.invariant.1 d l.invariant.0 x.places g.result moved l.invariant.2 w.if-next-places.false) ]),
     )
 
 pub returns : goal.returns

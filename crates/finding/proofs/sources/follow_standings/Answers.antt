@@ -12,6 +12,7 @@ use Rattle.finding.specs.SourcesGathered.{gain-up, gathered_none, gathered-as}
 use native.Mathlib.Omega.{arith}
 use borrow.Author.Rules.{rules}
 use Rattle.finding.proofs.sources.follow_standings.Goals as goal
+use Rattle.finding.proofs.sources.follow_standings.Goals.{else-to-count, then-to-count}
 
 pub loop-rest-init : goal.loop-rest-init
 loop-rest-init c =
@@ -63,17 +64,14 @@ loop-rest-preserved c =
     let to = c.wide-to in (
       omega (arith, l.invariant.0, and_le_r l.rest (l.rest - 1)),
       rest-within x.taken l.rest l.invariant.1 d l.invariant.0,
-      ⊎_elim (λ w. omega (arith, ap length w.5, w.3.given, l.invariant.2)) (λ w. ap length w.1 ∙ l.invariant.2) c.if-to-count.branch,
-      λ slots. ⊎_elim
-          (λ w. gathered-as (Followed _ _ _) x.pending.now x.waiting x.next w.5 w.6
-          (followed_then (l.invariant.3 slots) (w.2.ensures x.pending.now x.waiting slots start.ranges.waiting.fits)
+      (elim c.if-to-count.branch [ then-to-count w ↦ omega (arith, ap length w.from-is, w.from-1.given, l.invariant.2) | else-to-count w ↦ ap length w.from-is ∙ l.invariant.2 ]),
+      λ slots. (elim c.if-to-count.branch [ then-to-count w ↦ gathered-as (Followed _ _ _) x.pending.now x.waiting x.next w.from-is w.added-is
+          (followed_then (l.invariant.3 slots) (w.pass_on-added.ensures x.pending.now x.waiting slots start.ranges.waiting.fits)
           (standing-in x.moves.now x.count x.a x.p x.next x.taken l.rest l.invariant.1 d l.invariant.0 to.result
-          to.ensures.0 w.0.taken)))
-          (λ w. gathered-as (Followed _ _ _) x.pending.now x.waiting x.next w.1 w.2
+          to.ensures.0 w.if-to-count.true)) | else-to-count w ↦ gathered-as (Followed _ _ _) x.pending.now x.waiting x.next w.from-is w.added-is
           (followed_same (l.invariant.3 slots)
           (standing-out x.moves.now x.count x.a x.p x.next x.taken l.rest l.invariant.1 d l.invariant.0
-          (omega (arith, w.0.left, to.ensures.0)))))
-          c.if-to-count.branch,
+          (omega (arith, w.if-to-count.false, to.ensures.0)))) ]),
     )
 
 pub returns : goal.returns

@@ -11,6 +11,7 @@ use Rattle.finding.specs.SourcesBrought.{Brought, brought-none, brought-same, br
 use native.Mathlib.Omega.{arith}
 use borrow.Author.Rules.{rules}
 use Rattle.finding.proofs.sources.gather.Goals as goal
+use Rattle.finding.proofs.sources.gather.Goals.{else-to-count, then-to-count}
 
 pub loop-rest-init : goal.loop-rest-init
 loop-rest-init c =
@@ -102,14 +103,11 @@ loop-rest-preserved c =
     λ h. shl_exact {a = 1} 1 to.result 64 (lit< tt) (omega arith) ∙ omega arith in (
       omega (arith, l.invariant.0, and_le_r l.rest (l.rest - 1)),
       rest-within x.taken l.rest l.invariant.1 d l.invariant.0,
-      ⊎_elim
-          (λ w. brought-as w.5 (w.6 ∙ ap (union l.met) (bit (omega (arith, w.0.taken, p.0))))
+      (elim c.if-to-count.branch [ then-to-count w ↦ brought-as w.moved-is (w.met-is ∙ ap (union l.met) (bit (omega (arith, w.if-to-count.true, p.0))))
           (brought-more x.moves.now x.count x.a x.p x.from.now s turn l.moved l.met l.invariant.2 to.result
-          to.ensures.0 w.0.taken (omega (arith, w.0.taken, p.0, w.2.given))))
-          (λ w. brought-as w.1 w.2
+          to.ensures.0 w.if-to-count.true (omega (arith, w.if-to-count.true, p.0, w.held-then-to-count-1.given))) | else-to-count w ↦ brought-as w.moved-is w.met-is
           (brought-out x.moves.now x.count x.a x.p x.from.now s turn l.moved l.met l.invariant.2
-          (omega (arith, w.0.left, to.ensures.0))))
-          c.if-to-count.branch,
+          (omega (arith, w.if-to-count.false, to.ensures.0))) ]),
     )
 
 pub returns : goal.returns

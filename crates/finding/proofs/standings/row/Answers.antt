@@ -11,6 +11,7 @@ use Rattle.finding.specs.StandingsExploring.{standing_task, RowLoop, row-begins,
 use native.Mathlib.Omega.{arith}
 use borrow.Author.Rules.{rules}
 use Rattle.finding.proofs.standings.row.Goals as goal
+use Rattle.finding.proofs.standings.row.Goals.{else-to-m, then-to-m+else-m-limit}
 
 pub loop-a-init : goal.loop-a-init
 loop-a-init c = let s = c in (c.follows-after.ensures, row-begins s.requires.0.within, s.requires.1)
@@ -61,13 +62,10 @@ loop-a-preserved c =
       l.invariant.0,
       loop-turn l.invariant.1 more p.inside p.numbers p.row (omega (arith, more, p.inside, p.within, p.row, p.rows))
           next f.result (ap (λ y. intersection y entered) l.invariant.0) f.ensures c.if-to-m.m c.if-to-m.found
-          (⊎_elim (λ w. inl (w.0.taken, omega arith, w.5, w.8)) (λ w. inr (w.0.left, w.1, w.4)) c.if-to-m.branch),
-      ⊎_elim
-          (λ w. indexed-as w.5 w.6 w.7 w.8
+          ((elim c.if-to-m.branch [ then-to-m+else-m-limit w ↦ inl (w.if-to-m.true, omega arith, w.found-is, w.m-is) | else-to-m w ↦ inr (w.if-to-m.false, w.found-is, w.m-is) ])),
+      (elim c.if-to-m.branch [ then-to-m+else-m-limit w ↦ indexed-as w.found-is w.heads-is w.nexts-is w.m-is
           (indexed-more l.found l.m next _ _ _ _ _ c.bucket-at.ensures
-          (omega (arith, p.most, l.invariant.1.within)) (omega arith) (omega (arith, f.ensures, w.0.taken)) l.invariant.2 w.4.ensures))
-          (λ w. indexed-as w.1 w.2 w.3 w.4 l.invariant.2)
-          c.if-to-m.branch,
+          (omega (arith, p.most, l.invariant.1.within)) (omega arith) (omega (arith, f.ensures, w.if-to-m.true)) l.invariant.2 w.note.ensures) | else-to-m w ↦ indexed-as w.found-is w.heads-is w.nexts-is w.m-is l.invariant.2 ]),
     )
 
 pub returns : goal.returns

@@ -7,6 +7,7 @@ use Rattle.reading.specs.ListStarts.{list_starts, start-pair, start-not, starts-
 use native.Mathlib.Omega.{arith}
 use borrow.Author.Rules.{rules}
 use Rattle.reading.proofs.reader.list_starts.Goals as goal
+use Rattle.reading.proofs.reader.list_starts.Goals.{else-pair-eq27753, then-pair-eq27753}
 
 pub loop-i-init : goal.loop-i-init
 loop-i-init c = (search rules, zero-add _)
@@ -26,9 +27,7 @@ loop-i-preserved c =
     let told = c.pair.ensures in
     let known = c.shared_slice_known-in-loop-i-2-1.given (i + 1) in (
       omega arith,
-      ⊎_elim (λ w. omega (arith, next, start-pair (get_or t i 0) (get_or t (i + 1) 0) (omega (arith, known)) (sym told ∙ w.0.taken)))
-          (λ w. omega (arith, next, start-not (get_or t i 0) (get_or t (i + 1) 0) (λ e. w.0.left (told ∙ e))))
-          c.if-pair-eq27753.branch,
+      (elim c.if-pair-eq27753.branch [ then-pair-eq27753 w ↦ omega (arith, next, start-pair (get_or t i 0) (get_or t (i + 1) 0) (omega (arith, known)) (sym told ∙ w.if-pair-eq27753.true)) | else-pair-eq27753 w ↦ omega (arith, next, start-not (get_or t i 0) (get_or t (i + 1) 0) (λ e. w.if-pair-eq27753.false (told ∙ e))) ]),
     )
 
 pub returns : goal.returns

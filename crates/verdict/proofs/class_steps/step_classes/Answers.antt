@@ -11,6 +11,7 @@ use Rattle.verdict.specs.ClassStepTurns.{classes-end, classes-none}
 use Rattle.verdict.specs.TurnedColumns.{column_in, no-columns, Puts, put-column, columns-below}
 use Rattle.verdict.specs.TurnedTurns.{column-room}
 use Rattle.verdict.proofs.class_steps.step_classes.Goals as goal
+use Rattle.verdict.proofs.class_steps.step_classes.Goals.{else-states-ne0, then-states-ne0}
 
 pub overflow_add-rest : goal.overflow_add-rest
 overflow_add-rest c = omega (arith, c.requires.0)
@@ -124,22 +125,17 @@ loop-rest-preserved c =
     let Left : List ℕ → ℕ → Type 0 =
     λ words alone. ClassesLeft a.n a.a a.k a.merged.now a.ended.now a.columns.now (column_in a.n words) alone less in (
       omega (arith, l.invariant.0, and_le_r l.rest (l.rest - 1)),
-      ⊎_elim (λ w. ap length w.7 ∙ w.2.kept.0 ∙ l.invariant.1) (λ w. ap length w.1 ∙ l.invariant.1) c.if-states-ne0.branch,
-      ⊎_elim
-          (λ w.
-          subst (λ z. Left z c.if-states-ne0.alone) (sym w.7)
-          (subst (Left w.2.last.0) (sym w.8)
+      (elim c.if-states-ne0.branch [ then-states-ne0 w ↦ ap length w.words-is ∙ w.put_at.kept.0 ∙ l.invariant.1 | else-states-ne0 w ↦ ap length w.words-is ∙ l.invariant.1 ]),
+      (elim c.if-states-ne0.branch [ then-states-ne0 w ↦ subst (λ z. Left z c.if-states-ne0.alone) (sym w.words-is)
+          (subst (Left w.put_at.last.0) (sym w.alone-is)
           (classes-turn a.n a.a a.k a.merged.now a.ended.now a.columns.now s.requires.8 s.requires.9 few
-          s.requires.4 s.requires.10 (column_in a.n l.words) (column_in a.n w.2.last.0) l.alone l.rest join.result
-          w.6.result l.invariant.2 d l.invariant.0 join.ensures w.6.ensures
-          (put-column a.n (a.n * o) o join.result l.words w.2.last.0 refl small room w.2.ensures))))
-          (λ w.
-          subst (λ z. Left z c.if-states-ne0.alone) (sym w.1)
-          (subst (Left l.words) (sym w.2)
+          s.requires.4 s.requires.10 (column_in a.n l.words) (column_in a.n w.put_at.last.0) l.alone l.rest join.result
+          w.ended_class-alone.result l.invariant.2 d l.invariant.0 join.ensures w.ended_class-alone.ensures
+          (put-column a.n (a.n * o) o join.result l.words w.put_at.last.0 refl small room w.put_at.ensures))) | else-states-ne0 w ↦ subst (λ z. Left z c.if-states-ne0.alone) (sym w.words-is)
+          (subst (Left l.words) (sym w.alone-is)
           (classes-pass a.n a.a a.k a.merged.now a.ended.now a.columns.now s.requires.8 s.requires.9 few
           s.requires.4 s.requires.10 (column_in a.n l.words) l.alone l.rest l.invariant.2 d l.invariant.0
-          (sym w.0.left ∙ join.ensures))))
-          c.if-states-ne0.branch,
+          (sym w.if-states-ne0.false ∙ join.ensures))) ]),
     )
 
 pub put_at-requires-2 : goal.put_at-requires-2

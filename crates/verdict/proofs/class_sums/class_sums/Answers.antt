@@ -8,6 +8,7 @@ use Rattle.verdict.specs.WordBits.{cleared-zero}
 use native.Mathlib.Omega.{arith}
 use borrow.Author.Rules.{rules}
 use Rattle.verdict.proofs.class_sums.class_sums.Goals as goal
+use Rattle.verdict.proofs.class_sums.class_sums.Goals.{else-set-ne0, then-set-ne0+else-ended-at}
 
 pub overflow_add-quarters : goal.overflow_add-quarters
 overflow_add-quarters c = omega (arith, c.requires.1)
@@ -102,20 +103,14 @@ loop-c-preserved c =
     let test = c.loop-c-test.true in
     let word : ℕ → ℕ → ℕ = λ d. reached_by a.passes.now a.table.now (get_or a.ends.now d 0) in (
       omega (arith, test, s.requires.3),
-      ⊎_elim (λ w. ap length w.10 ∙ length-set w.7.last.0 _ _ ∙ w.7.kept.0 ∙ w.3.kept.1.1.1.1.0 ∙ l.invariant.1)
-          (λ w. ap length w.1 ∙ l.invariant.1) c.if-set-ne0.branch,
-      ⊎_elim
-          (λ w.
-          subst (λ z. SumsPut a.states word a.ends.now z (l.c + 1) c.if-set-ne0.at) (sym w.10)
-          (subst (λ z. SumsPut a.states word a.ends.now (set w.7.last.0 l.c l.at) (l.c + 1) z) (sym w.11)
-          (put-turn a.states word a.ends.now l.ended w.3.last.1.1.1.1.0 w.7.last.0 l.c l.at s.requires.1
-          (omega (arith, test, s.requires.3)) w.0.taken (omega (arith, w.1.left)) (w.7.kept.0 ∙ w.3.kept.1.1.1.1.0)
-          w.3.ensures w.7.ensures l.invariant.2)))
-          (λ w.
-          subst (λ z. SumsPut a.states word a.ends.now z (l.c + 1) c.if-set-ne0.at) (sym w.1)
-          (subst (λ z. SumsPut a.states word a.ends.now l.ended (l.c + 1) z) (sym w.2)
-          (put-none a.states word a.ends.now l.ended l.c l.at (omega (arith, test, s.requires.3)) w.0.left l.invariant.2)))
-          c.if-set-ne0.branch,
+      (elim c.if-set-ne0.branch [ then-set-ne0+else-ended-at w ↦ ap length w.ended-is ∙ length-set w.sum_list.last.0 _ _ ∙ w.sum_list.kept.0 ∙ w.class_words.kept.1.1.1.1.0 ∙ l.invariant.1 | else-set-ne0 w ↦ ap length w.ended-is ∙ l.invariant.1 ]),
+      (elim c.if-set-ne0.branch [ then-set-ne0+else-ended-at w ↦ subst (λ z. SumsPut a.states word a.ends.now z (l.c + 1) c.if-set-ne0.at) (sym w.ended-is)
+          (subst (λ z. SumsPut a.states word a.ends.now (set w.sum_list.last.0 l.c l.at) (l.c + 1) z) (sym w.at-is)
+          (put-turn a.states word a.ends.now l.ended w.class_words.last.1.1.1.1.0 w.sum_list.last.0 l.c l.at s.requires.1
+          (omega (arith, test, s.requires.3)) w.if-set-ne0.true (omega (arith, w.if-ended-at.false)) (w.sum_list.kept.0 ∙ w.class_words.kept.1.1.1.1.0)
+          w.class_words.ensures w.sum_list.ensures l.invariant.2)) | else-set-ne0 w ↦ subst (λ z. SumsPut a.states word a.ends.now z (l.c + 1) c.if-set-ne0.at) (sym w.ended-is)
+          (subst (λ z. SumsPut a.states word a.ends.now l.ended (l.c + 1) z) (sym w.at-is)
+          (put-none a.states word a.ends.now l.ended l.c l.at (omega (arith, test, s.requires.3)) w.if-set-ne0.false l.invariant.2)) ]),
     )
 
 pub shape_of-ended : goal.shape_of-ended

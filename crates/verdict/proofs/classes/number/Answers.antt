@@ -6,6 +6,7 @@ use Rattle.verdict.specs.ClassesTurns.{NumberedBefore, numbered-turn, numbered-e
 use native.Mathlib.Omega.{arith}
 use borrow.Author.Rules.{rules}
 use Rattle.verdict.proofs.classes.number.Goals as goal
+use Rattle.verdict.proofs.classes.number.Goals.{else-c-count, then-c-count+else-count-eq63}
 
 pub loop-o-preserved : goal.loop-o-preserved
 loop-o-preserved c =
@@ -14,20 +15,17 @@ loop-o-preserved c =
     let f = c.find_key-c in
     let more = c.if-c-count.count in
     let counts : (f.result < more) × (l.count ≤ more) × (more ≤ 63) × (more ≤ l.count + 1) =
-    ⊎_elim
-    (λ w. (
-      omega (arith, w.4, w.0.taken),
-      omega (arith, w.4),
-      omega (arith, w.4, w.1.left, l.invariant.3),
-      omega (arith, w.4),
-    ))
-    (λ w. (
-      omega (arith, w.2, w.0.left, f.ensures.1),
-      omega (arith, w.2),
-      omega (arith, w.2, l.invariant.3),
-      omega (arith, w.2),
-    ))
-    c.if-c-count.branch in (
+    (elim c.if-c-count.branch [ then-c-count+else-count-eq63 w ↦ (
+      omega (arith, w.count-is, w.if-c-count.true),
+      omega (arith, w.count-is),
+      omega (arith, w.count-is, w.if-count-eq63.false, l.invariant.3),
+      omega (arith, w.count-is),
+    ) | else-c-count w ↦ (
+      omega (arith, w.count-is, w.if-c-count.false, f.ensures.1),
+      omega (arith, w.count-is),
+      omega (arith, w.count-is, l.invariant.3),
+      omega (arith, w.count-is),
+    ) ]) in (
       omega arith,
       omega (arith, c.loop-o-test.true),
       omega (arith, counts.1, l.invariant.2),

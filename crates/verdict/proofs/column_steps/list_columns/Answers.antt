@@ -12,6 +12,7 @@ use Rattle.verdict.specs.TurnedColumns.{column_in, put-column}
 use Rattle.verdict.specs.TurnedTurns.{column-room}
 use native.Mathlib.Omega.{arith}
 use Rattle.verdict.proofs.column_steps.list_columns.Goals as goal
+use Rattle.verdict.proofs.column_steps.list_columns.Goals.{else-states-ne0, then-states-ne0}
 
 pub inner-rest-requires : goal.inner-rest-requires
 inner-rest-requires c = c.requires.1
@@ -112,11 +113,9 @@ loop-rest-preserved c =
     column-within s.args.n s.args.v s.args.size s.args.base s.args.now s.args.columns.now s.requires.1
     s.requires.3 s.requires.8 _ joined.result h joined.ensures in
     let gains : Gains l.words (joined.result * 2 ^ at) c.if-states-ne0.words =
-    ⊎_elim (λ w. ap number_of w.5 ∙ w.2.ensures)
-    (λ w. ap number_of w.1 ∙ gains-none l.words _ (ap (λ z. z * 2 ^ at) w.0.left ∙ zero-mul (2 ^ at)))
-    c.if-states-ne0.branch in (
+    (elim c.if-states-ne0.branch [ then-states-ne0 w ↦ ap number_of w.words-is ∙ w.put_at.ensures | else-states-ne0 w ↦ ap number_of w.words-is ∙ gains-none l.words _ (ap (λ z. z * 2 ^ at) w.if-states-ne0.false ∙ zero-mul (2 ^ at)) ]) in (
       omega (arith, l.invariant.0, and_le_r l.rest (l.rest - 1)),
-      ⊎_elim (λ w. ap length w.5 ∙ w.2.kept.0 ∙ l.invariant.1) (λ w. ap length w.1 ∙ l.invariant.1) c.if-states-ne0.branch,
+      (elim c.if-states-ne0.branch [ then-states-ne0 w ↦ ap length w.words-is ∙ w.put_at.kept.0 ∙ l.invariant.1 | else-states-ne0 w ↦ ap length w.words-is ∙ l.invariant.1 ]),
       columns-turn s.args.v s.args.size s.args.base s.args.entered s.args.accepting s.args.now
           s.args.columns.now _ (column_in s.args.n l.words) (column_in s.args.n c.if-states-ne0.words) l.ends l.rest
           joined.result c.ending-over.result d l.invariant.0 joined.ensures c.ending-over.ensures

@@ -17,6 +17,7 @@ use Rattle.verdict.specs.WideRows.{RowsLaid}
 use native.Mathlib.Omega.{arith}
 use borrow.Author.Rules.{rules}
 use Rattle.verdict.proofs.pairs.row.Goals as goal
+use Rattle.verdict.proofs.pairs.row.Goals.{else-not-seen, then-not-seen+else-m-limit}
 
 pub overflow_mul-from : goal.overflow_mul-from
 overflow_mul-from c = let s = c in omega (arith, s.requires.0, s.requires.1, s.requires.2)
@@ -157,23 +158,20 @@ loop-a-preserved c =
       query = q.ensures _ _ _ in-loop.query_follows-after.ensures;
       covered = next.ensures.0;
     } in
-    ⊎_elim
-    (λ x. (
-      subst₂ (RowLoop D L s.args.limit s.args.i s.args.n s.args.workspace.now (l.a + 1)) (sym x.12) (sym x.9)
+    (elim c.if-not-seen.branch [ then-not-seen+else-m-limit x ↦ (
+      subst₂ (RowLoop D L s.args.limit s.args.i s.args.n s.args.workspace.now (l.a + 1)) (sym x.m-is) (sym x.workspace-is)
           (row_new D _ _ _ _ _ l.a l.m _ l.invariant.0 in-loop.loop-a-test.true s.requires.0 q.result cover step
-          seen.seen.result x.6.last.0 seen.seen.ensures (not-true seen.seen.result x.0.taken)
-          (omega (arith, l.invariant.0.within, x.1.left)) s.requires.2 next.ensures.2 x.6.ensures.0),
-      indexed-same x.9 x.10 x.11 x.12 x.6.ensures.1,
-      short-same x.9 x.12 (short-more x.6.ensures.0 next.ensures.2 (next.ensures.1 s.args.used s.requires.6) l.invariant.2),
-    ))
-    (λ x. (
-      subst₂ (RowLoop D L s.args.limit s.args.i s.args.n s.args.workspace.now (l.a + 1)) (sym x.4) (sym x.1)
+          seen.seen.result x.add.last.0 seen.seen.ensures (not-true seen.seen.result x.if-not-seen.true)
+          (omega (arith, l.invariant.0.within, x.if-m-limit.false)) s.requires.2 next.ensures.2 x.add.ensures.0),
+      indexed-same x.workspace-is x.heads-is x.nexts-is x.m-is x.add.ensures.1,
+      short-same x.workspace-is x.m-is (short-more x.add.ensures.0 next.ensures.2 (next.ensures.1 s.args.used s.requires.6) l.invariant.2),
+    ) | else-not-seen x ↦ (
+      subst₂ (RowLoop D L s.args.limit s.args.i s.args.n s.args.workspace.now (l.a + 1)) (sym x.m-is) (sym x.workspace-is)
           (row-known D _ _ _ _ _ l.a l.m _ l.invariant.0 in-loop.loop-a-test.true s.requires.0 q.result cover step
-          seen.seen.result seen.seen.ensures (not-false seen.seen.result x.0.left)),
-      indexed-same x.1 x.2 x.3 x.4 l.invariant.1,
-      short-same x.1 x.4 l.invariant.2,
-    ))
-    c.if-not-seen.branch
+          seen.seen.result seen.seen.ensures (not-false seen.seen.result x.if-not-seen.false)),
+      indexed-same x.workspace-is x.heads-is x.nexts-is x.m-is l.invariant.1,
+      short-same x.workspace-is x.m-is l.invariant.2,
+    ) ])
 
 pub shape_of-laid : goal.shape_of-laid
 shape_of-laid c = c.lay.auto.laid

@@ -8,6 +8,7 @@ use Rattle.verdict.specs.Missing.{Yields, yields-in, yields-out}
 use native.Mathlib.Omega.{arith}
 use borrow.Author.Rules.{rules}
 use Rattle.verdict.proofs.verdict.yielding.Goals as goal
+use Rattle.verdict.proofs.verdict.yielding.Goals.{else-flags-q-eq1, then-flags-q-eq1}
 
 pub loop-q-init : goal.loop-q-init
 unfolding number_of yielding_of
@@ -30,13 +31,10 @@ loop-q-preserved c =
     let s = c in
     let l = c.loop-q in (
       omega arith,
-      ⊎_elim
-          (λ x. subst (λ z. Yields s.args.flags.now s.args.w (l.q + 1) z.words) (sym x.2)
-          (yields-in s.args.flags.now s.args.states s.args.w l.q l.set.words x.1.result.words s.requires.0 s.requires.1
-          c.loop-q-test.true x.0.taken l.invariant.1 x.1.ensures))
-          (λ x. subst (λ z. Yields s.args.flags.now s.args.w (l.q + 1) z.words) (sym x.1)
-          (yields-out s.args.flags.now s.args.w l.q l.set.words x.0.left l.invariant.1))
-          c.if-flags-q-eq1.branch,
+      (elim c.if-flags-q-eq1.branch [ then-flags-q-eq1 x ↦ subst (λ z. Yields s.args.flags.now s.args.w (l.q + 1) z.words) (sym x.set-is)
+          (yields-in s.args.flags.now s.args.states s.args.w l.q l.set.words x.with_shifted-set.result.words s.requires.0 s.requires.1
+          c.loop-q-test.true x.if-flags-q-eq1.true l.invariant.1 x.with_shifted-set.ensures) | else-flags-q-eq1 x ↦ subst (λ z. Yields s.args.flags.now s.args.w (l.q + 1) z.words) (sym x.set-is)
+          (yields-out s.args.flags.now s.args.w l.q l.set.words x.if-flags-q-eq1.false l.invariant.1) ]),
     )
 
 pub returns : goal.returns

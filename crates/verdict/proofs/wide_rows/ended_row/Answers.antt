@@ -7,6 +7,7 @@ use Rattle.verdict.specs.WideRowsTurns.{ends-start, ends_some, ends-none}
 use native.Mathlib.Omega.{arith}
 use borrow.Author.Rules.{rules}
 use Rattle.verdict.proofs.wide_rows.ended_row.Goals as goal
+use Rattle.verdict.proofs.wide_rows.ended_row.Goals.{else-low-rows-ne0, then-low-rows-ne0}
 
 pub loop-v-init : goal.loop-v-init
 loop-v-init c = (omega arith, λ t. ends-start c.args.rows.now c.args.ended.now c.args.q c.args.low c.args.high t)
@@ -20,13 +21,10 @@ loop-v-preserved c =
     let Reached : ℕ → Type 0 =
     λ z. (t : ℕ) → Member t z ↔ Ends (l.v + 1) a.rows.now a.ended.now a.q (Has a.low a.high) t in (
       omega (arith, test.true),
-      ⊎_elim
-          (λ w. subst Reached (sym w.2)
-          (ends_some a.rows.now a.ended.now a.q a.low a.high l.alone l.v (omega arith) (omega arith) w.0.taken
-          l.invariant.1))
-          (λ w. subst Reached (sym w.1)
-          (ends-none a.rows.now a.ended.now a.q a.low a.high l.alone l.v w.0.left l.invariant.1))
-          c.if-low-rows-ne0.branch,
+      (elim c.if-low-rows-ne0.branch [ then-low-rows-ne0 w ↦ subst Reached (sym w.alone-is)
+          (ends_some a.rows.now a.ended.now a.q a.low a.high l.alone l.v (omega arith) (omega arith) w.if-low-rows-ne0.true
+          l.invariant.1) | else-low-rows-ne0 w ↦ subst Reached (sym w.alone-is)
+          (ends-none a.rows.now a.ended.now a.q a.low a.high l.alone l.v w.if-low-rows-ne0.false l.invariant.1) ]),
     )
 
 pub returns : goal.returns

@@ -7,6 +7,7 @@ use Rattle.verdict.specs.TurnedTurns.{next-column}
 use Rattle.verdict.specs.WideRowsTurns.{RowsWalked, walked_start, high-below, walked-some, walked_none, alone-room, walked_end, stepped-below}
 use native.Mathlib.Omega.{arith}
 use Rattle.verdict.proofs.wide_rows.step_rows.Goals as goal
+use Rattle.verdict.proofs.wide_rows.step_rows.Goals.{else-low-high-ne0, then-low-high-ne0}
 
 pub loop-q-init : goal.loop-q-init
 loop-q-init c =
@@ -59,7 +60,7 @@ loop-q-preserved c =
     let Walked = RowsWalked a.w a.lists a.a a.rows.now a.ended.now a.laid.now in (
       omega (arith, test.true),
       next-column a.w l.from l.q l.invariant.1,
-      ⊎_elim (λ w. ap length w.6 ∙ w.2.kept.0 ∙ l.invariant.2) (λ w. ap length w.1 ∙ l.invariant.2) c.if-low-high-ne0.branch,
+      (elim c.if-low-high-ne0.branch [ then-low-high-ne0 w ↦ ap length w.words-is ∙ w.put_row.kept.0 ∙ l.invariant.2 | else-low-high-ne0 w ↦ ap length w.words-is ∙ l.invariant.2 ]),
       ⊎_elim {C = Walked c.if-low-high-ne0.words c.if-low-high-ne0.alone (l.q + 1)}
           (λ w. subst (λ z. Walked z c.if-low-high-ne0.alone (l.q + 1)) (sym w.6) (subst (λ z. Walked w.2.last.0 z (l.q + 1)) (sym w.7)
           (walked-some a.w a.lists a.a a.rows.now a.ended.now a.laid.now l.words w.2.last.0 l.alone l.q
