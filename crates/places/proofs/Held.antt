@@ -1,8 +1,8 @@
 -- What a function is told of an array of words that it takes by value: how many words there are, and that each has 64 bits.
 use Prim.Native.Nat.{ℕ, zero, suc, ◌^◌, ◌<◌}
-use mathlib.Core.List.{List, [], ◌∷◌, map}
-use mathlib.Core.Path.{◌≡◌, sym, ◌∙◌}
-use lib.ListN.{length, get_or, length-map}
+use mathlib.Core.List.{List, [], ◌∷◌}
+use mathlib.Core.Path.{◌≡◌}
+use lib.ListN.{length, get_or}
 use lib.Pow.{pow_pos}
 use mir.Syntax.{w64}
 use mir.Val.{Val}
@@ -12,18 +12,15 @@ use denote.Plain.{UInt}
 use denote.Shadow.{shadow}
 use Rattle.places.specs.Words.{Words}
 
-abbrev alike : List ℕ → List ℕ
-alike = map (λ v. v)
-
-each-words : (xs : List ℕ) (us : List Val) → shadow (each ℕ (UInt w64).own_val (alike xs) us) → Words xs
+each-words : (xs : List ℕ) (us : List Val) → shadow (each ℕ (UInt w64).own_val xs us) → Words xs
 each-words [] [] s i = pow_pos 64
 each-words [] (u ∷ us) s i = absurd s
 each-words (x ∷ xs) [] s i = absurd s
 each-words (x ∷ xs) (u ∷ us) s zero = s.0.1
 each-words (x ∷ xs) (u ∷ us) s (suc i) = each-words xs us s.1 i
 
-pub array_count : (n : ℕ) (xs : List ℕ) (vs : List Val) → Is (Array (UInt w64) n) (map (λ v. v) xs) vs → length xs ≡ n
-array_count n xs vs p = sym (length-map xs (λ v. v)) ∙ p.1.0.1
+pub array_count : (n : ℕ) (xs : List ℕ) (vs : List Val) → Is (Array (UInt w64) n) xs vs → length xs ≡ n
+array_count n xs vs p = p.1.0.1
 
-pub array-words : (n : ℕ) (xs : List ℕ) (vs : List Val) → Is (Array (UInt w64) n) (map (λ v. v) xs) vs → Words xs
+pub array-words : (n : ℕ) (xs : List ℕ) (vs : List Val) → Is (Array (UInt w64) n) xs vs → Words xs
 array-words n xs vs p = each-words xs p.0 p.1.1

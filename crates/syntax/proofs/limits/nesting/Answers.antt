@@ -12,7 +12,6 @@ use Rattle.syntax.specs.Byte.{Bytes, opening, closing}
 use Rattle.syntax.specs.Limits.{nesting, balance}
 use Rattle.syntax.specs.NestingLaws.{opens, closes, keeps, deeper}
 use Rattle.syntax.proofs.limits.nesting.Goals as goal
-use Rattle.syntax.proofs.limits.nesting.Goals.{else-most-here, then-most-here}
 
 module _ (n b : ℕ) where
   one_more : balance n b ≤ suc n
@@ -41,7 +40,7 @@ loop-i-preserved c =
     let f : nesting l.«open» (drop l.i s) ≡ max l.«open» (nesting m.in_default.«open» (drop (l.i + 1) s)) =
     rw e (next s l.i l.«open» m.loop-i-test.true) in
     let most : c.if-most-here.most ≡ max l.most m.in_default.«open» =
-    (elim c.if-most-here.branch [ then-most-here w ↦ omega (arith, c.depth-here.ensures) | else-most-here w ↦ omega (arith, c.depth-here.ensures) ]) in
+    ⊎_elim (λ w. omega (arith, c.depth-here.ensures)) (λ w. omega (arith, c.depth-here.ensures)) c.if-most-here.branch in
     (omega arith, omega arith, omega (arith, one_more l.«open» (get_or s l.i 0)))
 
 pub returns : goal.returns
