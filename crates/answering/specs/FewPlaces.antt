@@ -12,10 +12,10 @@ use Rattle.theory.specs.Places.{one}
 use Rattle.theory.specs.PlacesLaws.{member-intersection, member_below, members-below, one_below, wider}
 use Rattle.theory.specs.Counting.{pigeonhole}
 use Rattle.theory.specs.Automaton.{Automaton, nexts, step, standing_from, standing}
-use Rattle.theory.specs.AutomatonLaws.{member-nexts}
+use Rattle.theory.proofs.AutomatonLaws.{member-nexts}
 use Rattle.theory.specs.Exploration.{System, Exploration, all, over}
 use Rattle.theory.specs.Explored.{value_at, Exceeds}
-use Rattle.theory.specs.ExplorationLaws.{exceeded}
+use Rattle.theory.proofs.ExplorationLaws.{exceeded}
 use Rattle.finding.specs.declared.standings.Explored.{Explored}
 use Rattle.finding.specs.declared.standings.Explored.TheVariants.{All}
 use Rattle.finding.specs.Plain.{plain}

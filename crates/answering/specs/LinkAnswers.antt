@@ -9,7 +9,7 @@ use Rattle.theory.specs.Graph.{Table, Leads}
 use Rattle.theory.specs.Places.{Member}
 use Rattle.theory.specs.PlacesLaws.{member-collect}
 use Rattle.theory.specs.Automaton.{Automaton, glushkov, standing, accepts}
-use Rattle.theory.specs.Glushkov.{glushkov-accepts}
+use Rattle.theory.proofs.Glushkov.{glushkov-accepts}
 use Rattle.theory.specs.Exploration.{Entry, all}
 use Rattle.finding.specs.Standings.{standings, values}
 use Rattle.finding.specs.States.{accepting_standings}

@@ -8,7 +8,7 @@ use Rattle.std.proofs.lemmas.Nat.{and_mask}
 use Rattle.theory.specs.Graph.{Table}
 use Rattle.theory.specs.Places.{Member, one}
 use Rattle.theory.specs.PlacesLaws.{member-one, member_below, member-intersection, member-union_over}
-use Rattle.theory.specs.AutomatonLaws.{entry-within}
+use Rattle.theory.proofs.AutomatonLaws.{entry-within}
 use Rattle.places.specs.Joined.{joined}
 use Rattle.finding.specs.Cleared.{Cleared}
 use Rattle.answering.specs.ProductLaws.{node-below}

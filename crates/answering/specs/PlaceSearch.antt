@@ -8,11 +8,11 @@ use native.Mathlib.Omega.{arith}
 use Rattle.theory.specs.Path.{Path}
 use Rattle.theory.specs.Graph as G
 use Rattle.theory.specs.Graph.{Table, Leads, stay}
-use Rattle.theory.specs.Answers.{leads-append}
+use Rattle.theory.proofs.Answers.{leads-append}
 use Rattle.theory.specs.Places.{Member, one}
 use Rattle.theory.specs.PlacesLaws.{member-one, member_below, member-intersection}
 use Rattle.theory.specs.Automaton.{Automaton, nexts, step, standing_from, standing, accepts}
-use Rattle.theory.specs.AutomatonLaws.{entry-within, member-nexts, accepts-exactly}
+use Rattle.theory.proofs.AutomatonLaws.{entry-within, member-nexts, accepts-exactly}
 use Rattle.theory.specs.StandingLaws.{standing-append}
 use Rattle.theory.specs.Exploration.{Entry, all}
 use Rattle.finding.specs.Standings.{standings, values}

@@ -6,7 +6,7 @@ use Rattle.std.proofs.Math.Path.{refl, sym, ap, subst}
 use Rattle.theory.specs.Graph as G
 use Rattle.theory.specs.Graph.{Table, Leads, stay}
 use Rattle.theory.specs.Places.{Member}
-use Rattle.theory.specs.Answers.{leads-append}
+use Rattle.theory.proofs.Answers.{leads-append}
 use Rattle.answering.specs.Table.{IsTable}
 use Rattle.answering.specs.TableLaws.{is-table-exactly, table-ends, table-labels}
 use Rattle.answering.specs.Product.{Machine, marks}

@@ -8,8 +8,8 @@ use Rattle.theory.specs.Word.{Word}
 use Rattle.theory.specs.Job.{Job, SpelledBy}
 use Rattle.theory.specs.Rewriting.{Sound, Yielded, FirstMissed, Complete}
 use Rattle.theory.specs.Graph.{Table, ExactPairs, AnswersFromLinks}
-use Rattle.theory.specs.Answers.{lists-within-links, complete-links-within-lists}
-use Rattle.theory.specs.GreatestRewriting.{sound-yielded}
+use Rattle.theory.proofs.Answers.{lists-within-links, complete-links-within-lists}
+use Rattle.theory.proofs.GreatestRewriting.{sound-yielded}
 use Rattle.syntax.specs.Byte.{Bytes}
 use Rattle.reading.specs.JobText.{NamedJob, job_of, IsJob}
 use Rattle.reading.specs.ReadLaws.{job-unique}

@@ -8,7 +8,7 @@ use Rattle.std.proofs.Math.Dec.{ltb}
 use Rattle.theory.specs.Word.{Word}
 use Rattle.theory.specs.Job.{Job, IsWord}
 use Rattle.theory.specs.Rewriting.{Sound}
-use Rattle.theory.specs.GreatestRewriting.{accepted-exactly-sound}
+use Rattle.theory.proofs.GreatestRewriting.{accepted-exactly-sound}
 use Rattle.syntax.specs.Byte.{Bytes}
 use Rattle.syntax.specs.Reply.{given}
 use Rattle.syntax.specs.declared.refusal.Refusal.TheVariants.{BufferTooShort}

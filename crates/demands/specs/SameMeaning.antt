@@ -10,7 +10,7 @@ use Rattle.theory.specs.Path.{Below}
 use Rattle.theory.specs.Word.{Word}
 use Rattle.theory.specs.Job.{Job, IsWord}
 use Rattle.theory.specs.Rewriting.{Sound, Accepted, SameContinuations}
-use Rattle.theory.specs.GreatestRewriting.{accepted-exactly-sound}
+use Rattle.theory.proofs.GreatestRewriting.{accepted-exactly-sound}
 use Rattle.theory.specs.Deterministic.{Deterministic, Accepts, Complete}
 use Rattle.syntax.specs.Byte.{Bytes}
 use Rattle.reading.specs.JobText.{NamedJob, job_of, IsJob}

@@ -12,8 +12,8 @@ use Rattle.std.proofs.Math.ListN.{length-append, get_or-append}
 use Rattle.std.proofs.Math.Seq.{length-take-le}
 use Rattle.theory.specs.Exploration.{System, Entry, Exploration, all, over, known, grow, extend, row, sweep, explore}
 use Rattle.theory.specs.Explored.{entry_at}
-use Rattle.theory.specs.ExplorationSteps.{grow-known, grow-new, grow-over, extend-some, row-end, row_on, row-over}
-use Rattle.theory.specs.ExplorationSteps.{sweep-end, sweep-on, sweep-over, explore-some}
+use Rattle.theory.proofs.ExplorationSteps.{grow-known, grow-new, grow-over, extend-some, row-end, row_on, row-over}
+use Rattle.theory.proofs.ExplorationSteps.{sweep-end, sweep-on, sweep-over, explore-some}
 use Rattle.finding.specs.declared.standings.Explored.{Explored}
 use Rattle.finding.specs.declared.standings.Explored.TheVariants.{All, Over}
 use Rattle.finding.specs.Numbers.{length-values, get_or-values, values-append}

@@ -9,7 +9,7 @@ use Rattle.std.proofs.lemmas.List.{length-map}
 use Rattle.theory.specs.Word.{Word}
 use Rattle.theory.specs.Job.{Job, WellFormed, IsWord}
 use Rattle.theory.specs.Rewriting.{Sound}
-use Rattle.theory.specs.GreatestRewriting.{accepted-exactly-sound}
+use Rattle.theory.proofs.GreatestRewriting.{accepted-exactly-sound}
 use Rattle.theory.specs.Expression.{Expression}
 use Rattle.theory.specs.Automaton.{Automaton, glushkov}
 use Rattle.theory.specs.Exploration.{Entry, Exploration, all, over}

@@ -10,10 +10,10 @@ use Rattle.theory.specs.Places.{one}
 use Rattle.theory.specs.Job.{Job}
 use Rattle.theory.specs.Automaton.{Automaton, glushkov}
 use Rattle.theory.specs.Exploration.{Entry, all}
-use Rattle.theory.specs.ExplorationLaws.{explored}
+use Rattle.theory.proofs.ExplorationLaws.{explored}
 use Rattle.theory.specs.WordLengths.{word-short}
 use Rattle.theory.specs.Minimized.{minimized}
-use Rattle.theory.specs.MinimizedLaws.{minimized-fewer, minimized-next}
+use Rattle.theory.proofs.MinimizedLaws.{minimized-fewer, minimized-next}
 use Rattle.finding.specs.Standings.{standings, values}
 use Rattle.finding.specs.StandingsLaws.{standing-tests}
 use Rattle.finding.specs.ListImage.{image_table}

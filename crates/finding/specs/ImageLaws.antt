@@ -10,10 +10,10 @@ use Rattle.theory.specs.Places.{Member, one}
 use Rattle.theory.specs.PlacesLaws.{member-one, one_below, member-collect}
 use Rattle.theory.specs.PlacesShift.{member-down, member-cut}
 use Rattle.theory.specs.Automaton.{Automaton, glushkov, standing_from, accepts}
-use Rattle.theory.specs.AutomatonLaws.{member-entry, member-enter, member-accepting, accepts-exactly}
+use Rattle.theory.proofs.AutomatonLaws.{member-entry, member-enter, member-accepting, accepts-exactly}
 use Rattle.theory.specs.StandsAt.{StandsAt, done}
 use Rattle.theory.specs.StandsAt as S
-use Rattle.theory.specs.GlushkovRelations.{path-exactly}
+use Rattle.theory.proofs.GlushkovRelations.{path-exactly}
 use Rattle.theory.specs.Closure.{Reaches, here, onward, closure}
 use Rattle.theory.specs.ClosureLaws.{closure-exactly}
 use Rattle.finding.specs.Standings.{move}

@@ -10,7 +10,7 @@ use Rattle.theory.specs.Places.{Member, one, intersection, collect}
 use Rattle.theory.specs.PlacesLaws.{member-none, member-one, member_union, member_below, members-below, one_below, equal-members}
 use Rattle.theory.specs.PlacesLaws.{member-collect}
 use Rattle.theory.specs.Automaton.{Automaton, accepts}
-use Rattle.theory.specs.AutomatonLaws.{accepts-exactly}
+use Rattle.theory.proofs.AutomatonLaws.{accepts-exactly}
 use Rattle.theory.specs.Closure.{Reaches, here, closure}
 use Rattle.theory.specs.ClosureLaws.{reaches_step, closed-under, closure-exactly}
 use Rattle.finding.specs.Standings.{move}

@@ -7,7 +7,7 @@ use Rattle.theory.specs.Standing.{size}
 use Rattle.theory.specs.Occurrences.{labelled-within}
 use Rattle.theory.specs.PlacesLaws.{members-below}
 use Rattle.theory.specs.Automaton.{labelled, glushkov}
-use Rattle.theory.specs.AutomatonLaws.{member-labelled, length-follows}
+use Rattle.theory.proofs.AutomatonLaws.{member-labelled, length-follows}
 
 pub glushkov-width : (e : Expression) → length (glushkov e).follow ≡ suc (size e)
 unfolding glushkov

@@ -8,7 +8,7 @@ use Rattle.std.proofs.Math.ListN.{length-set}
 use Rattle.theory.specs.Leaders.{Led, led-below, leaders, leaders-one, leaders-none, leaders-at-most}
 use Rattle.theory.specs.Refinement.{class_at}
 use Rattle.theory.specs.Minimized.{class_number, first_member}
-use Rattle.theory.specs.MinimizedLaws.{first-of-leader, first-member-kept}
+use Rattle.theory.proofs.MinimizedLaws.{first-of-leader, first-member-kept}
 use Rattle.finding.specs.TableLent.{RowLent, TableLent}
 use Rattle.finding.specs.MergeTold.{ClassNumbers, RowPut, ClassesPut}
 

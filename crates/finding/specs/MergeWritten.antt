@@ -8,9 +8,9 @@ use Rattle.theory.specs.Deterministic.{Deterministic}
 use Rattle.theory.specs.Leaders.{Led, led-agree, leaders, leaders-agree, leaders-at-most}
 use Rattle.theory.specs.Quotient.{quotient}
 use Rattle.theory.specs.Refinement.{class_at, classes as classes_of}
-use Rattle.theory.specs.RefinementLaws.{classes-led}
+use Rattle.theory.proofs.RefinementLaws.{classes-led}
 use Rattle.theory.specs.Minimized.{class_number, first_member, merged, minimized}
-use Rattle.theory.specs.MinimizedLaws.{numbers-named, number-agree, first-member-agree}
+use Rattle.theory.proofs.MinimizedLaws.{numbers-named, number-agree, first-member-agree}
 use Rattle.finding.specs.Find.{flag, deterministic, table_of, flags_of}
 use Rattle.finding.specs.Named.{table_part, flags_part, written}
 use Rattle.finding.specs.TableOfLaws.{table-length, table-next, table-unused, flags-length, flag_at}

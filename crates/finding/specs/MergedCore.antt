@@ -7,7 +7,7 @@ use Rattle.std.proofs.Math.ListN.{get_or-eq_default}
 use Rattle.theory.specs.Automaton.{Automaton}
 use Rattle.theory.specs.Deterministic.{Agree}
 use Rattle.theory.specs.Minimized.{minimized}
-use Rattle.theory.specs.MinimizedLaws.{minimized-agrees}
+use Rattle.theory.proofs.MinimizedLaws.{minimized-agrees}
 use Rattle.finding.specs.declared.answer.FindAnswer.{FindAnswer}
 use Rattle.finding.specs.declared.answer.Finding.TheVariants.{Found as Told, Refused}
 use Rattle.finding.specs.WordTold.{first_word}

@@ -12,7 +12,7 @@ use Rattle.theory.specs.Deterministic.{Deterministic, run, Accepts, Canonical}
 use Rattle.theory.specs.DeterministicLaws.{run-within, end-exactly}
 use Rattle.theory.specs.Quotient.{quotient}
 use Rattle.theory.specs.Minimized.{minimized, merged as merged_by}
-use Rattle.theory.specs.MinimizedLaws.{minimized-words, minimized-canonical}
+use Rattle.theory.proofs.MinimizedLaws.{minimized-words, minimized-canonical}
 use Rattle.finding.specs.Find.{Rewriting, row_width, table_of, flags_of, merged}
 use Rattle.finding.specs.Finds.{followed, FindsUnmerged, Finds}
 use Rattle.finding.specs.Table.{flag-value, flag-exactly}

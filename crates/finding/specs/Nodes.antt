@@ -10,7 +10,7 @@ use Rattle.theory.specs.Places.{Member, intersection}
 use Rattle.theory.specs.PlacesLaws.{member-none, member_union, member-intersection, members-below}
 use Rattle.theory.specs.PlacesShift.{member-moved}
 use Rattle.theory.specs.Automaton.{Automaton, glushkov}
-use Rattle.theory.specs.AutomatonLaws.{length-follows, member-enter}
+use Rattle.theory.proofs.AutomatonLaws.{length-follows, member-enter}
 use Rattle.finding.specs.Standings.{move}
 use Rattle.finding.specs.ListImage.{width, onwards, next_nodes}
 

@@ -1,7 +1,7 @@
 -- A standing is followed through the places that a table has entries for: the others lead nowhere.
 use Rattle.std.specs.Prelude.{◌≡◌, ℕ, ◌%◌, ◌^◌, List, length}
 use Rattle.theory.specs.Automaton.{nexts}
-use Rattle.theory.specs.AutomatonLaws.{member-nexts}
+use Rattle.theory.proofs.AutomatonLaws.{member-nexts}
 use Rattle.theory.specs.PlacesLaws.{equal-members}
 use Rattle.theory.specs.PlacesShift.{member-cut}
 

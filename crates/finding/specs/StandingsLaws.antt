@@ -9,10 +9,10 @@ use Rattle.theory.specs.Path.{Path}
 use Rattle.theory.specs.Expression.{Expression}
 use Rattle.theory.specs.Places.{one}
 use Rattle.theory.specs.Automaton.{Automaton, glushkov, step, standing_from, standing}
-use Rattle.theory.specs.Glushkov.{glushkov-same}
+use Rattle.theory.proofs.Glushkov.{glushkov-same}
 use Rattle.theory.specs.Exploration.{Entry, all, over, run}
 use Rattle.theory.specs.Explored.{Tests, Explored}
-use Rattle.theory.specs.ExplorationLaws.{explored, over-exactly}
+use Rattle.theory.proofs.ExplorationLaws.{explored, over-exactly}
 use Rattle.theory.specs.DistinctWords.{DistinctWords, explored-counts, exceeds-exactly}
 use Rattle.finding.specs.Standings.{standing_system, standings}
 use Rattle.finding.specs.Finds.{DistinctStandings, CountsStandings}

@@ -5,7 +5,7 @@ use Rattle.std.specs.Prelude.{refl}
 use Rattle.std.proofs.Common.{sym, ◌∙◌}
 use Rattle.std.proofs.Math.Path.{ap, subst}
 use Rattle.theory.specs.Exploration.{Entry, all, over}
-use Rattle.theory.specs.ExplorationSteps.{explore-none}
+use Rattle.theory.proofs.ExplorationSteps.{explore-none}
 use Rattle.finding.specs.declared.standings.Explored.{Explored}
 use Rattle.finding.specs.declared.standings.Explored.TheVariants.{All, Over}
 use Rattle.finding.specs.Standings.{standings, values, move}

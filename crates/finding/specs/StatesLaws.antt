@@ -17,11 +17,11 @@ use Rattle.theory.specs.PlacesLaws.{member-one, member_below, one_below, member-
 use Rattle.theory.specs.PlacesLaws.{member-union_over, union_over-below}
 use Rattle.theory.specs.Automaton.{Automaton, glushkov, standing_from, standing, accepts}
 use Rattle.theory.specs.StandingLaws.{standing_from-append}
-use Rattle.theory.specs.Glushkov.{glushkov-accepts, glushkov-same}
-use Rattle.theory.specs.GlushkovRelations.{accepts-exactly-path}
+use Rattle.theory.proofs.Glushkov.{glushkov-accepts, glushkov-same}
+use Rattle.theory.proofs.GlushkovRelations.{accepts-exactly-path}
 use Rattle.theory.specs.Exploration.{System, Entry, all, over, run}
 use Rattle.theory.specs.Explored.{Tests, Explored}
-use Rattle.theory.specs.ExplorationLaws.{explored, over-exactly}
+use Rattle.theory.proofs.ExplorationLaws.{explored, over-exactly}
 use Rattle.theory.specs.DistinctWords.{DistinctWords, exceeds-exactly}
 use Rattle.finding.specs.States.{state_step, state_system, states, accepting_standings, state_accepts}
 use Rattle.finding.specs.Finds.{DistinctStates}

@@ -6,7 +6,7 @@ use Rattle.std.proofs.Common.{sym, ◌∙◌, subst, arith}
 use Rattle.std.proofs.Math.Path.{ap}
 use Rattle.theory.specs.Places.{one}
 use Rattle.theory.specs.Exploration.{Entry, all, over}
-use Rattle.theory.specs.ExplorationSteps.{explore-none}
+use Rattle.theory.proofs.ExplorationSteps.{explore-none}
 use Rattle.finding.specs.declared.standings.Explored.{Explored}
 use Rattle.finding.specs.declared.standings.Explored.TheVariants.{All, Over}
 use Rattle.finding.specs.Standings.{values, place_of}

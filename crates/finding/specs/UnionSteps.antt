@@ -6,7 +6,7 @@ use Rattle.std.proofs.Math.ListN.{get_or-eq_default}
 use Rattle.theory.specs.Places.{Member, union_over}
 use Rattle.theory.specs.PlacesLaws.{member-none, member-union_over, equal-members}
 use Rattle.theory.specs.Automaton.{nexts}
-use Rattle.theory.specs.AutomatonLaws.{member-nexts}
+use Rattle.theory.proofs.AutomatonLaws.{member-nexts}
 
 -- Where s has no place from p on and below r, those below r lead where those below p do.
 pub union_over-skip : (next : ℕ → ℕ) (s p r : ℕ) → p ≤ r → ((i : ℕ) → p ≤ i → i < r → ¬ Member i s) → union_over next p s ≡ union_over next r s

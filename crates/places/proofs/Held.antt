@@ -1,8 +1,8 @@
 -- What a function is told of an array of words that it takes by value: how many words there are, and that each has 64 bits.
-use Prim.Native.Nat.{ℕ, zero, suc, ◌^◌, ◌<◌}
+use Prim.Native.Nat.{ℕ, zero, suc}
 use mathlib.Core.List.{List, [], ◌∷◌}
 use mathlib.Core.Path.{◌≡◌}
-use lib.ListN.{length, get_or}
+use lib.ListN.{length}
 use lib.Pow.{pow_pos}
 use mir.Syntax.{w64}
 use mir.Val.{Val}

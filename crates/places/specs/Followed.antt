@@ -8,7 +8,7 @@ use Rattle.theory.specs.Places.{Member, union, union_over}
 use Rattle.theory.specs.PlacesLaws.{member-zero, member-suc, member-none, member_below, member_union, member-union_over}
 use Rattle.theory.specs.PlacesLaws.{equal-members, no-members}
 use Rattle.theory.specs.Automaton.{nexts}
-use Rattle.theory.specs.AutomatonLaws.{member-nexts, entry-within}
+use Rattle.theory.proofs.AutomatonLaws.{member-nexts, entry-within}
 use Rattle.places.specs.UnionLaws.{union_assoc}
 use Rattle.places.specs.NextPlace.{trailing-here}
 

@@ -1,6 +1,6 @@
 -- The least place of a set from a place on, of at most 1,024 places: by words (Words), and in a word by its trailing zeros.
 use Rattle.std.specs.Prelude.{ℕ, zero, suc, ◌+◌, ◌*◌, ◌-◌, ◌/◌, ◌%◌, ◌^◌, ◌≤◌, ◌<◌, List, ◌↔◌, ◌≢◌, ◌≡◌, refl, length, get_or}
-use Rattle.std.proofs.Common.{sym, ap, ◌∙◌, subst, pow-suc, arith}
+use Rattle.std.proofs.Common.{sym, subst, pow-suc, arith}
 use Rattle.std.proofs.Math.Decide.{dec_lt}
 use Rattle.std.specs.Int.Count.{count_trailing_zeros, under}
 use Rattle.std.proofs.lemmas.Nat.{trailing_le}
@@ -8,7 +8,7 @@ use Rattle.theory.specs.Places.{Member}
 use Rattle.theory.specs.PlacesLaws.{member-zero, member-suc, member_below}
 use Rattle.theory.specs.PlacesShift.{member-down, member-up, member-up-from, member-cut}
 use Rattle.places.specs.Words.{number_of, Words}
-use Rattle.places.specs.WordsLaws.{member-number, number-below}
+use Rattle.places.specs.WordsLaws.{member-number}
 
 -- r is the least place of s from `from` on; 1,024 where there is none.
 pub record NextPlace (s from r : ℕ) : Type 0 where

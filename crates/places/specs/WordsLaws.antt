@@ -7,8 +7,8 @@ use Rattle.std.proofs.lemmas.Nat.{or_shifted}
 use Rattle.std.proofs.Math.ListN.{get_or-eq_default}
 use Rattle.std.proofs.Math.Pow.{high, low}
 use Rattle.theory.specs.Places.{Member, intersection}
-use Rattle.theory.specs.PlacesLaws.{member-none, member_below, members-below, member_union, member-intersection, member-test, equal-members}
-use Rattle.theory.specs.PlacesLaws.{no-members, not_none, union-below}
+use Rattle.theory.specs.PlacesLaws.{member-none, member_below, members-below, member_union, member-intersection}
+use Rattle.theory.specs.PlacesLaws.{no-members, not_none}
 use Rattle.theory.specs.PlacesShift.{member-up, member-up-from}
 use Rattle.theory.specs.PlacesWithin.{within-at-most, member-without}
 use Rattle.places.specs.Words.{number_of, Words, Without}

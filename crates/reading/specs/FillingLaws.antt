@@ -12,7 +12,7 @@ use Rattle.theory.specs.Expression.{Expression}
 use Rattle.theory.specs.Standing.{size}
 use Rattle.theory.specs.Places.{union}
 use Rattle.theory.specs.Automaton.{glushkov, labelled}
-use Rattle.theory.specs.AutomatonLaws.{length-follows}
+use Rattle.theory.proofs.AutomatonLaws.{length-follows}
 use Rattle.syntax.specs.declared.build.Automaton.{Automaton}
 use Rattle.syntax.specs.declared.checks.Check.{Check as Verdict}
 use Rattle.syntax.specs.declared.checks.Check.TheVariants.{Fine}

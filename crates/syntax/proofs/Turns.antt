@@ -12,7 +12,7 @@ use lib.Seq.{length-take-le, drop-drop, drop_at}
 use Rattle.theory.specs.Places.{Member, when}
 use Rattle.theory.specs.PlacesLaws.{member-none, member_union, member-when}
 use Rattle.theory.specs.Automaton.{link, follows}
-use Rattle.theory.specs.AutomatonLaws.{length-link}
+use Rattle.theory.proofs.AutomatonLaws.{length-link}
 use Rattle.syntax.specs.declared.cursor.Cursor.{Cursor}
 use Rattle.syntax.specs.declared.cursor.Moved.{Moved}
 use Rattle.syntax.specs.declared.cursor.Moved.TheVariants.{To, Failed}

@@ -14,7 +14,7 @@ use Rattle.theory.specs.Standing.{size}
 use Rattle.theory.specs.Places.{Member, when}
 use Rattle.theory.specs.PlacesLaws.{member_union, member-when}
 use Rattle.theory.specs.Automaton.{link}
-use Rattle.theory.specs.AutomatonLaws.{length-link}
+use Rattle.theory.proofs.AutomatonLaws.{length-link}
 use Rattle.syntax.specs.declared.cursor.Cursor.{Cursor}
 use Rattle.syntax.specs.declared.parts.Part.{Part}
 use Rattle.syntax.specs.Byte.{Bytes, dot, bar}

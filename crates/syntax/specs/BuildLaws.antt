@@ -10,7 +10,7 @@ use Rattle.theory.specs.Places.{Member, one, union, when}
 use Rattle.theory.specs.PlacesLaws.{member-none}
 use Rattle.theory.specs.Occurrences.{last_within}
 use Rattle.theory.specs.Automaton.{nullable, first, last, link, follows, labelled}
-use Rattle.theory.specs.AutomatonLaws.{length-follows, member-last}
+use Rattle.theory.proofs.AutomatonLaws.{length-follows, member-last}
 use Rattle.places.specs.declared.Places.{Places}
 use Rattle.syntax.specs.declared.parts.Part.{Part}
 use Rattle.syntax.specs.Part.{nowhere, unit, fault, single, either, both, ended}

@@ -8,7 +8,7 @@ use Rattle.std.specs.Int.Count.{count_trailing_zeros}
 use Rattle.theory.specs.Places.{Member, member, none, union, when}
 use Rattle.theory.specs.PlacesLaws.{member-test, member-none, member_union, equal-members}
 use Rattle.theory.specs.Automaton.{link}
-use Rattle.theory.specs.AutomatonLaws.{length-link, member-link}
+use Rattle.theory.proofs.AutomatonLaws.{length-link, member-link}
 use Rattle.places.specs.NextPlace.{trailing-here}
 use Rattle.places.specs.Followed.{least-left}
 

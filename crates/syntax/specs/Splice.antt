@@ -4,7 +4,7 @@ use Rattle.std.proofs.Common.{append_assoc, sym, ap, ap₂, ◌∙◌, add-zero,
 use Rattle.std.proofs.lemmas.List.{set_split}
 use Rattle.theory.specs.Places.{Member}
 use Rattle.theory.specs.Automaton.{link}
-use Rattle.theory.specs.AutomatonLaws.{length-link}
+use Rattle.theory.proofs.AutomatonLaws.{length-link}
 use Rattle.syntax.specs.Link.{link-append, link-none}
 
 -- The table t with the entries of s in its places from k on.

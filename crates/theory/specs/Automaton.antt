@@ -1,6 +1,6 @@
 -- Glushkov's automaton of an expression, executable: sets of places are numbers (Places), place 0 is the start and the occurrences are
 -- numbered from 1. A standing (document 01) is a set of places.
-use Rattle.std.specs.Prelude.{ℕ, zero, suc, ◌+◌, ◌/◌, ◌%◌, Bool, true, false, ◌||◌, ◌&&◌, not, List, [], ◌∷◌, ◌++◌, eqb}
+use Rattle.std.specs.Prelude.{ℕ, suc, ◌+◌, ◌/◌, Bool, true, false, ◌||◌, ◌&&◌, not, List, [], ◌∷◌, ◌++◌, eqb}
 use Rattle.theory.specs.Path.{Label, Path}
 use Rattle.theory.specs.Expression.{Expression, empty, label, alternative, sequence, star, optional}
 use Rattle.theory.specs.Standing.{size}

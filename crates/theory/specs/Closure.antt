@@ -1,6 +1,6 @@
 -- Reachability under a relation (document 01 uses it twice: recordings with standings over links, standings with list places over
 -- labels), and its computation over numbered nodes.
-use Rattle.std.specs.Prelude.{ℕ, zero, suc, Bool, true, false, eqb}
+use Rattle.std.specs.Prelude.{ℕ, zero, suc, true, false, eqb}
 use Rattle.theory.specs.Places.{union, union_over}
 
 -- `Reaches R x y`: finitely many steps of R, perhaps none, lead from x to y.

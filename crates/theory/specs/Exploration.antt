@@ -1,7 +1,7 @@
 -- Exploration of a deterministic system: the values that it reaches from its start over words of its symbols, each with its first word,
 -- in the order of those words (shorter first, then symbol order), as long as there are no more values than a limit. Query standings over
 -- labels, states over lists and pairs over labels (document 01) are three such systems. A step may be undefined.
-use Rattle.std.specs.Prelude.{ℕ, zero, suc, ◌<◌, Bool, true, false, ◌||◌, List, [], ◌∷◌, ◌++◌, ltb, length, get_or}
+use Rattle.std.specs.Prelude.{ℕ, zero, suc, Bool, true, false, ◌||◌, List, [], ◌∷◌, ◌++◌, ltb, length, get_or}
 use Rattle.std.proofs.Math.Option.{Option, some, none}
 
 -- A deterministic system over the values A: a test for equal values, the start, the step over a symbol, and how many symbols there are.

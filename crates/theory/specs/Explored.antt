@@ -1,7 +1,7 @@
 -- What an exploration has to tell, declaratively: all values reached, no duplicates, each with its least word, in the order of least
 -- words; or that strictly more values than the limit are reached.
-use Rattle.std.specs.Prelude.{ℕ, suc, ◌<◌, Bool, true, List, [], ◌∷◌, reverse, ◌⊎◌, ◌≡◌, length, get_or}
-use Rattle.std.proofs.Math.Option.{Option, some}
+use Rattle.std.specs.Prelude.{ℕ, suc, ◌<◌, true, List, [], reverse, ◌⊎◌, ◌≡◌, length, get_or}
+use Rattle.std.proofs.Math.Option.{some}
 use Rattle.theory.specs.Path.{Below, Before}
 use Rattle.theory.specs.Exploration.{System, Entry, run}
 

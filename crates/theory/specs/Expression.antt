@@ -1,5 +1,5 @@
 -- Expressions over labels, and their paths (document 01, "The job text"; document 001, section 2, regular expressions).
-use Rattle.std.specs.Prelude.{List, [], ◌∷◌, ◌++◌, ◌⊎◌, ◌≡◌}
+use Rattle.std.specs.Prelude.{[], ◌∷◌, ◌++◌, ◌⊎◌, ◌≡◌}
 use Rattle.theory.specs.Path.{Label, Path, Language}
 
 -- Regular expressions over any kind of leaf: label numbers here, names as they are written where a job is read.

@@ -1,7 +1,7 @@
 -- The construction of document 001, section 2: over any deterministic automaton, each list takes a set of states to the states after its
 -- paths (its image); the images folded over a list word give exactly the states after the paths that the word spells. So a word is sound
 -- exactly when all those states accept.
-use Rattle.std.specs.Prelude.{ℕ, List, [], ◌∷◌, ◌++◌, ◌↔◌, ◌≡◌, refl}
+use Rattle.std.specs.Prelude.{ℕ, [], ◌∷◌, ◌++◌, ◌↔◌, ◌≡◌, refl}
 use Rattle.std.proofs.Common.{sym, ◌∙◌, ap, subst}
 use Rattle.theory.specs.Path.{Label, Path, Language}
 use Rattle.theory.specs.Word.{Word, Spells, nothing, name}

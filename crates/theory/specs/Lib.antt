@@ -31,9 +31,6 @@ pub mod Chain
 pub mod Chains
 pub mod Prefixes
 pub mod StandsAt
-pub mod GlushkovRelations
-pub mod AutomatonLaws
-pub mod Glushkov
 pub mod StandingLaws
 -- Exploration.
 pub mod PathOrder
@@ -42,9 +39,6 @@ pub mod Trails
 pub mod ExploredLaws
 pub mod WordLengths
 pub mod Progress
-pub mod Outcome
-pub mod ExplorationSteps
-pub mod ExplorationLaws
 pub mod DistinctWords
 -- Laws and theorems.
 pub mod PlacesLaws
@@ -53,14 +47,10 @@ pub mod PlacesWithin
 pub mod ClosureLaws
 pub mod PathsBelow
 pub mod Images
-pub mod GreatestRewriting
-pub mod Answers
 -- Minimal tables.
 pub mod DeterministicLaws
 pub mod Minimal
 pub mod ClassesLaws
 pub mod QuotientLaws
-pub mod RefinementLaws
 pub mod Level
 pub mod Splitting
-pub mod MinimizedLaws

@@ -1,6 +1,6 @@
 -- Sets of places as numbers: place i is in the set s where bit i of s is 1. A set of places below w is a number below 2 ^ w; nothing
 -- here names a width.
-use Rattle.std.specs.Prelude.{ℕ, zero, suc, ◌+◌, ◌*◌, ◌/◌, ◌%◌, ◌^◌, Bool, true, false, ◌≡◌, eqb}
+use Rattle.std.specs.Prelude.{ℕ, zero, suc, ◌/◌, ◌%◌, ◌^◌, Bool, true, false, ◌≡◌, eqb}
 use Rattle.std.specs.Int.Bits.{bit_and, bit_or}
 
 -- `Member i s`: place i is in the set s.

@@ -1,8 +1,8 @@
 -- Refinement by splitting: each class c is named by its first state, and the states that differ from the first of their class in the flag
 -- or in the classes of their next states leave it together.
-use Rattle.std.specs.Prelude.{ℕ, ◌+◌, ◌≤◌, ◌<◌, ◌⊎◌, ◌≡◌, refl, length}
-use mathlib.Core.List.{List, [], ◌∷◌, head-eq_of_cons-eq}
-use Rattle.std.proofs.Common.{inl, inr, sym, ap, ◌∙◌, arith, ext_get_or}
+use Rattle.std.specs.Prelude.{ℕ, ◌+◌, ◌≤◌, ◌<◌, ◌⊎◌, ◌≡◌, refl}
+use mathlib.Core.List.{[], ◌∷◌, head-eq_of_cons-eq}
+use Rattle.std.proofs.Common.{inl, inr, sym, ap, ◌∙◌, arith}
 use Rattle.std.proofs.Math.Decide.{dec_le}
 use Rattle.theory.specs.Path.{nothing}
 use Rattle.theory.specs.Deterministic.{Deterministic, run, Complete, SameFrom}
@@ -11,8 +11,6 @@ use Rattle.theory.specs.Classes.{Coarse, Stable}
 use Rattle.theory.specs.ClassesLaws.{stable-same}
 use Rattle.theory.specs.Leader.{leader, leader-at-most, leader-key, leader-same}
 use Rattle.theory.specs.Leaders.{Led, leaders, leaders-same}
-use Rattle.theory.specs.Refinement.{class_at, classes}
-use Rattle.theory.specs.RefinementLaws.{classes-led, classes-coarse, classes-stable, classes-length}
 
 -- Two states agree in the flag and in the classes of their next states.
 pub record Alike (D : Deterministic) (c : ℕ → ℕ) (q r : ℕ) : Type 0 where
@@ -143,10 +141,3 @@ led-unique {D} {c} {d} C L A S M B T q h =
         let k : d q < D.states = omega (arith, M.at_most q h) in
         let same : c (d q) ≡ c q = A (d q) q k h (stable-same C T (d q) q k h (M.leads q h)) in
         omega (arith, L.at_most (d q) k)
-
--- They are the classes that the rounds end in.
-pub classes-only : (D : Deterministic) (s : List ℕ) → length s ≡ D.states → Complete D
-    → Led D.states (class_at s) → Coarse D (class_at s) → Stable D (class_at s) → s ≡ classes D
-classes-only D s e C L A S =
-    ext_get_or 0 s (classes D) (e ∙ sym (classes-length D))
-    (λ q h. led-unique C L A S (classes-led D) (classes-coarse D C) (classes-stable D) q (omega (arith, e)))

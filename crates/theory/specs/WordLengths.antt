@@ -1,13 +1,13 @@
 -- The words that an exploration finds are short: no word is longer than the place of its value, since all its beginnings lead to values
 -- that stand before that one.
-use Rattle.std.specs.Prelude.{ℕ, zero, suc, ◌≤◌, ◌<◌, List, [], ◌∷◌, reverse, ◌⊎◌, ◌≡◌, refl, length}
+use Rattle.std.specs.Prelude.{ℕ, zero, suc, ◌≤◌, ◌<◌, List, ◌∷◌, reverse, ◌⊎◌, ◌≡◌, refl, length}
 use Rattle.std.proofs.lemmas.List.{reverse-reverse, length-reverse}
 use Rattle.std.proofs.Common.{inl, inr, sym, ap, subst, arith}
 use Rattle.std.proofs.Math.Option.{some}
 use Rattle.theory.specs.Path.{Path, Before}
 use Rattle.theory.specs.PathOrder.{compared}
 use Rattle.theory.specs.Exploration.{System, Entry}
-use Rattle.theory.specs.Explored.{Reached, value_at, word_at, Explored}
+use Rattle.theory.specs.Explored.{value_at, word_at, Explored}
 use Rattle.theory.specs.Trails.{trail_at, Leads, started, stepped, leads-reached, reached-leads}
 
 not-longer : (p q : Path) → (p ≡ q) ⊎ Before p q → length p ≤ length q

@@ -12,7 +12,7 @@ use Rattle.theory.specs.PlacesLaws.{member-none, member-one, member-test, member
 use Rattle.theory.specs.Occurrences.{last_within}
 use Rattle.theory.specs.Chain.{Final}
 use Rattle.theory.specs.Automaton.{Automaton, glushkov}
-use Rattle.theory.specs.AutomatonLaws.{member-accepting}
+use Rattle.theory.proofs.AutomatonLaws.{member-accepting}
 use Rattle.finding.specs.Rewritten.{Rewritten, next_state}
 use Rattle.verdict.specs.Cover.{occurrences, width, passed, finished, ends}
 use Rattle.verdict.specs.CoverPlaces.{list_at, base, offsets, numbered, size-exactly, offsets-exactly, offset-below, state-of}

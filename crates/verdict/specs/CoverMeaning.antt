@@ -13,8 +13,8 @@ use Rattle.theory.specs.Occurrences.{labelled-within, follow-from-within, last_w
 use Rattle.theory.specs.Chain.{FollowFrom, Final}
 use Rattle.theory.specs.StandsAt as S
 use Rattle.theory.specs.StandsAt.{StandsAt}
-use Rattle.theory.specs.GlushkovRelations.{standing-exactly, path-exactly}
-use Rattle.theory.specs.GreatestRewriting.{spells-word}
+use Rattle.theory.proofs.GlushkovRelations.{standing-exactly, path-exactly}
+use Rattle.theory.proofs.GreatestRewriting.{spells-word}
 use Rattle.finding.specs.Finds.{followed}
 use Rattle.finding.specs.Rewritten.{Rewritten, next_state}
 use Rattle.verdict.specs.Verdicts.{ReachesState, ReachesOccurrence}

@@ -14,7 +14,7 @@ use Rattle.theory.specs.PlacesLaws.{member-none, member_union, member-intersecti
 use Rattle.theory.specs.Occurrences.{labelled-within, follow-from-within}
 use Rattle.theory.specs.Chain.{FollowFrom}
 use Rattle.theory.specs.Automaton.{Automaton, glushkov}
-use Rattle.theory.specs.AutomatonLaws.{member-entry, member-enter}
+use Rattle.theory.proofs.AutomatonLaws.{member-entry, member-enter}
 use Rattle.verdict.specs.Cover.{occurrences, width, entered, moved_within, moves}
 use Rattle.theory.specs.PlacesShift.{member-moved}
 use Rattle.verdict.specs.CoverPlaces.{list_at, base, offset, offsets, numbered, size-exactly, offsets-exactly, offset-below, state-of}

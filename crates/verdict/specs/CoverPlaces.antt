@@ -10,7 +10,7 @@ use Rattle.std.proofs.Math.Arith.{digits_lt, digits_div, digits_mod}
 use Rattle.theory.specs.Expression.{Expression, empty}
 use Rattle.theory.specs.Standing.{size}
 use Rattle.theory.specs.Automaton.{glushkov}
-use Rattle.theory.specs.AutomatonLaws.{length-follows}
+use Rattle.theory.proofs.AutomatonLaws.{length-follows}
 use Rattle.verdict.specs.Cover.{occurrences, all_occurrences, width}
 use Rattle.verdict.specs.Verdicts.{total_size}
 

@@ -21,7 +21,7 @@ use Rattle.theory.specs.Occurrences.{labelled-within}
 use Rattle.theory.specs.Chain.{FollowFrom}
 use Rattle.theory.specs.StandsAt as S
 use Rattle.theory.specs.StandsAt.{StandsAt}
-use Rattle.theory.specs.GlushkovRelations.{path-exactly}
+use Rattle.theory.proofs.GlushkovRelations.{path-exactly}
 use Rattle.theory.specs.Automaton.{Automaton, glushkov}
 use Rattle.finding.specs.Finds.{followed}
 use Rattle.finding.specs.Rewritten.{Rewritten, next_state, Decides}

@@ -7,7 +7,7 @@ use Rattle.theory.specs.Expression.{Expression}
 use Rattle.theory.specs.Standing.{size}
 use Rattle.theory.specs.Job.{Job}
 use Rattle.theory.specs.Automaton.{Automaton, glushkov, first, follows}
-use Rattle.theory.specs.AutomatonLaws.{first_below, follows-below}
+use Rattle.theory.proofs.AutomatonLaws.{first_below, follows-below}
 use Rattle.finding.specs.Find.{Rewriting, found, find}
 use Rattle.finding.specs.ListWidth.{glushkov-width}
 use Rattle.finding.specs.FoundSizes.{job-sizes}

@@ -14,7 +14,7 @@ use Rattle.theory.specs.Rewriting.{Yielded, Missed}
 use Rattle.theory.specs.Places.{Member, one, intersection, when}
 use Rattle.theory.specs.PlacesLaws.{member-none, member-one, member_union, member-intersection, member-when, no-members, not_none}
 use Rattle.theory.specs.Automaton.{glushkov, standing, accepts}
-use Rattle.theory.specs.Glushkov.{glushkov-accepts}
+use Rattle.theory.proofs.Glushkov.{glushkov-accepts}
 use Rattle.finding.specs.Finds.{followed}
 use Rattle.finding.specs.Rewritten.{Rewritten, Decides}
 use Rattle.verdict.specs.Cover.{width, yielding}

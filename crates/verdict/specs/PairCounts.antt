@@ -15,7 +15,7 @@ use Rattle.theory.specs.Images.{after}
 use Rattle.theory.specs.Automaton.{Automaton, glushkov, step, standing_from, standing}
 use Rattle.theory.specs.Exploration.{Entry, all, over, run}
 use Rattle.theory.specs.Explored.{Tests, Reached, entry_at, value_at, word_at, Explored, Exceeds}
-use Rattle.theory.specs.ExplorationLaws.{explored, over-exactly}
+use Rattle.theory.proofs.ExplorationLaws.{explored, over-exactly}
 use Rattle.finding.specs.Rewritten.{Rewritten, Decides}
 use Rattle.verdict.specs.Cover.{cover_start, cover_step}
 use Rattle.verdict.specs.Pairs.{Pair, same_pair, pair_system, pairs}

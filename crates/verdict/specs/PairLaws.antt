@@ -10,7 +10,7 @@ use Rattle.theory.specs.Places.{Member}
 use Rattle.theory.specs.PlacesLaws.{equal-members}
 use Rattle.theory.specs.Counting.{pigeonhole}
 use Rattle.theory.specs.Automaton.{glushkov, standing}
-use Rattle.theory.specs.Glushkov.{glushkov-same}
+use Rattle.theory.proofs.Glushkov.{glushkov-same}
 use Rattle.theory.specs.Exploration.{System}
 use Rattle.finding.specs.Rewritten.{Rewritten, Decides}
 use Rattle.verdict.specs.Pairs.{Pair, pair_system}

@@ -7,8 +7,8 @@ use Rattle.std.proofs.Math.ListN.{length-append}
 use Rattle.theory.specs.Automaton.{step}
 use Rattle.theory.specs.Exploration.{Entry, over, known, grow, extend, row, sweep, explore}
 use Rattle.theory.specs.Explored.{entry_at}
-use Rattle.theory.specs.ExplorationSteps.{grow-known, grow-new, grow-over, extend-some, row-end, row_on, row-over, sweep-end, sweep-on, sweep-over}
-use Rattle.theory.specs.ExplorationSteps.{explore-some, explore-none}
+use Rattle.theory.proofs.ExplorationSteps.{grow-known, grow-new, grow-over, extend-some, row-end, row_on, row-over, sweep-end, sweep-on, sweep-over}
+use Rattle.theory.proofs.ExplorationSteps.{explore-some, explore-none}
 use Rattle.places.specs.Words.{number_of}
 use Rattle.verdict.specs.Cover.{cover_step}
 use Rattle.verdict.specs.CoverTold.{StartStands, StepStands}

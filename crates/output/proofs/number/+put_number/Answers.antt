@@ -1,6 +1,4 @@
-use Prim.Native.Nat.{ℕ, ◌<◌}
 use native.Mathlib.Omega.{arith}
-use borrow.Author.Rules.{rules}
 use Rattle.output.specs.Put.{writing}
 use Rattle.output.specs.Decimal.{puts-digit, puts-digits}
 use Rattle.output.proofs.number.+put_number.Goals as goal

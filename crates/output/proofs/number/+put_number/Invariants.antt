@@ -1,9 +1,4 @@
 -- `put_number` meets its contract. The measure is the number: a tenth of a number of more than one digit is less.
-use Prim.Native.Nat.{ℕ, ◌<◌}
-use native.Mathlib.Omega.{arith}
-use borrow.Author.Rules.{rules}
-use Rattle.output.specs.Put.{writing}
-use Rattle.output.specs.Decimal.{puts-digit, puts-digits}
 use Rattle.output.proofs.number.+put_number.Given as goal
 
 abbrev pub decreases-put_number : goal.decreases-put_number

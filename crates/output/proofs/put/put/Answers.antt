@@ -2,7 +2,6 @@
 use mathlib.Core.Path.{refl, sym}
 use native.Mathlib.Omega.{arith}
 use lib.Seq.{set_out}
-use borrow.Author.Rules.{rules}
 use Rattle.output.specs.Put.{put, same-writing}
 use Rattle.output.proofs.put.put.Goals as goal
 

@@ -1,9 +1,7 @@
-use Prim.Native.Nat.{◌-◌, ◌≤◌}
-use mathlib.Core.Path.{◌≡◌, refl, ◌∙◌}
+use mathlib.Core.Path.{refl, ◌∙◌}
 use native.Mathlib.Omega.{arith}
-use lib.ListN.{length, drop, drop_of_length-le}
-use borrow.Author.Rules.{rules}
-use Rattle.output.specs.Put.{writing, puts, puts-part, puts_none, puts-length}
+use lib.ListN.{drop_of_length-le}
+use Rattle.output.specs.Put.{writing, puts-part, puts_none, puts-length}
 use Rattle.output.proofs.put.put_part.Goals as goal
 
 pub loop-i-init : goal.loop-i-init

@@ -1,10 +1,8 @@
 -- `put_part` meets its contract. The loop's invariant: to put the bytes that are left comes to what to put all of them comes to.
 use Prim.Native.Nat.{◌-◌, ◌≤◌}
-use mathlib.Core.Path.{◌≡◌, refl, ◌∙◌}
-use native.Mathlib.Omega.{arith}
-use lib.ListN.{length, drop, drop_of_length-le}
-use borrow.Author.Rules.{rules}
-use Rattle.output.specs.Put.{writing, puts, puts-part, puts_none, puts-length}
+use mathlib.Core.Path.{◌≡◌}
+use lib.ListN.{length, drop}
+use Rattle.output.specs.Put.{writing, puts}
 use Rattle.output.proofs.put.put_part.Given as goal
 
 abbrev pub invariant-loop-i : goal.invariant-loop-i

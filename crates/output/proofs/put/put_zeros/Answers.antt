@@ -2,8 +2,7 @@ use Prim.Native.Nat.{ℕ}
 use mathlib.Core.Path.{◌≡◌, refl, ap, ◌∙◌}
 use native.Mathlib.Omega.{arith}
 use lib.ListN.{replicate}
-use borrow.Author.Rules.{rules}
-use Rattle.output.specs.Put.{writing, puts, puts-zeros, puts_none, puts-length}
+use Rattle.output.specs.Put.{writing, puts-zeros, puts_none, puts-length}
 use Rattle.output.proofs.put.put_zeros.Goals as goal
 
 pub loop-left-init : goal.loop-left-init

@@ -1,10 +1,7 @@
 -- `put_zeros` meets its contract. The loop's invariant: to put the zeros that are left comes to what to put all of them comes to.
-use Prim.Native.Nat.{ℕ}
-use mathlib.Core.Path.{◌≡◌, refl, ap, ◌∙◌}
-use native.Mathlib.Omega.{arith}
+use mathlib.Core.Path.{◌≡◌}
 use lib.ListN.{replicate}
-use borrow.Author.Rules.{rules}
-use Rattle.output.specs.Put.{writing, puts, puts-zeros, puts_none, puts-length}
+use Rattle.output.specs.Put.{writing, puts}
 use Rattle.output.proofs.put.put_zeros.Given as goal
 
 abbrev pub invariant-loop-left : goal.invariant-loop-left

@@ -4,7 +4,6 @@ use lib.Dec.{eqb}
 use Prim.Native.Nat.{◌/◌, ◌^◌}
 use Rattle.theory.specs.PlacesLaws.{member-beyond}
 use mathlib.Core.Path.{sym, ap}
-use borrow.Author.Rules.{rules}
 use Rattle.places.proofs.Places.has.Goals as goal
 
 -- src/lib.rt:39:5

@@ -1,12 +1,10 @@
-use Prim.Native.Nat.{ℕ, ◌+◌, ◌-◌, ◌*◌, ◌^◌, ◌<◌}
+use Prim.Native.Nat.{◌+◌, ◌-◌, ◌*◌, ◌<◌}
 use lib.Bits.{and_le_r}
 use lib.Count.{count_trailing_zeros, trailing_le}
 use lib.ListN.{length, get_or}
-use Rattle.theory.specs.Places.{Member}
 use Rattle.places.specs.NextPlace.{trailing-here}
-use Rattle.places.specs.Followed.{FollowedLeft, followed-start, followed-turn, followed-end, rest-within}
+use Rattle.places.specs.Followed.{followed-start, followed-turn, followed-end, rest-within}
 use native.Mathlib.Omega.{arith}
-use borrow.Author.Rules.{rules}
 use Rattle.places.proofs.joined.join.Goals as goal
 
 pub loop-rest-init : goal.loop-rest-init

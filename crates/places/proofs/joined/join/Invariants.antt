@@ -1,13 +1,8 @@
 -- The loop's invariant: what has been joined, with the words of the places left, is what the whole set has. The measure is the places left.
-use Prim.Native.Nat.{ℕ, ◌+◌, ◌-◌, ◌*◌, ◌^◌, ◌<◌}
-use lib.Bits.{and_le_r}
-use lib.Count.{count_trailing_zeros, trailing_le}
-use lib.ListN.{length, get_or}
+use Prim.Native.Nat.{ℕ, ◌+◌, ◌*◌, ◌^◌, ◌<◌}
+use lib.ListN.{get_or}
 use Rattle.theory.specs.Places.{Member}
-use Rattle.places.specs.NextPlace.{trailing-here}
-use Rattle.places.specs.Followed.{FollowedLeft, followed-start, followed-turn, followed-end, rest-within}
-use native.Mathlib.Omega.{arith}
-use borrow.Author.Rules.{rules}
+use Rattle.places.specs.Followed.{FollowedLeft}
 use Rattle.places.proofs.joined.join.Given as goal
 
 abbrev pub invariant-loop-rest : goal.invariant-loop-rest

@@ -6,7 +6,6 @@ use Rattle.places.specs.UnionLaws.{union_assoc}
 use Rattle.places.specs.Words.{number_of}
 use Rattle.places.specs.WordsShift.{shifted_even, shifted-odd}
 use native.Mathlib.Omega.{arith}
-use borrow.Author.Rules.{rules}
 use Rattle.places.proofs.words.add_shifted.Goals as goal
 
 pub returns-then-bits-ne0 : goal.returns-then-bits-ne0

@@ -6,7 +6,6 @@ use Rattle.theory.specs.Places.{union}
 use Rattle.places.specs.Words.{number_of}
 use Rattle.places.specs.WordsShift.{number-add, word-inside, set_beyond}
 use native.Mathlib.Omega.{arith}
-use borrow.Author.Rules.{rules}
 use Rattle.places.proofs.words.add_word.Goals as goal
 
 pub returns-then-index-lt16 : goal.returns-then-index-lt16

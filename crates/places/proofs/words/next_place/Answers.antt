@@ -1,8 +1,7 @@
-use Prim.Native.Nat.{◌+◌, ◌-◌, ◌<◌, ◌^◌}
+use Prim.Native.Nat.{◌+◌}
 use lib.Count.{trailing_le}
-use Rattle.places.specs.NextPlace.{Passing, passing-start, passing-next, passing-none, passing-found, next-beyond}
+use Rattle.places.specs.NextPlace.{passing-start, passing-next, passing-none, passing-found, next-beyond}
 use native.Mathlib.Omega.{arith}
-use borrow.Author.Rules.{rules}
 use Rattle.places.proofs.words.next_place.Goals as goal
 
 pub returns-then-from-ge1024 : goal.returns-then-from-ge1024

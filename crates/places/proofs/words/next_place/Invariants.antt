@@ -1,9 +1,6 @@
 -- The loop's invariant: the words passed hold no place from the given one on (NextPlace, Passing). The measure is the number of words left.
-use Prim.Native.Nat.{◌+◌, ◌-◌, ◌<◌, ◌^◌}
-use lib.Count.{trailing_le}
-use Rattle.places.specs.NextPlace.{Passing, passing-start, passing-next, passing-none, passing-found, next-beyond}
-use native.Mathlib.Omega.{arith}
-use borrow.Author.Rules.{rules}
+use Prim.Native.Nat.{◌-◌, ◌<◌, ◌^◌}
+use Rattle.places.specs.NextPlace.{Passing}
 use Rattle.places.proofs.words.next_place.Given as goal
 
 abbrev pub invariant-loop-word : goal.invariant-loop-word

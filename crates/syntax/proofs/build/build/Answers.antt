@@ -12,7 +12,7 @@ use Rattle.theory.specs.Expression.{Expression}
 use Rattle.theory.specs.Standing.{size}
 use Rattle.theory.specs.Places.{none, one, union, when}
 use Rattle.theory.specs.Automaton.{first, follows, glushkov}
-use Rattle.theory.specs.AutomatonLaws.{length-follows}
+use Rattle.theory.proofs.AutomatonLaws.{length-follows}
 use Rattle.syntax.specs.declared.build.Automaton.{Automaton as Answer}
 use Rattle.syntax.specs.declared.parts.Part.{Part}
 use Rattle.syntax.specs.Byte.{Bytes, kind}

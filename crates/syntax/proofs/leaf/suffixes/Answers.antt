@@ -5,7 +5,7 @@ use mathlib.Core.Path.{◌≡◌, refl, sym, ap, ◌∙◌}
 use mathlib.Core.Logic.{⊎_elim}
 use lib.ListN.{length, drop}
 use Rattle.theory.specs.Automaton.{link}
-use Rattle.theory.specs.AutomatonLaws.{length-link}
+use Rattle.theory.proofs.AutomatonLaws.{length-link}
 use Rattle.syntax.specs.Build.{marked}
 use Rattle.syntax.specs.MarkedLaws.{marked-star, marked-question, marked_other, marked-end}
 use borrow.Author.Rules.{rules}

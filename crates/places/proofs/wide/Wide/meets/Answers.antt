@@ -1,14 +1,10 @@
-use Prim.Native.Nat.{ℕ, ◌≤◌, ◌<◌, ◌-◌}
-use mathlib.Core.Path.{◌≡◌, sym, ap}
+use mathlib.Core.Path.{sym, ap}
 use mathlib.Core.Bool.{not}
 use borrow.Author.Count.{below_more}
 use borrow.Author.Tests.{eq-eqb, ne_eqb}
-use lib.ListN.{get_or}
-use Rattle.theory.specs.Places.{intersection}
 use Rattle.places.specs.WordsLaws.{number-apart, number-meets, words-apart}
 use Rattle.places.proofs.Held.{array_count, array-words}
 use native.Mathlib.Omega.{arith}
-use borrow.Author.Rules.{rules}
 use Rattle.places.proofs.wide.Wide.meets.Goals as goal
 
 pub loop-i-init : goal.loop-i-init

@@ -3,7 +3,6 @@ use mathlib.Core.Path.{◌∙◌}
 use lib.Bits.{or_zero_l}
 use Rattle.places.specs.Words.{number_of}
 use Rattle.places.specs.WordsShift.{one-cut}
-use borrow.Author.Rules.{rules}
 use Rattle.places.proofs.wide.Wide.one.Goals as goal
 
 pub returns : goal.returns

@@ -1,5 +1,4 @@
-use Prim.Native.Nat.{ℕ, ◌≤◌, ◌<◌, ◌-◌}
-use mathlib.Core.Path.{◌≡◌, sym, ap, ◌∙◌}
+use mathlib.Core.Path.{sym, ap, ◌∙◌}
 use borrow.Author.Count.{below_more}
 use borrow.Author.Tests.{eq-eqb, ne_eqb}
 use lib.ListN.{get_or}
@@ -8,7 +7,6 @@ use Rattle.places.specs.Words.{number_of}
 use Rattle.places.specs.WordsLaws.{number_same}
 use Rattle.places.proofs.Held.{array_count, array-words}
 use native.Mathlib.Omega.{arith}
-use borrow.Author.Rules.{rules}
 use Rattle.places.proofs.wide.Wide.same.Goals as goal
 
 pub loop-i-init : goal.loop-i-init

@@ -1,10 +1,7 @@
-use Prim.Native.Nat.{ℕ, ◌≤◌, ◌-◌}
 use mathlib.Core.Path.{refl}
-use lib.Bits.{bit_and, bit_xor}
-use Rattle.places.specs.WordsLaws.{Joined, joined-none, joined-next, joined-all, number-without}
+use Rattle.places.specs.WordsLaws.{joined-none, joined-next, joined-all, number-without}
 use Rattle.places.proofs.Held.{array_count, array-words}
 use native.Mathlib.Omega.{arith}
-use borrow.Author.Rules.{rules}
 use Rattle.places.proofs.wide.Wide.without.Invariants.{less}
 use Rattle.places.proofs.wide.Wide.without.Goals as goal
 

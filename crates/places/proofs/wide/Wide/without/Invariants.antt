@@ -1,11 +1,7 @@
 -- The loop's invariant: the first i words are without those of the other set, the rest are as they were.
 use Prim.Native.Nat.{ℕ, ◌≤◌, ◌-◌}
-use mathlib.Core.Path.{refl}
 use lib.Bits.{bit_and, bit_xor}
-use Rattle.places.specs.WordsLaws.{Joined, joined-none, joined-next, joined-all, number-without}
-use Rattle.places.proofs.Held.{array_count, array-words}
-use native.Mathlib.Omega.{arith}
-use borrow.Author.Rules.{rules}
+use Rattle.places.specs.WordsLaws.{Joined}
 use Rattle.places.proofs.wide.Wide.without.Given as goal
 
 abbrev pub less : ℕ → ℕ → ℕ

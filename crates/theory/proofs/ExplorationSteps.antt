@@ -6,7 +6,7 @@ use mathlib.Core.List.{List, [], ◌∷◌, ◌++◌}
 use Rattle.std.proofs.Math.Option.{some}
 use Rattle.std.proofs.Math.Path.{refl}
 use borrow.Author.Tests.{lt-ltb, le-ltb}
-use Rattle.theory.specs.Exploration.{System, Entry, Exploration, all, over, known, grow, extend, row, sweep, explore}
+use Rattle.theory.specs.Exploration.{System, Entry, all, over, known, grow, extend, row, sweep, explore}
 use Rattle.theory.specs.Explored.{entry_at}
 
 module _ {A : Type 0} (S : System A) (limit : ℕ) where

@@ -1,19 +1,19 @@
 -- Glushkov's theorem (T2), both readings, for the executable automaton: a path is a path of the expression exactly when its standing
 -- accepts; and the standing after a path is the set that document 01 defines. So two paths have one standing exactly when the numbers are
 -- equal.
-use Rattle.std.specs.Prelude.{ℕ, Bool, true, List, [], ◌∷◌, ◌↔◌, ◌≡◌, refl}
+use Rattle.std.specs.Prelude.{ℕ, true, [], ◌∷◌, ◌↔◌, ◌≡◌, refl}
 use Rattle.std.proofs.Math.Logic.Iff
-use Rattle.std.proofs.Common.{sym, subst}
+use Rattle.std.proofs.Common.{subst}
 use Rattle.theory.specs.Path.{Label, Path}
 use Rattle.theory.specs.Expression.{Expression, IsPath}
 use Rattle.theory.specs.Standing.{InStanding, SameStanding}
 use Rattle.theory.specs.Places.{Member, one}
 use Rattle.theory.specs.PlacesLaws.{member-one, equal-members}
 use Rattle.theory.specs.Automaton.{glushkov, step, standing_from, standing, accepts}
-use Rattle.theory.specs.AutomatonLaws.{member-step, member-accepting, accepts-exactly}
+use Rattle.theory.proofs.AutomatonLaws.{member-step, member-accepting, accepts-exactly}
 use Rattle.theory.specs.Chain.{Final}
 use Rattle.theory.specs.StandsAt.{StandsAt, done, next}
-use Rattle.theory.specs.GlushkovRelations.{standing-exactly, path-exactly}
+use Rattle.theory.proofs.GlushkovRelations.{standing-exactly, path-exactly}
 
 -- The places that reading p from some place of s can end at.
 abbrev Ends : Expression → ℕ → Path → ℕ → Type 0

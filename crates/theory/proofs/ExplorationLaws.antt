@@ -9,7 +9,7 @@ use Rattle.theory.specs.ExploredLaws.{explored-start, explored-not-exceeds, expl
 use Rattle.theory.specs.Trails.{NotLater, not-later-front, not-later-transitive, earlier-before, trail_at}
 use Rattle.theory.specs.Trails.{Leads, started, stepped, leads-reached, reached-leads}
 use Rattle.theory.specs.Progress.{FoundBy}
-use Rattle.theory.specs.Outcome.{Complete, Outcome, explore-outcome}
+use Rattle.theory.proofs.Outcome.{Complete, Outcome, explore-outcome}
 
 not-later-before : {t : List ℕ} {w : Path} → NotLater t (reverse w) → (reverse t ≡ w) ⊎ Before (reverse t) w
 not-later-before {w = w} (inl e) = inl (ap reverse e ∙ reverse-reverse w)

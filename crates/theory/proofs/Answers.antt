@@ -1,15 +1,15 @@
 -- Answers from links and from lists (demand 3, at the level of meaning). Where the lent lists are exactly the pairs of their expressions
 -- on the links: what an accepted word reaches over the lists a query path reaches over the links; and where every query path is yielded,
 -- the converse.
-use Rattle.std.specs.Prelude.{ℕ, ◌<◌, List, [], ◌∷◌, ◌++◌, ◌↔◌, ◌≡◌, refl, length}
-use Rattle.std.proofs.Common.{ap, ap₂, subst}
-use Rattle.theory.specs.Path.{Path, Below, nothing, next}
+use Rattle.std.specs.Prelude.{ℕ, ◌<◌, List, [], ◌∷◌, ◌++◌, refl}
+use Rattle.std.proofs.Common.{subst}
+use Rattle.theory.specs.Path.{Path, nothing, next}
 use Rattle.theory.specs.Word as W
 use Rattle.theory.specs.Word.{Word}
-use Rattle.theory.specs.Job.{Job, QueryPath, ListPath, IsWord, SpelledBy}
-use Rattle.theory.specs.Rewriting.{Sound, Accepted, AcceptedWord, Complete}
-use Rattle.theory.specs.Graph.{Table, Linked, Leads, stay, along, Pair, ExactPairs, EndsBelow, AnswersFromLinks, AnswersFromLists}
-use Rattle.theory.specs.GreatestRewriting.{accepted-sound}
+use Rattle.theory.specs.Job.{Job, IsWord, SpelledBy}
+use Rattle.theory.specs.Rewriting.{Complete}
+use Rattle.theory.specs.Graph.{Table, Leads, stay, along, ExactPairs, EndsBelow, AnswersFromLinks, AnswersFromLists}
+use Rattle.theory.proofs.GreatestRewriting.{accepted-sound}
 
 pub leads-append : {t : Table} {p q : List ℕ} {x y z : ℕ} → Leads t p x y → Leads t q y z → Leads t (p ++ q) x z
 leads-append stay k = k

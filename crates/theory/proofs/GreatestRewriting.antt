@@ -1,13 +1,13 @@
 -- The greatest rewriting (document 001, section 2): a list word is accepted exactly when it is sound, so the accepted words are a
 -- rewriting and hold every other. What any set of sound words spells is yielded (demand 3, first part).
-use Rattle.std.specs.Prelude.{ℕ, List, [], ◌∷◌, ◌↔◌, ◌≡◌, length}
+use Rattle.std.specs.Prelude.{◌↔◌}
 use Rattle.std.proofs.Math.Logic.Iff
-use Rattle.theory.specs.Path.{Path, Below, nothing, next}
+use Rattle.theory.specs.Path.{Path, nothing, next}
 use Rattle.theory.specs.Word as W
 use Rattle.theory.specs.Word.{Word}
 use Rattle.theory.specs.Job.{Job, QueryPath, IsWord, SpelledBy}
-use Rattle.theory.specs.GlushkovRelations.{accepts-exactly-path}
-use Rattle.theory.specs.Rewriting.{Sound, SameState, Accepted, IsRewriting, Expansion, AcceptedWord, Yielded, Complete, Exact}
+use Rattle.theory.proofs.GlushkovRelations.{accepts-exactly-path}
+use Rattle.theory.specs.Rewriting.{Sound, SameState, Accepted, IsRewriting, AcceptedWord, Yielded, Complete, Exact}
 
 -- A word that spells a path is a word of the job's lists.
 pub spells-word : (J : Job) {w : Word} {p : Path} → SpelledBy J w p → IsWord J w

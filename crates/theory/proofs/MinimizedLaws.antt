@@ -17,8 +17,8 @@ use Rattle.theory.specs.Leaders.{Led, leaders, leaders-at-most, leaders-rise, le
 use Rattle.theory.specs.Quotient.{Named, quotient}
 use Rattle.theory.specs.QuotientLaws as Q
 use Rattle.theory.specs.Refinement.{class_at, classes}
-use Rattle.theory.specs.RefinementLaws.{classes-length, classes-led, classes-coarse, classes-stable}
-use Rattle.theory.specs.Splitting.{classes-only}
+use Rattle.theory.proofs.RefinementLaws.{classes-length, classes-led, classes-coarse, classes-stable}
+use Rattle.theory.proofs.ClassesOnly.{classes-only}
 use Rattle.theory.specs.Minimized.{class_number, first_member, merged, minimized}
 
 module _ {n : ℕ} {c : ℕ → ℕ} (L : Led n c) where

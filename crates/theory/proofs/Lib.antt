@@ -1,0 +1,11 @@
+pub mod Answers
+pub mod AutomatonLaws
+pub mod ClassesOnly
+pub mod ExplorationLaws
+pub mod ExplorationSteps
+pub mod Glushkov
+pub mod GlushkovRelations
+pub mod GreatestRewriting
+pub mod MinimizedLaws
+pub mod Outcome
+pub mod RefinementLaws
