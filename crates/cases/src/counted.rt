@@ -5,6 +5,8 @@ use crate::count::{Limited, count};
 use listed::{Listed, put_case};
 use output::number::put_number;
 use output::put::put_part;
+use std::io;
+use std::io::{Stdout, Write};
 
 // `counted 65 standings`
 fn put_count(out: &mut [u8], number: usize, word: &[u8]) -> usize
@@ -15,18 +17,18 @@ fn put_count(out: &mut [u8], number: usize, word: &[u8]) -> usize
     put_part(out, counted, word)
 }
 
-fn write_count(number: usize, word: &[u8]) {
+fn write_count(mut to: Stdout, number: usize, word: &[u8]) -> io::Result<()> {
     let mut line = [0u8; 64];
     let end = put_count(&mut line, number, word);
-    io::write_all(1, &line[..end]);
+    to.write_all(&line[..end])
 }
 
-pub(super) fn show_count(case: Listed, kind: Limited) {
+pub(super) fn show_count(to: Stdout, case: Listed, kind: Limited) -> io::Result<()> {
     let mut text = [0u8; 8192];
     let size = put_case(case, &mut text);
     let number = count(&text[..size], kind);
     match kind {
-        Limited::Standings => write_count(number, b" standings\n"),
-        Limited::States => write_count(number, b" states\n"),
+        Limited::Standings => write_count(to, number, b" standings\n"),
+        Limited::States => write_count(to, number, b" states\n"),
     }
 }

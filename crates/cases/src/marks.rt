@@ -5,6 +5,8 @@ use answering::{answer_from_links, answer_from_lists};
 use listed::{Listed, put_case};
 use output::number::put_number;
 use output::put::put_part;
+use std::io;
+use std::io::{Stdout, Write};
 
 fn wide(mark: u8) -> u64 {
     mark as u64
@@ -23,14 +25,14 @@ fn put_marks(out: &mut [u8], word: &[u8], marks: &[u8; 3]) -> usize
     put_part(out, third, b"\n")
 }
 
-fn write_marks(word: &[u8], marks: &[u8; 3]) {
+fn write_marks(mut to: Stdout, word: &[u8], marks: &[u8; 3]) -> io::Result<()> {
     let mut line = [0u8; 64];
     let end = put_marks(&mut line, word, marks);
-    io::write_all(1, &line[..end]);
+    to.write_all(&line[..end])
 }
 
 // A mark that is left alone shows as 2.
-pub(super) fn show_marks() {
+pub(super) fn show_marks(to: Stdout) -> io::Result<()> {
     let mut text = [0u8; 8192];
     let size = put_case(Listed::Proved(8), &mut text);
     let job = &text[..size];
@@ -41,6 +43,6 @@ pub(super) fn show_marks() {
     let mut listed = [2u8; 3];
     answer_from_links(job, 3, 0, &links, 0, &mut linked, &mut workspace);
     answer_from_lists(job, 3, &lists, 0, &mut listed, &mut workspace);
-    write_marks(b"links ", &linked);
-    write_marks(b"lists ", &listed);
+    write_marks(to, b"links ", &linked)?;
+    write_marks(to, b"lists ", &listed)
 }

@@ -2,6 +2,8 @@
 ghost use Rattle.std.specs.Prelude.{◌≤◌, length};
 ghost use Rattle.rewrite.specs.Read.{Fits};
 
+use std::io::{Read, Stdin};
+
 #[derive(Clone, Copy)]
 pub enum Input {
     // How many bytes were read.
@@ -10,23 +12,22 @@ pub enum Input {
 }
 
 // One read, into a lent part: how many bytes it put there, none at the end of the input.
-fn read_part(part: &mut [u8]) -> Input
+fn read_part(mut from: Stdin, part: &mut [u8]) -> Input
     ensures { Fits (length part.new) result }
 {
-    let got = libc::read(0, part);
-    if got < 0 {
-        return Input::Failed;
+    match from.read(part) {
+        Ok(count) => Input::Bytes(count),
+        Err(_) => Input::Failed,
     }
-    Input::Bytes(io::count(got, part))
 }
 
 // Reads until the text is full, the input ends or a read fails.
-pub fn read_input(text: &mut [u8]) -> Input
+pub fn read_input(from: Stdin, text: &mut [u8]) -> Input
     ensures { Fits (length text.new) result }
 {
     let mut done: usize = 0;
     while done < text.len() {
-        let got = read_part(&mut text[done..]);
+        let got = read_part(from, &mut text[done..]);
         match got {
             Input::Failed => return Input::Failed,
             Input::Bytes(count) => {

@@ -6,20 +6,25 @@ mod input;
 
 use input::{Input, read_input};
 use printing::print;
+use std::io;
+use std::io::Write;
 
-fn main() {
+fn main(rt: HostRuntime) -> io::Result<()> {
     let mut text = [0u8; 8193];
     let mut out = [0u8; 32768];
-    let got = read_input(&mut text);
+    let got = read_input(rt.stdin(), &mut text);
     match got {
         Input::Bytes(count) => {
             let size = print(&text[..count], &mut out);
-            if !io::write_all(1, &out[..size]) {
-                io::write_all(2, b"rewrite: standard output cannot be written\n");
+            if rt.stdout().write_all(&out[..size]).is_err() {
+                rt.stderr()
+                    .write_all(b"rewrite: standard output cannot be written\n")?;
             }
         }
         Input::Failed => {
-            io::write_all(2, b"rewrite: standard input cannot be read\n");
+            rt.stderr()
+                .write_all(b"rewrite: standard input cannot be read\n")?;
         }
     }
+    Ok(())
 }
