@@ -11,7 +11,7 @@ use Rattle.theory.specs.Graph.{Table}
 use Rattle.theory.specs.Automaton.{Automaton, glushkov}
 use Rattle.finding.specs.declared.answer.Finding.{Finding}
 use Rattle.finding.specs.declared.answer.FindAnswer.{FindAnswer}
-use Rattle.finding.specs.Find.{Rewriting, Found, found, find, find_automata}
+use Rattle.finding.specs.Find.{Rewriting, found, find, find_automata}
 use Rattle.finding.specs.FoundSizes.{job-sizes}
 use Rattle.finding.specs.FindLaws.{find-finds, find-refusals}
 use Rattle.finding.specs.Outcome.{left, left_by}

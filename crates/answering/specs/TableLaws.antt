@@ -87,10 +87,12 @@ is-table-exactly N k t =
 -- Every triple is within range.
 
 after-within : {N k x a y u b v : ℕ} {t : Table} → RisingAfter N k x a y t → Linked t u b v → (u < N) × ((b < k) × (v < N))
+after-within last l = elim l [ ]
 after-within (next h i j r more) here = (h, (i, j))
 after-within (next h i j r more) (later l) = after-within more l
 
 rising-within : {N k u b v : ℕ} {t : Table} → Rising N k t → Linked t u b v → (u < N) × ((b < k) × (v < N))
+rising-within none l = elim l [ ]
 rising-within (some h i j r) here = (h, (i, j))
 rising-within (some h i j r) (later l) = after-within r l
 
@@ -118,6 +120,7 @@ rises-transitive (inr (d, inr (g, h))) (inr (e, inr (f, k))) = inr (d ∙ e, inr
 
 -- Every triple behind another comes after it in the order.
 pub after-beyond : {N k x a y u b v : ℕ} {t : Table} → RisingAfter N k x a y t → Linked t u b v → Rises x a y u b v
+after-beyond last l = elim l [ ]
 after-beyond (next h i j r more) here = r
 after-beyond (next h i j r more) (later l) = rises-transitive r (after-beyond more l)
 

@@ -12,7 +12,7 @@ use Rattle.answering.specs.Pairs.{Has, place, room, room-less}
 use Rattle.answering.specs.WordsPending.{left-of}
 use Rattle.answering.specs.Ends.{EndsFit, EndsBelow}
 use Rattle.answering.specs.EndSteps.{Turnable, LedTo, MembersFollowed}
-use Rattle.answering.specs.TurnedRun.{EndFound, begins, onward, TurnedRoom, TurnedGoing, WordTaken}
+use Rattle.answering.specs.TurnedRun.{EndFound, onward, TurnedRoom, TurnedGoing, WordTaken}
 
 -- A recording of a state in its word, which has the number 4 × s + y / 64.
 pub has-at : (l : List ℕ) (s y : ℕ) {i p : ℕ} → place 4 s y ≡ i → y % 64 ≡ p → Has 4 l s y ↔ Member p (slice_index l i)

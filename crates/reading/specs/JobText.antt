@@ -1,6 +1,6 @@
 -- What a job text is (document 01, "The job text"), not by way of any reader: 1 to 32 lines `label NAME`, one line `query EXPR`, then 0 to
 -- 16 lines `list NAME EXPR`; names proper, labels distinct among themselves, lists among themselves; the expressions over the labels.
-use Rattle.std.specs.Prelude.{ℕ, ◌≤◌, List, [], ◌∷◌, ◌++◌, ◌≡◌, length}
+use Rattle.std.specs.Prelude.{◌≤◌, List, [], ◌∷◌, ◌++◌, ◌≡◌, length}
 use Rattle.theory.specs.Expression.{Expression}
 use Rattle.theory.specs.Job.{Job}
 use Rattle.syntax.specs.Byte.{Bytes}

@@ -1,5 +1,5 @@
 -- A label's name stored behind the names of the labels: the tables hold what the line gives.
-use Rattle.std.specs.Prelude.{ℕ, suc, ◌+◌, ◌*◌, ◌<◌, ◌≤◌, Bool, true, false, List, [], ◌∷◌, ◌++◌, ◌≡◌, refl, length, take, drop}
+use Rattle.std.specs.Prelude.{ℕ, suc, ◌+◌, ◌*◌, ◌<◌, ◌≤◌, true, false, List, [], ◌∷◌, ◌++◌, ◌≡◌, length, take, drop}
 use Rattle.std.proofs.Common.{sym, ap, ◌∙◌, arith, length-append}
 use Rattle.theory.specs.Expression.{Expression}
 use Rattle.syntax.specs.declared.refusal.Refusal.TheVariants.{BadName, TooManyNames}
@@ -12,8 +12,8 @@ use Rattle.reading.specs.Refusing.{Progress, with_label}
 use Rattle.reading.specs.Read.{fresh, given_label}
 use Rattle.reading.specs.CutLaws.{fresh-exactly, fresh-not}
 use Rattle.reading.specs.LineLaws.{label-many, label-bad, label-good}
-use Rattle.reading.specs.Tables.{Tables, Row, HoldsSoFar, lists_from}
-use Rattle.reading.specs.Loading.{tables, numbers_of, Held, Tells, GivesName}
+use Rattle.reading.specs.Tables.{Tables, Row, lists_from}
+use Rattle.reading.specs.Loading.{tables, Held, Tells, GivesName}
 use Rattle.reading.specs.NamesLaws.{stored, names-stored, drop-stored-before}
 
 -- One label more.

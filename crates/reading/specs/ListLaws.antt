@@ -1,7 +1,7 @@
 -- A list's expression read into the rows behind those of the lists before it, and its name stored behind theirs: the tables hold what the
 -- line gives.
-use Rattle.std.specs.Prelude.{ℕ, suc, ◌+◌, ◌-◌, ◌*◌, ◌<◌, ◌≤◌, Bool, true, false, List, [], ◌∷◌, ◌++◌, ◌≢◌, ◌≡◌, refl, length, get_or, take, drop}
-use Rattle.std.proofs.Common.{sym, ap, ◌∙◌, add-one, arith, length-append, length-drop}
+use Rattle.std.specs.Prelude.{ℕ, suc, ◌+◌, ◌*◌, ◌<◌, ◌≤◌, true, false, List, [], ◌∷◌, ◌++◌, ◌≡◌, refl, length, get_or, take, drop}
+use Rattle.std.proofs.Common.{sym, ap, ◌∙◌, arith, length-append, length-drop}
 use Rattle.std.proofs.Math.Decide.{dec_lt}
 use Rattle.std.proofs.Math.ListN.{get_or-append}
 use Rattle.std.proofs.Math.Seq.{get_or-append_seam}
@@ -23,11 +23,11 @@ use Rattle.reading.specs.Refusing.{Progress, with_list}
 use Rattle.reading.specs.Read.{cut, uncut, cut_at, fresh, given_list}
 use Rattle.reading.specs.CutLaws.{fresh-exactly, fresh-not}
 use Rattle.reading.specs.LineLaws.{list-many, list-name, list-bad, list-good, list-uncut}
-use Rattle.reading.specs.Tables.{Tables, Row, HoldsSoFar, lists_from}
-use Rattle.reading.specs.Loading.{tables, numbers_of, Held, Tells, Gives}
+use Rattle.reading.specs.Tables.{Tables, Row, lists_from}
+use Rattle.reading.specs.Loading.{tables, Held, Tells, Gives}
 use Rattle.reading.specs.Filling.{Reads, ReadsRow}
 use Rattle.reading.specs.NamesLaws.{stored, names-stored, take-stored-beyond, drop-stored}
-use Rattle.reading.specs.LabelLaws.{labels-held, names-held, row-renamed}
+use Rattle.reading.specs.LabelLaws.{names-held, row-renamed}
 use Rattle.reading.specs.QueryLaws.{fine-told, faulty-told, faulty-same}
 
 -- One list more.

@@ -1,5 +1,5 @@
 -- Laws of the table of names: how many names it has, and what one more pair at its end adds.
-use Rattle.std.specs.Prelude.{ℕ, zero, suc, ◌+◌, ◌*◌, ◌/◌, ◌<◌, ◌≤◌, Bool, true, false, ◌&&◌, not, List, [], ◌∷◌, ◌++◌, ◌≡◌, refl, leb, ltb, length, take, drop, set}
+use Rattle.std.specs.Prelude.{ℕ, zero, suc, ◌+◌, ◌*◌, ◌/◌, ◌<◌, ◌≤◌, true, false, ◌&&◌, not, List, [], ◌∷◌, ◌++◌, ◌≡◌, refl, leb, ltb, length, take, drop, set}
 use Rattle.std.proofs.Common.{append_assoc, sym, ap, ◌∙◌, add_assoc, add-one, arith, length-set, le-leb, le-ltb, lt-ltb, length-take-le, take-suc-set, drop-set-lt}
 use Rattle.std.proofs.Math.Decide.{dec_le}
 use Rattle.std.proofs.lemmas.Bool.{lt-leb}

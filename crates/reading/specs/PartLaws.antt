@@ -1,8 +1,8 @@
 -- Parts of a text, given by where they begin and how long they are: a part of a part is a part, and how its cuts and its opening word look.
-use Rattle.std.specs.Prelude.{ℕ, zero, suc, ◌+◌, ◌-◌, ◌<◌, ◌≤◌, true, false, List, [], ◌∷◌, ◌≡◌, refl, length, take, drop}
-use Rattle.std.proofs.Math.Option.{some, none}
+use Rattle.std.specs.Prelude.{ℕ, zero, suc, ◌+◌, ◌-◌, ◌<◌, ◌≤◌, true, [], ◌∷◌, ◌≡◌, length, take, drop}
+use Rattle.std.proofs.Math.Option.{some}
 use Rattle.std.proofs.Common.{sym, ap, ap₂, ◌∙◌, arith, length-take, length-drop, take-take, drop-drop}
-use Rattle.std.proofs.Math.Seq.{take-nil, drop-nil}
+use Rattle.std.proofs.Math.Seq.{take-nil}
 use Rattle.syntax.specs.Byte.{Bytes}
 use Rattle.reading.specs.Read.{cut, uncut, cut_at, after}
 use Rattle.reading.specs.Scan.{before, cut-before, uncut-before, begins, after-begins}

@@ -1,6 +1,6 @@
 -- A query's expression read into the rows 0: the tables hold what the line gives.
-use Rattle.std.specs.Prelude.{ℕ, suc, ◌*◌, ◌<◌, ◌≤◌, true, List, ◌≢◌, ◌≡◌, refl, length, take, drop}
-use Rattle.std.proofs.Math.Option.{some, some-injective}
+use Rattle.std.specs.Prelude.{ℕ, suc, ◌*◌, ◌<◌, ◌≤◌, true, List, ◌≡◌, refl, take, drop}
+use Rattle.std.proofs.Math.Option.{some-injective}
 use Rattle.std.proofs.Common.{sym, ap, ◌∙◌, arith}
 use Rattle.theory.specs.Expression.{Expression}
 use Rattle.syntax.specs.declared.checks.Check.{Check as Verdict}
@@ -17,8 +17,8 @@ use Rattle.reading.specs.declared.progress.Given.TheVariants.{Good, Bad}
 use Rattle.reading.specs.Refusing.{Progress, with_query}
 use Rattle.reading.specs.Read.{given_query}
 use Rattle.reading.specs.LineLaws.{query-early, query-bad, query-good}
-use Rattle.reading.specs.Tables.{Tables, HoldsSoFar}
-use Rattle.reading.specs.Loading.{tables, numbers_of, Held, Tells, Gives}
+use Rattle.reading.specs.Tables.{Tables}
+use Rattle.reading.specs.Loading.{tables, Held, Tells, Gives}
 use Rattle.reading.specs.Filling.{Reads, ReadsRow}
 use Rattle.reading.specs.LabelLaws.{labels-held, names-held}
 

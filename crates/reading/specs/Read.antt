@@ -1,12 +1,11 @@
 -- Reading a job text, executable: line by line, to the job or to the first refusal with its line.
 use Rattle.std.specs.Prelude.{ℕ, zero, suc, Bool, true, false, ◌&&◌, not, List, [], ◌∷◌, eqb, leb, ltb, length}
 use Rattle.std.proofs.Math.Option.{Option, some, none}
-use Rattle.theory.specs.Expression.{Expression}
 use Rattle.syntax.specs.declared.refusal.Refusal.{Refusal}
 use Rattle.syntax.specs.declared.refusal.Refusal.TheVariants.{TextTooLong, BadLine, BadName, TooManyNames}
 use Rattle.syntax.specs.Byte.{Bytes}
 use Rattle.syntax.specs.Name.{is_name, find}
-use Rattle.syntax.specs.Check.{Checked, fine, faulty, check}
+use Rattle.syntax.specs.Check.{fine, faulty, check}
 use Rattle.reading.specs.Text.{newline, space, label_word, query_word, list_word, most_text, most_labels, most_lists}
 use Rattle.reading.specs.JobText.{NamedJob}
 use Rattle.reading.specs.Refusing.{Progress, beginning, with_label, with_query, with_list}

@@ -1,6 +1,6 @@
 -- What is so of every job that is read from a text: its expressions use its own labels alone and have few occurrences, and it has few
 -- names, one for each list, and short ones.
-use Rattle.std.specs.Prelude.{ℕ, zero, suc, ◌<◌, ◌≤◌, List, [], ◌∷◌, ◌≡◌, refl, length, get_or}
+use Rattle.std.specs.Prelude.{ℕ, zero, suc, ◌<◌, ◌≤◌, List, [], ◌≡◌, refl, length, get_or}
 use Rattle.std.proofs.Common.{ap, arith}
 use Rattle.theory.specs.Expression.{Expression, empty}
 use Rattle.theory.specs.Standing.{size}
@@ -9,7 +9,6 @@ use Rattle.syntax.specs.Byte.{Bytes}
 use Rattle.syntax.specs.Grammar.{Tree}
 use Rattle.syntax.specs.Limits.{most_occurrences}
 use Rattle.syntax.specs.Resolve.{Resolves}
-use Rattle.syntax.specs.Check.{IsExpression}
 use Rattle.reading.specs.Text.{most_labels, most_lists}
 use Rattle.reading.specs.JobText.{NamedJob, job_of, LabelLines, ListLines, IsJob}
 use Rattle.reading.specs.Read.{job, read}

@@ -1,7 +1,7 @@
 -- Which refusal a text gets, and at which line (document 01, "Read"), not by way of any reader. The lines before it are all good; of the
 -- line itself the first fault counts: its form, then too many names, then its name, then its expression.
-use Rattle.std.specs.Prelude.{ℕ, zero, suc, ◌≤◌, ◌<◌, ◌⊎◌, ◌≢◌, ◌≡◌, length, get_or}
-use mathlib.Core.List.{List, [], ◌∷◌, ◌++◌, Memᴰ}
+use Rattle.std.specs.Prelude.{ℕ, suc, ◌≤◌, ◌<◌, ◌≢◌, ◌≡◌, length, get_or}
+use mathlib.Core.List.{List, [], ◌∷◌, ◌++◌}
 use Rattle.std.proofs.Math.Option.{Option, some, none}
 use Rattle.theory.specs.Expression.{Expression}
 use Rattle.syntax.specs.declared.refusal.Refusal.{Refusal}

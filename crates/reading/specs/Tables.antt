@@ -1,10 +1,10 @@
 -- The tables that reading a job fills for the layers above: where the names stand in the text, and Glushkov's automaton of each expression,
 -- side by side. Expression 0 is the query, and 1 + v the list v.
-use Rattle.std.specs.Prelude.{ℕ, zero, suc, ◌+◌, ◌*◌, ◌<◌, List, [], ◌≡◌, length, get_or, take, drop}
-use Rattle.std.proofs.Math.Option.{Option, some, none}
+use Rattle.std.specs.Prelude.{ℕ, suc, ◌+◌, ◌*◌, ◌<◌, List, ◌≡◌, length, get_or, take, drop}
+use Rattle.std.proofs.Math.Option.{some}
 use Rattle.theory.specs.Expression.{Expression, empty}
 use Rattle.theory.specs.Standing.{size}
-use Rattle.theory.specs.Automaton.{Automaton, glushkov}
+use Rattle.theory.specs.Automaton.{glushkov}
 use Rattle.syntax.specs.Byte.{Bytes}
 use Rattle.syntax.specs.Resolve.{names_at}
 use Rattle.reading.specs.JobText.{NamedJob}

@@ -1,5 +1,5 @@
 -- A line is told by its opening word, and by whether the query's line came before it.
-use Rattle.std.specs.Prelude.{ℕ, ◌+◌, ◌-◌, ◌≤◌, Bool, true, false, ◌++◌, ◌≡◌, refl, length}
+use Rattle.std.specs.Prelude.{ℕ, ◌+◌, ◌-◌, ◌≤◌, true, false, ◌++◌, ◌≡◌, refl, length}
 use Rattle.std.proofs.Common.{true≢false, sym, ap, ◌∙◌, arith, length-append}
 use Rattle.std.proofs.lemmas.Bool.{false≢true}
 use Rattle.std.proofs.Math.Option.{Option, some, none}
@@ -12,7 +12,7 @@ use Rattle.reading.specs.declared.progress.Given.{Given as Told}
 use Rattle.reading.specs.declared.progress.Given.TheVariants.{Bad}
 use Rattle.reading.specs.Text.{label_word, query_word, list_word}
 use Rattle.reading.specs.Refusing.{Progress}
-use Rattle.reading.specs.Read.{Given, after, given_label, given_query, given_list, early, late, given}
+use Rattle.reading.specs.Read.{Given, given_label, given_query, given_list, early, late, given}
 use Rattle.reading.specs.CutLaws.{after-exactly}
 use Rattle.reading.specs.LineLaws.{given-early, given-late, early-label, early-query, early-neither, late-list, late-other}
 use Rattle.reading.specs.Tables.{Tables}

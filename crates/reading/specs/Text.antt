@@ -1,5 +1,5 @@
 -- The fixed bytes of a job text, and its limits (document 01, "The job text").
-use Rattle.std.specs.Prelude.{ℕ, List, [], ◌∷◌, ◌++◌}
+use Rattle.std.specs.Prelude.{ℕ, [], ◌∷◌, ◌++◌}
 use Rattle.syntax.specs.Byte.{Bytes}
 
 abbrev pub newline : ℕ

@@ -1,7 +1,7 @@
 -- What is said of an expression's text, given the labels: its expression, or the first fault in the order of document 01. First as
 -- document 01 has it, then executable.
-use Rattle.std.specs.Prelude.{ℕ, ◌≤◌, ◌<◌, Bool, true, false, List, [], ◌≡◌, leb, length, get_or}
-use Rattle.std.proofs.Math.Option.{Option, some, none}
+use Rattle.std.specs.Prelude.{ℕ, ◌≤◌, ◌<◌, true, false, List, [], ◌≡◌, leb, length, get_or}
+use Rattle.std.proofs.Math.Option.{some, none}
 use Rattle.theory.specs.Expression.{Expression}
 use Rattle.theory.specs.Standing.{size}
 use Rattle.syntax.specs.declared.refusal.Refusal.{Refusal}

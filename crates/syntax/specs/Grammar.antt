@@ -1,7 +1,7 @@
 -- The grammar of expressions (document 01, "The job text"), over names: which label a name stands for comes later. An alternative holds
 -- sequences, a sequence holds factors, a factor may hold an alternative. Parentheses leave no node in the tree: how deep they nest is read
 -- off the bytes (Limits).
-use Rattle.std.specs.Prelude.{ℕ, List, [], ◌∷◌, ◌++◌, ◌≡◌}
+use Rattle.std.specs.Prelude.{[], ◌∷◌, ◌++◌, ◌≡◌}
 use Rattle.theory.specs.Expression.{Regular, empty, label, alternative, sequence, star, optional}
 use Rattle.syntax.specs.Byte.{Bytes, dot, bar, asterisk, question, opening, closing}
 use Rattle.syntax.specs.Name.{IsName}

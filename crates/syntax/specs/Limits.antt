@@ -1,5 +1,5 @@
 -- The limits of an expression (document 01): at most 512 bytes, parentheses at most 16 deep, `()` counted, and at most 63 label occurrences.
-use Rattle.std.specs.Prelude.{ℕ, zero, suc, pred, max, ◌+◌, Bool, true, false, List, [], ◌∷◌, ◌++◌, eqb}
+use Rattle.std.specs.Prelude.{ℕ, suc, pred, max, Bool, true, false, List, [], ◌∷◌, ◌++◌, eqb}
 use Rattle.theory.specs.Expression.{Regular, empty, label, alternative, sequence, star, optional}
 use Rattle.syntax.specs.Byte.{Bytes, opening, closing, name_byte}
 use Rattle.syntax.specs.Parser.{run}

@@ -1,8 +1,8 @@
 -- Reading an expression, executable: three functions, one for each level of the grammar, that call each other, bounded by a number of
 -- calls. Each gives the tree and the text left unread, or fails.
-use Rattle.std.specs.Prelude.{ℕ, zero, suc, ◌+◌, ◌*◌, Bool, true, false, List, [], ◌∷◌, eqb, length}
+use Rattle.std.specs.Prelude.{ℕ, zero, suc, ◌+◌, ◌*◌, true, false, [], ◌∷◌, eqb, length}
 use Rattle.std.proofs.Math.Option.{Option, some, none}
-use Rattle.theory.specs.Expression.{Regular, empty, label, alternative, sequence, star, optional}
+use Rattle.theory.specs.Expression.{empty, label, alternative, sequence, star, optional}
 use Rattle.syntax.specs.Byte.{Bytes, dot, bar, asterisk, question, opening, closing, name_byte}
 use Rattle.syntax.specs.Name.{is_name}
 use Rattle.syntax.specs.Grammar.{Tree}

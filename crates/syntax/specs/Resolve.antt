@@ -1,6 +1,6 @@
 -- Label names in an expression, and the numbers of the labels that they name.
-use Rattle.std.specs.Prelude.{ℕ, zero, suc, ◌<◌, Bool, true, false, ◌&&◌, List, [], ◌∷◌, ◌≡◌, ltb, length, get_or, take, drop}
-use Rattle.theory.specs.Expression.{Regular, empty, label, alternative, sequence, star, optional, Expression}
+use Rattle.std.specs.Prelude.{ℕ, ◌<◌, Bool, true, ◌&&◌, List, [], ◌∷◌, ltb, length, get_or, take, drop}
+use Rattle.theory.specs.Expression.{empty, label, alternative, sequence, star, optional, Expression}
 use Rattle.syntax.specs.Byte.{Bytes}
 use Rattle.syntax.specs.Name.{SameName, find}
 use Rattle.syntax.specs.Grammar.{Tree}

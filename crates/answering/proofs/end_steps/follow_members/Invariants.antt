@@ -1,9 +1,6 @@
 -- `follow_members` meets its contract. The loop's invariant: the links over the symbols before `a` have been followed.
-use Rattle.std.specs.Prelude.{◌+◌, ◌-◌, ◌*◌, ◌<◌, ◌≤◌, length}
-use Rattle.answering.specs.EndStepsLaws.{FollowedBelow, followed-none, followed-more, followed-all}
-use Rattle.answering.specs.EndStepsLaws.{word-there, row_small, image-there, ends_there}
-use native.Mathlib.Omega.{arith}
-use borrow.Author.Rules.{rules}
+use Rattle.std.specs.Prelude.{◌-◌}
+use Rattle.answering.specs.EndStepsLaws.{FollowedBelow}
 use Rattle.answering.proofs.end_steps.follow_members.Given as goal
 
 abbrev pub invariant-loop-a : goal.invariant-loop-a

@@ -1,7 +1,6 @@
 -- `follow_symbol` meets its contract: an image without states gets nothing, and to another come the ends that are joined.
 use Rattle.answering.specs.EndSteps.{InRows}
 use Rattle.answering.specs.EndStepsLaws.{given-joined, given-none}
-use borrow.Author.Rules.{rules}
 use Rattle.answering.proofs.end_steps.follow_symbol.Goals as goal
 
 pub returns-then-image-eq0 : goal.returns-then-image-eq0
@@ -12,8 +11,7 @@ returns-then-image-eq0 c =
 pub returns : goal.returns
 returns c =
     let g = c.give_ends in
-    let at-join-ends = c in
-    let j = at-join-ends.join_ends in
-    let a = at-join-ends.args in
+    let j = c.join_ends in
+    let a = c.args in
     given-joined a.ends.now a.row a.set a.image 4 j.new.joined a.sets.now g.new.sets
     j.ensures g.ensures

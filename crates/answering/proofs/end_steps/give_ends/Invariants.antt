@@ -1,11 +1,6 @@
 -- `give_ends` meets its contract. The loop's invariant: the first row of the ends has come to the rows of the states passed. The measure is
 -- what is left of the image.
-use Rattle.std.specs.Prelude.{◌-◌}
-use lib.Bits.{and_le_r}
-use lib.Count.{count_trailing_zeros, trailing_le}
-use Rattle.answering.specs.EndStepsLaws.{Coming, coming-none, coming-here, coming-turn, given-all}
-use native.Mathlib.Omega.{arith}
-use borrow.Author.Rules.{rules}
+use Rattle.answering.specs.EndStepsLaws.{Coming}
 use Rattle.answering.proofs.end_steps.give_ends.Given as goal
 
 abbrev pub invariant-loop-rest : goal.invariant-loop-rest

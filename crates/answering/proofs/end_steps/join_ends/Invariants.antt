@@ -1,11 +1,7 @@
 -- `join_ends` meets its contract. The loop's invariant: the rows of the members passed have come to the first row. The measure is what is
 -- left of the set.
-use Rattle.std.specs.Prelude.{◌+◌, ◌-◌, ◌*◌, ◌≤◌, length}
-use lib.Bits.{and_le_r}
-use lib.Count.{count_trailing_zeros, trailing_le}
-use Rattle.answering.specs.EndStepsLaws.{Coming, coming-none, coming-here, coming-turn, joined-all}
-use native.Mathlib.Omega.{arith}
-use borrow.Author.Rules.{rules}
+use Rattle.std.specs.Prelude.{◌+◌}
+use Rattle.answering.specs.EndStepsLaws.{Coming}
 use Rattle.answering.proofs.end_steps.join_ends.Given as goal
 
 abbrev pub invariant-loop-rest : goal.invariant-loop-rest

@@ -1,9 +1,6 @@
 -- `fill_ends` meets its contract. The loop's invariant: the rows have the ends of the links before the one that comes next.
 use Rattle.std.specs.Prelude.{◌≡◌, ◌-◌, ◌/◌, ◌≤◌, length}
-use mathlib.Core.Path.{refl, sym, ◌∙◌, subst}
-use Rattle.answering.specs.Ends.{EndsTo, LinkFits, link_fits, ends-none, ends_more, ends-all}
-use native.Mathlib.Omega.{arith}
-use borrow.Author.Rules.{rules}
+use Rattle.answering.specs.Ends.{EndsTo}
 use Rattle.answering.proofs.ends.fill_ends.Given as goal
 
 abbrev pub invariant-loop-at : goal.invariant-loop-at

@@ -1,6 +1,5 @@
 -- `place_after` meets its contract: the test says which case holds.
 use mathlib.Core.Path.{sym}
-use borrow.Author.Rules.{rules}
 use Rattle.answering.specs.LinkAt.{place-next, place_end}
 use Rattle.answering.proofs.links.place_after.Goals as goal
 

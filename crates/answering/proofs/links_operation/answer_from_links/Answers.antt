@@ -2,7 +2,6 @@
 use Rattle.answering.specs.LinksOperation.{links_answer}
 use Rattle.answering.specs.AnswerChecks.{none-refused, many-refused, marks-short, workspace-short, all-lent}
 use native.Mathlib.Omega.{arith}
-use borrow.Author.Rules.{rules}
 use Rattle.answering.proofs.links_operation.answer_from_links.Goals as goal
 
 pub returns-then-recordings-eq0 : goal.returns-then-recordings-eq0
@@ -33,8 +32,6 @@ returns-then-workspace-recordings c =
 pub returns : goal.returns
 unfolding links_answer
 returns c =
-    let at-read-links = c in
-    let at-if4 = at-read-links in
-    let a = at-if4.args in
+    let a = c.args in
     all-lent a.recordings a.recordings a.marks.now a.workspace.now _
-    (omega (arith, at-if4)) (omega (arith, at-if4)) (omega (arith, at-if4)) (omega (arith, at-if4)) at-read-links.read_links.ensures
+    (omega (arith, c)) (omega (arith, c)) (omega (arith, c)) (omega (arith, c)) c.read_links.ensures

@@ -3,7 +3,6 @@ use Rattle.std.specs.Prelude.{◌*◌, length}
 use mathlib.Core.Bool.{false≢true}
 use borrow.Author.Tests.{leb-true, le-leb}
 use native.Mathlib.Omega.{arith}
-use borrow.Author.Rules.{rules}
 use Rattle.answering.proofs.lists_core.has_rows.Goals as goal
 
 pub returns-then-states-eq0 : goal.returns-then-states-eq0

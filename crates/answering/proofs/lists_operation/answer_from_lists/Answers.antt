@@ -3,7 +3,6 @@ use Rattle.std.specs.Prelude.{◌*◌}
 use Rattle.answering.specs.ListsOperation.{lists_answer}
 use Rattle.answering.specs.AnswerChecks.{none-refused, many-refused, marks-short, workspace-short, all-lent}
 use native.Mathlib.Omega.{arith}
-use borrow.Author.Rules.{rules}
 use Rattle.answering.proofs.lists_operation.answer_from_lists.Goals as goal
 
 pub returns-then-recordings-eq0 : goal.returns-then-recordings-eq0
@@ -35,8 +34,6 @@ returns-then-workspace-recordings c =
 pub returns : goal.returns
 unfolding lists_answer
 returns c =
-    let at-read-lists = c in
-    let at-if4 = at-read-lists in
-    let a = at-if4.args in
+    let a = c.args in
     all-lent a.recordings (4 * a.recordings) a.marks.now a.workspace.now _
-    (omega (arith, at-if4)) (omega (arith, at-if4)) (omega (arith, at-if4)) (omega (arith, at-if4)) at-read-lists.read_lists.ensures
+    (omega (arith, c)) (omega (arith, c)) (omega (arith, c)) (omega (arith, c)) c.read_lists.ensures

@@ -4,40 +4,30 @@ use Rattle.answering.specs.AnswerJob.{lists_job}
 use Rattle.answering.specs.ListsOperation.{lists_left}
 use Rattle.answering.specs.AnswerReading.{read-answered, read-refused}
 use native.Mathlib.Omega.{arith}
-use borrow.Author.Rules.{rules}
 use Rattle.answering.proofs.lists_operation.lists_in.Goals as goal
 
 pub job_lists-requires : goal.job_lists-requires
 job_lists-requires c =
-    let at_told = c in
-    let at_load = at_told in
-    let start = at_load in
-    let told = at_told.in-Job.is in
-    let (a, b) = read-few start.args.text.now at_load.load_rows-told.ensures.loaded told in
-    let r = at_load.load_rows-told.ensures.roomy.rows _ _ told in (
+    let told = c.in-Job.is in
+    let (a, b) = read-few c.args.text.now c.load_rows-told.ensures.loaded told in
+    let r = c.load_rows-told.ensures.roomy.rows _ _ told in (
       a,
       b,
-      start.requires.1,
+      c.requires.1,
       record { query_follow = omega (arith, r.1); query_enter = omega (arith, r.2); lists_follow = λ h. r.1; lists_enter = λ h. r.2 },
-      holds-job start.args.text.now at_load.load_rows-told.ensures.loaded told,
+      holds-job c.args.text.now c.load_rows-told.ensures.loaded told,
     )
 
 pub returns-in-Job : goal.returns-in-Job
 returns-in-Job c =
-    let at-job-lists = c in
-    let at_told = at-job-lists in
-    let at_load = at_told in
-    let start = at_load in
-    let a = start.args in
-    read-answered a.text.now at_load.load_rows-told.ensures.loaded
+    let a = c.args in
+    read-answered a.text.now c.load_rows-told.ensures.loaded
     (λ J. lists_left a.recordings a.marks.now a.workspace.now (lists_job J a.recordings a.table.now a.start))
-    a.marks.now a.workspace.now at_told.in-Job.is at-job-lists.job_lists.ensures
+    a.marks.now a.workspace.now c.in-Job.is c.job_lists.ensures
 
 pub returns-in-Refused : goal.returns-in-Refused
 returns-in-Refused c =
-    let at_load = c in
-    let start = at_load in
-    let a = start.args in
-    read-refused a.text.now at_load.load_rows-told.ensures.loaded
+    let a = c.args in
+    read-refused a.text.now c.load_rows-told.ensures.loaded
     (λ J. lists_left a.recordings a.marks.now a.workspace.now (lists_job J a.recordings a.table.now a.start))
     a.marks.now a.workspace.now c.in-Refused.is

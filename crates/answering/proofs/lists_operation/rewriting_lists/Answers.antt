@@ -3,7 +3,6 @@ use native.Mathlib.Omega.{arith}
 use Rattle.finding.specs.Find.{find}
 use Rattle.answering.specs.LinkReading.{table-in-range}
 use Rattle.answering.specs.FoundTables.{found-given}
-use borrow.Author.Rules.{rules}
 use Rattle.answering.proofs.lists_operation.rewriting_lists.Goals as goal
 
 pub find_rows-told-requires : goal.find_rows-told-requires
@@ -12,18 +11,13 @@ find_rows-told-requires c =
 
 pub finding_lists-requires : goal.finding_lists-requires
 finding_lists-requires c =
-    let at-find-rows = c in
-    let start = at-find-rows in
-    let a = start.args in
-    let p = start.requires in
+    let a = c.args in
+    let p = c.requires in
     (p.4, table-in-range a.lists a.recordings a.table.now p.2, p.3)
 
 pub returns : goal.returns
 returns c =
-    let at-finding-lists = c in
-    let at-find-rows = at-finding-lists in
-    let start = at-find-rows in
-    let p = start.requires in
+    let p = c.requires in
     λ J w g.
-    at-finding-lists.finding_lists.ensures (find J)
-    (found-given J w g p.1 at-find-rows.find_rows-told.ensures p.2)
+    c.finding_lists.ensures (find J)
+    (found-given J w g p.1 c.find_rows-told.ensures p.2)

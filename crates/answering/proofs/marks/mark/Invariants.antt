@@ -1,15 +1,8 @@
 -- `mark` meets its contract. The loop's invariant: the marks of the recordings below y stand before what is left of the lent marks, and
 -- their ones are counted.
-use Rattle.std.specs.Prelude.{◌≡◌, ◌-◌, ◌*◌, ◌<◌, ◌≤◌, ◌++◌, length, drop}
-use mathlib.Core.Path.{refl, sym, subst}
-use lib.ListN.{length-set}
-use borrow.Author.Tests.{not-true, not-false}
+use Rattle.std.specs.Prelude.{◌≡◌, ◌-◌, ◌≤◌, ◌++◌, length, drop}
 use Rattle.answering.specs.Marked.{ones}
-use Rattle.answering.specs.Pairs.{row_below}
-use Rattle.answering.specs.Marks.{meets, marks_of, Markable}
-use Rattle.answering.specs.MarksSteps.{mark-at-most, marks-stored, marks-counted}
-use native.Mathlib.Omega.{arith}
-use borrow.Author.Rules.{rules}
+use Rattle.answering.specs.Marks.{marks_of}
 use Rattle.answering.proofs.marks.mark.Given as goal
 
 abbrev pub invariant-loop-y : goal.invariant-loop-y

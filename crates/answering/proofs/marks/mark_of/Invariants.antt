@@ -1,12 +1,7 @@
 -- `mark_of` meets its contract. The loop's invariant: what is joined is 0 exactly when the words passed have nothing in common with the
 -- accepting words.
 use Rattle.std.specs.Prelude.{◌≡◌, ◌-◌, ◌≤◌, not, eqb}
-use mathlib.Core.Path.{refl, sym, ap, ◌∙◌}
-use Rattle.answering.specs.MarksLaws.{mark_of}
 use Rattle.answering.specs.Marks.{meets}
-use Rattle.answering.specs.MarksSteps.{meets-next, mark-none, mark-some}
-use native.Mathlib.Omega.{arith}
-use borrow.Author.Rules.{rules}
 use Rattle.answering.proofs.marks.mark_of.Given as goal
 
 abbrev pub invariant-loop-k : goal.invariant-loop-k

@@ -1,5 +1,4 @@
-use Rattle.std.specs.Prelude.{◌≡◌, ◌-◌, ◌*◌, ◌<◌, ◌≤◌, ◌++◌, length, get_or, drop}
-use mathlib.Core.Logic.{⊎_elim}
+use Rattle.std.specs.Prelude.{◌≡◌, ◌*◌, ◌<◌, ◌≤◌, length, get_or}
 use mathlib.Core.Path.{refl, sym, ap, ◌∙◌}
 use lib.ListN.{length-set}
 use Rattle.theory.specs.Places.{intersection}
@@ -8,7 +7,6 @@ use Rattle.answering.specs.MarksLaws.{mark_of}
 use Rattle.answering.specs.Marks.{meets, marks_of}
 use Rattle.answering.specs.MarksSteps.{meets_word, mark-none, mark-some, marks-stored, marks-counted}
 use native.Mathlib.Omega.{arith}
-use borrow.Author.Rules.{rules}
 use Rattle.answering.proofs.marks.mark_words.Goals as goal
 use Rattle.answering.proofs.marks.mark_words.Goals.{else-reached-y-eq0, then-reached-y-eq0}
 
@@ -21,30 +19,36 @@ bounds-reached-y c = omega (arith, c.requires.room)
 
 pub bounds-marks-y : goal.bounds-marks-y
 bounds-marks-y c =
-    let at-loop = c in
-    omega (arith, at-loop.requires.marks-fit, at-loop.loop-y.invariant.2)
+    omega (arith, c.requires.marks-fit, c.loop-y.invariant.2)
 
 pub overflow_add-count : goal.overflow_add-count
-overflow_add-count c = omega (arith, (let it : c.if-reached-y-eq0.m ≤ 1 = (elim c.if-reached-y-eq0.branch [ then-reached-y-eq0 w ↦ omega arith | else-reached-y-eq0 w ↦ omega arith ]) in it), c.loop-y.invariant.1)
+overflow_add-count c =
+    let small : c.if-reached-y-eq0.m ≤ 1 = elim c.if-reached-y-eq0.branch [ then-reached-y-eq0 w ↦ omega arith | else-reached-y-eq0 w ↦ omega arith ] in
+    omega (arith, c.loop-y.invariant.1)
 
 pub loop-y-preserved : goal.loop-y-preserved
 loop-y-preserved c =
-    let at-loop = c in
-    let at-start = at-loop in
-    let a = at-start.args in
-    let l = at-loop.loop-y in
-    let e = (let it : let l = c in let a = l.args in c.if-reached-y-eq0.m ≡ mark_of (meets a.reached.now a.accepting.now (1 * l.loop.y) 1) = let at-loop = c in let a = at-loop.args in let common = intersection (get_or a.reached.now at-loop.loop-y.y 0) (get_or a.accepting.now 0 0) in (elim c.if-reached-y-eq0.branch [ then-reached-y-eq0 w ↦ w.m-is ∙ mark-none common w.if-reached-y-eq0.true | else-reached-y-eq0 w ↦ w.m-is ∙ mark-some common w.if-reached-y-eq0.false ]) ∙ ap mark_of (sym (meets_word a.reached.now a.accepting.now at-loop.loop-y.y)) in it) in
-    let h : l.y < length a.marks.now = omega (arith, at-start.requires.marks-fit) in (
+    let a = c.args in
+    let l = c.loop-y in
+    let m = c.if-reached-y-eq0.m in
+    let small : m ≤ 1 = elim c.if-reached-y-eq0.branch [ then-reached-y-eq0 w ↦ omega arith | else-reached-y-eq0 w ↦ omega arith ] in
+    let common = intersection (get_or a.reached.now l.y 0) (get_or a.accepting.now 0 0) in
+    let e : m ≡ mark_of (meets a.reached.now a.accepting.now (1 * l.y) 1) =
+    (elim c.if-reached-y-eq0.branch [
+      | then-reached-y-eq0 w ↦ w.m-is ∙ mark-none common w.if-reached-y-eq0.true
+      | else-reached-y-eq0 w ↦ w.m-is ∙ mark-some common w.if-reached-y-eq0.false
+    ])
+    ∙ ap mark_of (sym (meets_word a.reached.now a.accepting.now l.y)) in
+    let h : l.y < length a.marks.now = omega (arith, c.requires.marks-fit) in (
       omega arith,
-      omega (arith, (let it : c.if-reached-y-eq0.m ≤ 1 = (elim c.if-reached-y-eq0.branch [ then-reached-y-eq0 w ↦ omega arith | else-reached-y-eq0 w ↦ omega arith ]) in it), l.invariant.1),
+      omega (arith, l.invariant.1),
       simp length-set l.invariant.2,
-      marks-stored 1 a.reached.now a.accepting.now l.y c.if-reached-y-eq0.m e a.marks.now l.marks h l.invariant.3,
-      marks-counted 1 a.reached.now a.accepting.now l.y c.if-reached-y-eq0.m e l.count l.invariant.4,
+      marks-stored 1 a.reached.now a.accepting.now l.y m e a.marks.now l.marks h l.invariant.3,
+      marks-counted 1 a.reached.now a.accepting.now l.y m e l.count l.invariant.4,
     )
 
 pub returns : goal.returns
 returns c =
-    let at-start = c in
     let v = c.loop-y.invariant in
-    let e : c.loop-y.y ≡ at-start.args.recordings = omega arith in
-    record { set = λ g. rw e at v.3; counted = λ g. rw e at v.4; unfit = λ n. absurd (n at-start.requires) }
+    let e : c.loop-y.y ≡ c.args.recordings = omega arith in
+    record { set = λ g. rw e at v.3; counted = λ g. rw e at v.4; unfit = λ n. absurd (n c.requires) }

@@ -1,16 +1,8 @@
 -- `mark_words` meets its contract. The loop's invariant: the marks of the recordings below y stand before what is left of the lent marks,
 -- and their ones are counted.
-use Rattle.std.specs.Prelude.{◌≡◌, ◌-◌, ◌*◌, ◌<◌, ◌≤◌, ◌++◌, length, get_or, drop}
-use mathlib.Core.Logic.{⊎_elim}
-use mathlib.Core.Path.{refl, sym, ap, ◌∙◌}
-use lib.ListN.{length-set}
-use Rattle.theory.specs.Places.{intersection}
+use Rattle.std.specs.Prelude.{◌≡◌, ◌-◌, ◌≤◌, ◌++◌, length, drop}
 use Rattle.answering.specs.Marked.{ones}
-use Rattle.answering.specs.MarksLaws.{mark_of}
-use Rattle.answering.specs.Marks.{meets, marks_of}
-use Rattle.answering.specs.MarksSteps.{meets_word, mark-none, mark-some, marks-stored, marks-counted}
-use native.Mathlib.Omega.{arith}
-use borrow.Author.Rules.{rules}
+use Rattle.answering.specs.Marks.{marks_of}
 use Rattle.answering.proofs.marks.mark_words.Given as goal
 
 abbrev pub invariant-loop-y : goal.invariant-loop-y

@@ -4,7 +4,6 @@ use mathlib.Core.Bool.{false≢true}
 use native.Mathlib.Nat.{le-div_iff_mul-le, mul_comm}
 use borrow.Author.Tests.{leb-true, leb-false}
 use native.Mathlib.Omega.{arith}
-use borrow.Author.Rules.{rules}
 use Rattle.answering.proofs.marks.sufficing.Goals as goal
 
 pub returns-then-words-eq0 : goal.returns-then-words-eq0
@@ -18,8 +17,7 @@ returns-then-marks-recordings c = record { fits = λ e. absurd (false≢true e);
 
 pub returns : goal.returns
 returns c =
-    let at-start = c in
-    let a = at-start.args in
+    let a = c.args in
     let l = length a.reached.now in
     let k : 0 < a.words = omega arith in
     let swap = mul_comm a.recordings a.words in

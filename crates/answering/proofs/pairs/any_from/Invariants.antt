@@ -1,10 +1,5 @@
 -- `any_from` meets its contract. The loop's invariant: the words passed are zero.
 use Rattle.std.specs.Prelude.{◌≡◌, ℕ, ◌+◌, ◌-◌, ◌<◌, ◌≤◌, get_or}
-use mathlib.Core.Bool.{false≢true}
-use mathlib.Core.Path.{sym}
-use borrow.Author.Count.{below_more}
-use native.Mathlib.Omega.{arith}
-use borrow.Author.Rules.{rules}
 use Rattle.answering.proofs.pairs.any_from.Given as goal
 
 abbrev pub invariant-loop-k : goal.invariant-loop-k

@@ -1,9 +1,7 @@
-use Rattle.std.specs.Prelude.{◌-◌, ◌/◌, ◌%◌, ◌^◌, ◌≤◌}
+use Rattle.std.specs.Prelude.{◌/◌, ◌%◌, ◌^◌}
 use lib.Count.{trailing_le}
-use Rattle.answering.specs.Pairs.{place}
-use Rattle.answering.specs.NextState.{Passed, word_of, passed-word, next-found, next-over, next-none}
+use Rattle.answering.specs.NextState.{word_of, passed-word, next-found, next-over, next-none}
 use native.Mathlib.Omega.{arith}
-use borrow.Author.Rules.{rules}
 use Rattle.answering.proofs.pairs.next_state.Goals as goal
 
 pub loop-s-init : goal.loop-s-init
@@ -26,14 +24,14 @@ returns-then-next-most c =
     let l = c.loop-s in
     let a = c.args in
     next-found a.words a.pairs.now a.x l.s a.from l.invariant.1
-    (omega (arith, c.shared_slice_known-1.given (place a.words a.x l.s))) c.if-word-ne0.true a.most l.invariant.0 c.if-next-most.true
+    (omega arith) c.if-word-ne0.true a.most l.invariant.0 c.if-next-most.true
 
 pub returns-then-word-ne0 : goal.returns-then-word-ne0
 returns-then-word-ne0 c =
     let l = c.loop-s in
     let a = c.args in
     next-over a.words a.pairs.now a.x l.s a.from l.invariant.1
-    (omega (arith, c.shared_slice_known-1.given (place a.words a.x l.s))) c.if-word-ne0.true a.most (omega arith) (omega (arith, c.if-next-most.false))
+    (omega arith) c.if-word-ne0.true a.most (omega arith) (omega (arith, c.if-next-most.false))
 
 pub loop-s-preserved : goal.loop-s-preserved
 loop-s-preserved c =

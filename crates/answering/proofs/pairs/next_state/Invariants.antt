@@ -1,10 +1,6 @@
 -- `next_state` meets its contract. The loop's invariant: no state from the given one on and before s is had.
-use Rattle.std.specs.Prelude.{◌-◌, ◌/◌, ◌%◌, ◌^◌, ◌≤◌}
-use lib.Count.{trailing_le}
-use Rattle.answering.specs.Pairs.{place}
-use Rattle.answering.specs.NextState.{Passed, word_of, passed-word, next-found, next-over, next-none}
-use native.Mathlib.Omega.{arith}
-use borrow.Author.Rules.{rules}
+use Rattle.std.specs.Prelude.{◌-◌, ◌≤◌}
+use Rattle.answering.specs.NextState.{Passed}
 use Rattle.answering.proofs.pairs.next_state.Given as goal
 
 abbrev pub invariant-loop-s : goal.invariant-loop-s

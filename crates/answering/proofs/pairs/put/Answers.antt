@@ -6,7 +6,6 @@ use lib.Bits.{bit_or}
 use lib.Pow.{shl_exact}
 use Rattle.answering.specs.Pairs.{place, put}
 use native.Mathlib.Omega.{arith}
-use borrow.Author.Rules.{rules}
 use Rattle.answering.proofs.pairs.put.Goals as goal
 
 pub returns : goal.returns

@@ -1,9 +1,8 @@
-use Rattle.std.specs.Prelude.{◌≡◌, ◌-◌, ◌≤◌, length}
+use Rattle.std.specs.Prelude.{◌≡◌}
 use mathlib.Core.Path.{refl}
 use lib.ListN.{length-set}
-use Rattle.answering.specs.WordsFrom.{Zeroed, zeroed-none, zeroed-more}
+use Rattle.answering.specs.WordsFrom.{zeroed-none, zeroed-more}
 use native.Mathlib.Omega.{arith}
-use borrow.Author.Rules.{rules}
 use Rattle.answering.proofs.pairs.zero_from.Goals as goal
 
 pub loop-k-init : goal.loop-k-init
@@ -14,6 +13,5 @@ loop-k-preserved c = (omega arith, simp length-set c.loop-k.invariant.1, zeroed-
 
 pub returns : goal.returns
 returns c =
-    let at-start = c in
-    let e : c.loop-k.k ≡ at-start.args.words = omega arith in
+    let e : c.loop-k.k ≡ c.args.words = omega arith in
     rw e at c.loop-k.invariant.2

@@ -1,10 +1,6 @@
 -- `zero_from` meets its contract. The loop's invariant: the words passed are zero, and no other word has changed.
 use Rattle.std.specs.Prelude.{◌≡◌, ◌-◌, ◌≤◌, length}
-use mathlib.Core.Path.{refl}
-use lib.ListN.{length-set}
-use Rattle.answering.specs.WordsFrom.{Zeroed, zeroed-none, zeroed-more}
-use native.Mathlib.Omega.{arith}
-use borrow.Author.Rules.{rules}
+use Rattle.answering.specs.WordsFrom.{Zeroed}
 use Rattle.answering.proofs.pairs.zero_from.Given as goal
 
 abbrev pub invariant-loop-k : goal.invariant-loop-k

@@ -1,9 +1,5 @@
 -- `alike_place` meets its contract: the tests say that an earlier place stands for p; or p stands for itself.
 use Rattle.std.specs.Prelude.{◌-◌, ◌≤◌}
-use borrow.Author.Tests.{eqb-true}
-use Rattle.answering.specs.PlaceRows.{lead-self, lead-told}
-use native.Mathlib.Omega.{arith}
-use borrow.Author.Rules.{rules}
 use Rattle.answering.proofs.place_rows.alike_place.Given as goal
 
 abbrev pub invariant-loop-q : goal.invariant-loop-q

@@ -1,4 +1,4 @@
-use Rattle.std.specs.Prelude.{ℕ, ◌-◌, ◌^◌, ◌<◌, ◌≤◌, length, get_or}
+use Rattle.std.specs.Prelude.{◌^◌, ◌<◌, ◌≤◌, length, get_or}
 use mathlib.Core.Bool.{false≢true}
 use mathlib.Core.Path.{◌∙◌, subst}
 use native.Mathlib.Nat.{one-mul}
@@ -6,7 +6,6 @@ use lib.Pow.{shl_exact}
 use borrow.Author.Count.{below_more}
 use Rattle.answering.specs.FewPlaces.{few-told}
 use native.Mathlib.Omega.{arith}
-use borrow.Author.Rules.{rules}
 use Rattle.answering.proofs.place_rows.few_places.Goals as goal
 
 pub returns-then-count-gt6 : goal.returns-then-count-gt6
@@ -20,13 +19,11 @@ returns-then-end-follow c e = absurd (false≢true e)
 
 pub loop-p-preserved : goal.loop-p-preserved
 loop-p-preserved c =
-    let at-loop = c in
-    (omega arith, below_more _ _ at-loop.loop-p.invariant.1 (omega arith))
+    (omega arith, below_more _ _ c.loop-p.invariant.1 (omega arith))
 
 pub returns : goal.returns
 returns c e =
-    let at-loop = c in
-    let follow = at-loop.args.follow.now in
+    let follow = c.args.follow.now in
     let h : length follow ≤ 6 = omega arith in
     let end = shl_exact {a = 1} 1 (length follow) 64 (omega arith) (omega arith) ∙ one-mul (2 ^ length follow) in
-    few-told h (λ p l. subst (λ n. get_or follow p 0 < n) end (at-loop.loop-p.invariant.1 p (omega arith)))
+    few-told h (λ p l. subst (λ n. get_or follow p 0 < n) end (c.loop-p.invariant.1 p (omega arith)))

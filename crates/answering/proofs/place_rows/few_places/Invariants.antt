@@ -1,13 +1,5 @@
 -- `few_places` meets its contract. The loop's invariant: the next places of the places passed are among all.
-use Rattle.std.specs.Prelude.{ℕ, ◌-◌, ◌^◌, ◌<◌, ◌≤◌, length, get_or}
-use mathlib.Core.Bool.{false≢true}
-use mathlib.Core.Path.{◌∙◌, subst}
-use native.Mathlib.Nat.{one-mul}
-use lib.Pow.{shl_exact}
-use borrow.Author.Count.{below_more}
-use Rattle.answering.specs.FewPlaces.{few-told}
-use native.Mathlib.Omega.{arith}
-use borrow.Author.Rules.{rules}
+use Rattle.std.specs.Prelude.{ℕ, ◌-◌, ◌<◌, ◌≤◌, get_or}
 use Rattle.answering.proofs.place_rows.few_places.Given as goal
 
 abbrev pub invariant-loop-p : goal.invariant-loop-p

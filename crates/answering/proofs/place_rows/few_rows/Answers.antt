@@ -2,9 +2,8 @@
 use Rattle.std.specs.Prelude.{◌*◌, ◌≤◌, length}
 use mathlib.Core.Bool.{false≢true}
 use native.Mathlib.Nat.{mul-le-mul}
-use borrow.Author.Tests.{leb-true, not-false}
+use borrow.Author.Tests.{leb-true}
 use native.Mathlib.Omega.{arith}
-use borrow.Author.Rules.{rules}
 use Rattle.answering.proofs.place_rows.few_rows.Goals as goal
 
 pub returns-then-labels-gt32 : goal.returns-then-labels-gt32
@@ -15,13 +14,11 @@ returns-then-not-few_places c e = absurd (false≢true e)
 
 pub overflow_mul-result : goal.overflow_mul-result
 overflow_mul-result c =
-    let at-few-places = c in
-    let a = at-few-places.args in
-    let f = at-few-places.few_places.ensures (not-false _ c.if-not-few_places.false-raw) in
+    let a = c.args in
+    let f = c.few_places.ensures c.if-not-few_places.false in
     let m : a.labels * length a.follow.now ≤ 32 * 6 = mul-le-mul {n₂ = 32} {m₂ = 6} (omega arith) f.few in
     omega (arith, m)
 
 pub returns : goal.returns
 returns c e =
-    let at-few-places = c in
-    (at-few-places.few_places.ensures (not-false _ c.if-not-few_places.false-raw), leb-true _ _ e)
+    (c.few_places.ensures c.if-not-few_places.false, leb-true _ _ e)

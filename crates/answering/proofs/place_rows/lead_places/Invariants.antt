@@ -1,12 +1,6 @@
 -- `lead_places` meets its contract. The loop's invariant: the places before p have their words.
-use Rattle.std.specs.Prelude.{◌≡◌, ◌+◌, ◌-◌, ◌^◌, ◌≤◌, length, set}
-use mathlib.Core.Path.{refl, sym, ◌∙◌, subst}
-use native.Mathlib.Nat.{one-mul}
-use lib.ListN.{length-set}
-use lib.Pow.{shl_exact}
-use Rattle.answering.specs.PlaceRows.{LeadPlaces, leads-none, leads-more}
-use native.Mathlib.Omega.{arith}
-use borrow.Author.Rules.{rules}
+use Rattle.std.specs.Prelude.{◌≡◌, ◌-◌, ◌≤◌, length}
+use Rattle.answering.specs.PlaceRows.{LeadPlaces}
 use Rattle.answering.proofs.place_rows.lead_places.Given as goal
 
 abbrev pub invariant-loop-p : goal.invariant-loop-p

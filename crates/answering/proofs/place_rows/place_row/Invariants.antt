@@ -1,12 +1,6 @@
 -- `place_row` meets its contract. The loop's invariant: the labels before `a` have their words.
-use Rattle.std.specs.Prelude.{◌≡◌, ◌+◌, ◌-◌, ◌≤◌, length, get_or, set}
-use mathlib.Core.Path.{refl, sym, subst}
-use native.Mathlib.Nat.{one-mul}
-use lib.ListN.{length-set}
-use Rattle.theory.specs.PlacesLaws.{member-intersection}
-use Rattle.answering.specs.PlaceRows.{RowPlaced, row-none, row_more}
-use native.Mathlib.Omega.{arith}
-use borrow.Author.Rules.{rules}
+use Rattle.std.specs.Prelude.{◌≡◌, ◌-◌, ◌≤◌, length}
+use Rattle.answering.specs.PlaceRows.{RowPlaced}
 use Rattle.answering.proofs.place_rows.place_row.Given as goal
 
 abbrev pub invariant-loop-a : goal.invariant-loop-a

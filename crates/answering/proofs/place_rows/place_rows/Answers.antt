@@ -1,11 +1,10 @@
-use Rattle.std.specs.Prelude.{◌≡◌, ◌-◌, ◌≤◌, length, get_or}
+use Rattle.std.specs.Prelude.{◌≡◌, length, get_or}
 use mathlib.Core.Path.{refl, ◌∙◌, subst}
 use Rattle.theory.specs.PlacesLaws.{member_below}
 use Rattle.answering.specs.Pairs.{row_below}
 use Rattle.answering.specs.FewPlaces.{below_64}
 use Rattle.answering.specs.PlaceRows.{RowsFilled, rows_none, rows_more, rows-placed}
 use native.Mathlib.Omega.{arith}
-use borrow.Author.Rules.{rules}
 use Rattle.answering.proofs.place_rows.place_rows.Goals as goal
 
 pub lead_places-requires : goal.lead_places-requires
@@ -18,39 +17,33 @@ loop-p-init c = (omega arith, refl, rows_none _ _ _ _ _)
 
 pub overflow_mul-labels : goal.overflow_mul-labels
 overflow_mul-labels c =
-    let at-start = c in
     let l = c.loop-p in
-    let a = at-start.args in
+    let a = c.args in
     let h = row_below a.labels (length a.follow.now) {y = l.p} (omega arith) in
-    omega (arith, h, at-start.requires.2)
+    omega (arith, h, c.requires.2)
 
 pub place_row-requires : goal.place_row-requires
 place_row-requires c =
-    let at-start = c in
     let l = c.loop-p in
-    let a = at-start.args in
-    let f = at-start.requires.0 in
+    let a = c.args in
+    let f = c.requires.0 in
     let h = row_below a.labels (length a.follow.now) {y = l.p} (omega arith) in (
       λ q m. omega (arith, member_below 6 (get_or a.follow.now l.p 0) q (below_64 f l.p) m),
-      at-start.requires.1,
-      omega (arith, h, at-start.requires.2, l.invariant.1),
+      c.requires.1,
+      omega (arith, h, c.requires.2, l.invariant.1),
     )
 
 pub loop-p-preserved : goal.loop-p-preserved
 loop-p-preserved c =
-    let at-place-row = c in
-    let l = at-place-row.loop-p in
-    let r = at-place-row.place_row in
+    let l = c.loop-p in
+    let r = c.place_row in
     (omega arith, r.auto.rows ∙ l.invariant.1, rows_more l.invariant.2 r.ensures)
 
 pub returns : goal.returns
 returns c =
-    let at-loop = c in
-    let at-lead-places = at-loop in
-    let at-start = at-lead-places in
-    let a = at-start.args in
-    let l = at-loop.loop-p in
-    let leads = at-lead-places.lead_places.new.leads in
+    let a = c.args in
+    let l = c.loop-p in
+    let leads = c.lead_places.new.leads in
     let e : l.p ≡ length a.follow.now = omega arith in
-    rows-placed at-start.requires.0 at-lead-places.lead_places.ensures
+    rows-placed c.requires.0 c.lead_places.ensures
     (subst (λ n. RowsFilled a.follow.now a.enter.now a.labels leads n l.rows) e l.invariant.2)

@@ -1,12 +1,6 @@
 -- `place_rows` meets its contract. The loop's invariant: the places before p have their rows.
-use Rattle.std.specs.Prelude.{◌≡◌, ◌-◌, ◌≤◌, length, get_or}
-use mathlib.Core.Path.{refl, ◌∙◌, subst}
-use Rattle.theory.specs.PlacesLaws.{member_below}
-use Rattle.answering.specs.Pairs.{row_below}
-use Rattle.answering.specs.FewPlaces.{below_64}
-use Rattle.answering.specs.PlaceRows.{RowsFilled, rows_none, rows_more, rows-placed}
-use native.Mathlib.Omega.{arith}
-use borrow.Author.Rules.{rules}
+use Rattle.std.specs.Prelude.{◌≡◌, ◌-◌, ◌≤◌, length}
+use Rattle.answering.specs.PlaceRows.{RowsFilled}
 use Rattle.answering.proofs.place_rows.place_rows.Given as goal
 
 abbrev pub invariant-loop-p : goal.invariant-loop-p

@@ -1,10 +1,9 @@
-use Rattle.std.specs.Prelude.{◌≡◌, ℕ, ◌-◌, ◌<◌, ◌≤◌, length, get_or}
+use Rattle.std.specs.Prelude.{◌<◌, length, get_or}
 use mathlib.Core.Path.{refl, ◌∙◌}
 use lib.ListN.{length-set}
 use lib.Seq.{get_or-set_same, get_or-set_other}
 use borrow.Author.Count.{below_more}
 use native.Mathlib.Omega.{arith}
-use borrow.Author.Rules.{rules}
 use Rattle.answering.proofs.place_search.load_enter.Goals as goal
 
 pub loop-a-init : goal.loop-a-init
@@ -12,11 +11,9 @@ loop-a-init c = (omega arith, refl, λ b h. absurd (omega arith))
 
 pub loop-a-preserved : goal.loop-a-preserved
 loop-a-preserved c =
-    let at-loop = c in
-    let at-start = c in
-    let l = at-loop.loop-a in
-    let h : l.a < length l.images = omega (arith, l.invariant.1, at-start.requires.1) in
-    let v = get_or at-start.args.enter.now l.a 0 in (
+    let l = c.loop-a in
+    let h : l.a < length l.images = omega (arith, l.invariant.1, c.requires.1) in
+    let v = get_or c.args.enter.now l.a 0 in (
       omega arith,
       simp length-set l.invariant.1,
       below_more _ _ (λ b k. get_or-set_other l.images l.a b v 0 (λ q. omega arith) ∙ l.invariant.2 b k)
@@ -25,5 +22,4 @@ loop-a-preserved c =
 
 pub returns : goal.returns
 returns c =
-    let at-loop = c in
-    λ a h. at-loop.loop-a.invariant.2 a (omega arith)
+    λ a h. c.loop-a.invariant.2 a (omega arith)

@@ -1,11 +1,5 @@
 -- `load_enter` meets its contract. The loop's invariant: the words before `a` are copied.
 use Rattle.std.specs.Prelude.{◌≡◌, ℕ, ◌-◌, ◌<◌, ◌≤◌, length, get_or}
-use mathlib.Core.Path.{refl, ◌∙◌}
-use lib.ListN.{length-set}
-use lib.Seq.{get_or-set_same, get_or-set_other}
-use borrow.Author.Count.{below_more}
-use native.Mathlib.Omega.{arith}
-use borrow.Author.Rules.{rules}
 use Rattle.answering.proofs.place_search.load_enter.Given as goal
 
 abbrev pub invariant-loop-a : goal.invariant-loop-a

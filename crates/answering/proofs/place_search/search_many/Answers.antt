@@ -4,14 +4,12 @@ use Rattle.std.specs.Prelude.{ℕ}
 use lib.ListN.{length-replicate}
 use Rattle.answering.specs.SetSearchRun.{set-beginning}
 use native.Mathlib.Omega.{arith}
-use borrow.Author.Rules.{rules}
 use Rattle.answering.proofs.place_search.search_many.Goals as goal
 
 pub follow_all_words-requires : goal.follow_all_words-requires
 follow_all_words-requires c =
-    let at-start = c in
-    let p = at-start.requires in
-    let n = at-start.args.sizes.recordings in
+    let p = c.requires in
+    let n = c.args.sizes.recordings in
     let e = one-mul n in
     let l = p.0.fits.few in
     let long = length-replicate {A = ℕ} 8193 0 in

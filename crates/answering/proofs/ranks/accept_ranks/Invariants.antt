@@ -1,10 +1,6 @@
 -- `accept_ranks` meets its contract. The loop's invariant: the words have the ranks below r of states with flag 1.
-use Rattle.std.specs.Prelude.{◌≡◌, ℕ, ◌-◌, ◌≤◌, length, get_or}
-use mathlib.Core.Logic.{⊎_elim}
-use mathlib.Core.Path.{refl, sym, ap, ◌∙◌}
-use Rattle.answering.specs.Ranks.{AcceptedRanks, member-room, accepted-pass, accepted-put}
-use native.Mathlib.Omega.{arith}
-use borrow.Author.Rules.{rules}
+use Rattle.std.specs.Prelude.{◌≡◌, ◌-◌, ◌≤◌, length}
+use Rattle.answering.specs.Ranks.{AcceptedRanks}
 use Rattle.answering.proofs.ranks.accept_ranks.Given as goal
 
 abbrev pub invariant-loop-r : goal.invariant-loop-r

@@ -1,9 +1,8 @@
-use Rattle.std.specs.Prelude.{◌≡◌, ◌-◌, ◌≤◌}
+use Rattle.std.specs.Prelude.{◌≡◌}
 use mathlib.Core.Bool.{false≢true}
 use mathlib.Core.Path.{refl, sym, ◌∙◌}
-use Rattle.answering.specs.Ranks.{OwnNext, own-next-none, own-next-more}
+use Rattle.answering.specs.Ranks.{own-next-none, own-next-more}
 use native.Mathlib.Omega.{arith}
-use borrow.Author.Rules.{rules}
 use Rattle.answering.proofs.ranks.leads_nowhere.Goals as goal
 
 pub returns-then-flags-s-eq1 : goal.returns-then-flags-s-eq1
@@ -16,23 +15,17 @@ loop-v-init c =
 
 pub returns-then-index-s : goal.returns-then-index-s
 returns-then-index-s c =
-    let at-index = c in
-    let at-loop-test = at-index in
-    let v = at-loop-test.loop-v.v in
-    let h = at-loop-test.loop-v-test.true in
-    (λ e. absurd (false≢true e), λ (d, o). absurd (c.if-index-s.true (at-index.index.ensures ∙ o v h)))
+    let v = c.loop-v.v in
+    let h = c.loop-v-test.true in
+    (λ e. absurd (false≢true e), λ (d, o). absurd (c.if-index-s.true (c.index.ensures ∙ o v h)))
 
 pub loop-v-preserved : goal.loop-v-preserved
 loop-v-preserved c =
-    let at-index = c in
-    let at-loop = at-index in
-    let a = at-loop.args in
-    (omega arith, own-next-more a.next.now a.s at-loop.loop-v.invariant.1 (sym at-index.index.ensures ∙ c.if-index-s.false))
+    let a = c.args in
+    (omega arith, own-next-more a.next.now a.s c.loop-v.invariant.1 (sym c.index.ensures ∙ c.if-index-s.false))
 
 pub returns : goal.returns
 returns c =
-    let at-loop = c in
-    let at-if1 = at-loop in
-    let a = at-if1.args in
-    let e : at-loop.loop-v.v ≡ a.lists = omega arith in
-    (λ t. (at-if1.if-flags-s-eq1.false, rw e at at-loop.loop-v.invariant.1), λ o. refl)
+    let a = c.args in
+    let e : c.loop-v.v ≡ a.lists = omega arith in
+    (λ t. (c.if-flags-s-eq1.false, rw e at c.loop-v.invariant.1), λ o. refl)

@@ -1,10 +1,6 @@
 -- `leads_nowhere` meets its contract. The loop's invariant: over the lists before v the state is its own next state.
-use Rattle.std.specs.Prelude.{◌≡◌, ◌-◌, ◌≤◌}
-use mathlib.Core.Bool.{false≢true}
-use mathlib.Core.Path.{refl, sym, ◌∙◌}
-use Rattle.answering.specs.Ranks.{OwnNext, own-next-none, own-next-more}
-use native.Mathlib.Omega.{arith}
-use borrow.Author.Rules.{rules}
+use Rattle.std.specs.Prelude.{◌-◌, ◌≤◌}
+use Rattle.answering.specs.Ranks.{OwnNext}
 use Rattle.answering.proofs.ranks.leads_nowhere.Given as goal
 
 abbrev pub invariant-loop-v : goal.invariant-loop-v

@@ -1,11 +1,6 @@
 -- `rank_states` meets its contract. The loop's invariant: the states below s have their ranks.
-use Rattle.std.specs.Prelude.{◌≡◌, ◌-◌, ◌<◌, ◌≤◌, length}
-use mathlib.Core.Logic.{⊎_elim}
-use mathlib.Core.Path.{refl}
-use lib.ListN.{length-set}
-use Rattle.answering.specs.Ranks.{Ranks, ranks-start, ranks-out, ranks-next}
-use native.Mathlib.Omega.{arith}
-use borrow.Author.Rules.{rules}
+use Rattle.std.specs.Prelude.{◌≡◌, ◌-◌, ◌≤◌, length}
+use Rattle.answering.specs.Ranks.{Ranks}
 use Rattle.answering.proofs.ranks.rank_states.Given as goal
 
 abbrev pub invariant-loop-s : goal.invariant-loop-s

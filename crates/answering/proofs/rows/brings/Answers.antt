@@ -1,10 +1,9 @@
-use Rattle.std.specs.Prelude.{◌≡◌, ℕ, ◌+◌, ◌-◌, ◌<◌, ◌≤◌}
+use Rattle.std.specs.Prelude.{◌+◌}
 use mathlib.Core.Bool.{false≢true}
 use mathlib.Core.Path.{sym}
 use borrow.Author.Count.{below_more}
-use Rattle.answering.specs.SetRows.{word_of, new_of, some-new, none-new}
+use Rattle.answering.specs.SetRows.{word_of, some-new, none-new}
 use native.Mathlib.Omega.{arith}
-use borrow.Author.Rules.{rules}
 use Rattle.answering.proofs.rows.brings.Goals as goal
 
 pub loop-j-init : goal.loop-j-init
@@ -14,7 +13,7 @@ pub returns-then-new-ne0 : goal.returns-then-new-ne0
 returns-then-new-ne0 c =
     let l = c.loop-j in
     let a = c.args in
-    let known = c.shared_slice_known-1.given (a.from + l.j) in
+    let known = c.type_inv.sets (a.from + l.j) in
     record {
       some = λ e. some-new l.j (omega arith) (omega (arith, known)) c.if-new-ne0.true;
       nothing = λ e. absurd (false≢true (sym e));
@@ -22,8 +21,7 @@ returns-then-new-ne0 c =
 
 pub loop-j-preserved : goal.loop-j-preserved
 loop-j-preserved c =
-    let at-loop = c in
-    (omega arith, below_more _ _ at-loop.loop-j.invariant.1 c.if-new-ne0.false)
+    (omega arith, below_more _ _ c.loop-j.invariant.1 c.if-new-ne0.false)
 
 pub returns : goal.returns
 returns c =

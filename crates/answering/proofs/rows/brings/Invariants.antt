@@ -1,11 +1,6 @@
 -- `brings` meets its contract. The loop's invariant: the words passed have nothing new.
-use Rattle.std.specs.Prelude.{◌≡◌, ℕ, ◌+◌, ◌-◌, ◌<◌, ◌≤◌}
-use mathlib.Core.Bool.{false≢true}
-use mathlib.Core.Path.{sym}
-use borrow.Author.Count.{below_more}
-use Rattle.answering.specs.SetRows.{word_of, new_of, some-new, none-new}
-use native.Mathlib.Omega.{arith}
-use borrow.Author.Rules.{rules}
+use Rattle.std.specs.Prelude.{◌≡◌, ℕ, ◌-◌, ◌<◌, ◌≤◌}
+use Rattle.answering.specs.SetRows.{new_of}
 use Rattle.answering.proofs.rows.brings.Given as goal
 
 abbrev pub invariant-loop-j : goal.invariant-loop-j

@@ -1,10 +1,6 @@
 -- `unite` meets its contract. The loop's invariant: the words passed are united, and no other word has changed.
-use Rattle.std.specs.Prelude.{◌≡◌, ◌+◌, ◌-◌, ◌<◌, ◌≤◌, length}
-use mathlib.Core.Path.{refl}
-use lib.ListN.{length-set}
-use Rattle.answering.specs.SetRows.{word_of, United, united-none, united-more}
-use native.Mathlib.Omega.{arith}
-use borrow.Author.Rules.{rules}
+use Rattle.std.specs.Prelude.{◌≡◌, ◌-◌, ◌≤◌, length}
+use Rattle.answering.specs.SetRows.{word_of, United}
 use Rattle.answering.proofs.rows.unite.Given as goal
 
 abbrev pub invariant-loop-j : goal.invariant-loop-j

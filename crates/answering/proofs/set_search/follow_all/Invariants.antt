@@ -1,15 +1,9 @@
 -- `follow_all` meets its contract. The loop's invariant: what is reached was found, and all links of what is reached and not pending were
 -- followed. A turn takes a recording off the stack, and each recording that comes onto it has a pair that was not reached before.
-use Rattle.std.specs.Prelude.{◌≡◌, ◌+◌, ◌*◌, ◌<◌, ◌≤◌, length}
-use mathlib.Core.Path.{refl, sym, ◌∙◌, subst}
-use Rattle.answering.specs.Pairs.{room, row_below}
+use Rattle.std.specs.Prelude.{◌≡◌, ◌+◌, length}
+use Rattle.answering.specs.Pairs.{room}
 use Rattle.answering.specs.SetSearch.{Steps}
-use Rattle.answering.specs.Waiting.{waiting-most}
-use Rattle.answering.specs.Grown.{row-pending, ready-pop, top_below, top-inside}
-use Rattle.answering.specs.SetSearchRun.{SetGoing, few-rows, few-pairs, first-place, first-words, first-there, first-only}
-use Rattle.answering.specs.SetSearchRun.{set-going-first, set-spreading, set-going-next, set-going-done}
-use native.Mathlib.Omega.{arith}
-use borrow.Author.Rules.{rules}
+use Rattle.answering.specs.SetSearchRun.{SetGoing}
 use Rattle.answering.proofs.set_search.follow_all.Given as goal
 
 abbrev pub invariant-loop-top : goal.invariant-loop-top

@@ -1,47 +1,35 @@
-use Rattle.std.specs.Prelude.{◌≡◌, ◌-◌, ◌/◌, length}
 use mathlib.Core.Path.{refl, ◌∙◌}
-use Rattle.answering.specs.Pairs.{Has}
 use Rattle.answering.specs.LinkAt.{FirstLeaving}
-use Rattle.answering.specs.LinkReading.{Reading, reading-first, reading-leaves, reading-next, next_place}
-use Rattle.answering.specs.SetSteps.{RowsGoing, rows_none, rows_next, rows-ended}
+use Rattle.answering.specs.LinkReading.{reading-first, reading-leaves, reading-next, next_place}
+use Rattle.answering.specs.SetSteps.{rows_none, rows_next, rows-ended}
 use native.Mathlib.Omega.{arith}
-use borrow.Author.Rules.{rules}
 use Rattle.answering.proofs.set_search.follow_links.Goals as goal
 
 pub loop-link-init : goal.loop-link-init
 loop-link-init c =
-    let at-start = c in
-    let a = at-start.args in
+    let a = c.args in
     let f : FirstLeaving a.table.now a.x c.leaving_at-link.result = record {
       first = a.first;
-      begins = at-start.requires.2;
+      begins = c.requires.2;
       reads = c.leaving_at-link.ensures;
     } in
-    (reading-first f, refl, refl, refl, rows_none at-start.requires.0 f)
+    (reading-first f, refl, refl, refl, rows_none c.requires.0 f)
 
 pub follow_link-top-requires : goal.follow_link-top-requires
 follow_link-top-requires c =
-    let at-loop = c in
-    let at-start = at-loop in
-    (at-loop.loop-link.invariant.4.grown.ready, at-start.requires.1)
+    (c.loop-link.invariant.4.grown.ready, c.requires.1)
 
 pub loop-link-smaller : goal.loop-link-smaller
 loop-link-smaller c =
-    let earlier = c in
-    let at-loop-test = earlier in
-    let at-loop = at-loop-test in
-    let v = at-loop.loop-link.invariant in
-    let e = at-loop-test.loop-link-test.true in
+    let v = c.loop-link.invariant in
+    let e = c.loop-link-test.true in
     omega (arith, (reading-leaves v.0 e).within, next_place v.0 e c.next_leaving-link.ensures)
 
 pub loop-link-preserved : goal.loop-link-preserved
 loop-link-preserved c =
-    let at-follow-link = c in
-    let at-loop-test = at-follow-link in
-    let at-loop = at-loop-test in
-    let v = at-loop.loop-link.invariant in
-    let e = at-loop-test.loop-link-test.true in
-    let f = at-follow-link.follow_link-top in
+    let v = c.loop-link.invariant in
+    let e = c.loop-link-test.true in
+    let f = c.follow_link-top in
     let read = c.next_leaving-link.ensures in (
       reading-next v.0 e read,
       f.auto.reached ∙ v.1,
@@ -52,5 +40,4 @@ loop-link-preserved c =
 
 pub returns : goal.returns
 returns c =
-    let at-loop = c in
-    let v = at-loop.loop-link.invariant in rows-ended v.0 c.loop-link-test.false v.4
+    let v = c.loop-link.invariant in rows-ended v.0 c.loop-link-test.false v.4

@@ -1,12 +1,8 @@
 -- `follow_links` meets its contract. The loop's invariant: the links of x before the place of the one that was read were followed.
 use Rattle.std.specs.Prelude.{◌≡◌, ◌-◌, ◌/◌, length}
-use mathlib.Core.Path.{refl, ◌∙◌}
 use Rattle.answering.specs.Pairs.{Has}
-use Rattle.answering.specs.LinkAt.{FirstLeaving}
-use Rattle.answering.specs.LinkReading.{Reading, reading-first, reading-leaves, reading-next, next_place}
-use Rattle.answering.specs.SetSteps.{RowsGoing, rows_none, rows_next, rows-ended}
-use native.Mathlib.Omega.{arith}
-use borrow.Author.Rules.{rules}
+use Rattle.answering.specs.LinkReading.{Reading}
+use Rattle.answering.specs.SetSteps.{RowsGoing}
 use Rattle.answering.proofs.set_search.follow_links.Given as goal
 
 abbrev pub invariant-loop-link : goal.invariant-loop-link

@@ -3,7 +3,6 @@ use Rattle.std.specs.Prelude.{ℕ}
 use lib.ListN.{length-replicate}
 use Rattle.answering.specs.SetSearchRun.{recordings-below, set-beginning, images-blank}
 use native.Mathlib.Omega.{arith}
-use borrow.Author.Rules.{rules}
 use Rattle.answering.proofs.set_search.search_few.Goals as goal
 
 pub search_from-requires : goal.search_from-requires

@@ -1,12 +1,9 @@
 -- `spread` meets its contract. The loop's invariant: the rows have the next states of the pending states below s, and s is the next where
 -- it is below the number of states.
 use Rattle.std.specs.Prelude.{◌≡◌, ◌-◌, ◌<◌, ◌≤◌, length}
-use mathlib.Core.Path.{refl, ◌∙◌}
 use Rattle.answering.specs.Pairs.{Has}
 use Rattle.answering.specs.SetSearch.{Steps}
-use Rattle.answering.specs.SetSteps.{Spread, spread_none, spread-more, spread-skip, rows-below}
-use native.Mathlib.Omega.{arith}
-use borrow.Author.Rules.{rules}
+use Rattle.answering.specs.SetSteps.{Spread}
 use Rattle.answering.proofs.set_search.spread.Given as goal
 
 abbrev pub invariant-loop-s : goal.invariant-loop-s

@@ -1,7 +1,6 @@
 -- `search_states` meets its contract: either search does.
 use Rattle.answering.specs.StateSets.{lent-most}
 use native.Mathlib.Omega.{arith}
-use borrow.Author.Rules.{rules}
 use Rattle.answering.proofs.state_search.search_states.Goals as goal
 
 pub overflow_mul-lists : goal.overflow_mul-lists

@@ -1,10 +1,6 @@
 -- `put_row` meets its contract. The loop's invariant: the rows of the lists passed are filled.
 use Rattle.std.specs.Prelude.{◌≡◌, ◌+◌, ◌-◌, ◌*◌, ◌≤◌, length}
-use mathlib.Core.Path.{refl, ◌∙◌}
-use native.Mathlib.Nat.{add-zero}
-use Rattle.answering.specs.StateSets.{RankedStep, Filled, filled_more}
-use native.Mathlib.Omega.{arith}
-use borrow.Author.Rules.{rules}
+use Rattle.answering.specs.StateSets.{RankedStep, Filled}
 use Rattle.answering.proofs.state_sets.put_row.Given as goal
 
 abbrev pub invariant-loop-v : goal.invariant-loop-v

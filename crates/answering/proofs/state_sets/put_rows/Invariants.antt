@@ -1,9 +1,6 @@
 -- `put_rows` meets its contract. The loop's invariant: the rows of the states passed are filled.
 use Rattle.std.specs.Prelude.{◌≡◌, ◌-◌, ◌*◌, ◌≤◌, length}
-use mathlib.Core.Path.{refl, ◌∙◌}
-use Rattle.answering.specs.StateSets.{RankedStep, Filled, filled-all, filled-start, filled-state}
-use native.Mathlib.Omega.{arith}
-use borrow.Author.Rules.{rules}
+use Rattle.answering.specs.StateSets.{RankedStep, Filled}
 use Rattle.answering.proofs.state_sets.put_rows.Given as goal
 
 abbrev pub invariant-loop-r : goal.invariant-loop-r

@@ -1,8 +1,6 @@
-use Rattle.std.specs.Prelude.{◌≡◌, ◌-◌, ◌*◌, ◌≤◌, length}
 use mathlib.Core.Path.{refl, ◌∙◌}
-use Rattle.answering.specs.TurnedBack.{TurnedBelow, word_below, turned-start, turned_more, turned-all}
+use Rattle.answering.specs.TurnedBack.{word_below, turned-start, turned_more, turned-all}
 use native.Mathlib.Omega.{arith}
-use borrow.Author.Rules.{rules}
 use Rattle.answering.proofs.turned_back.turn_back.Goals as goal
 
 pub loop-i-init : goal.loop-i-init
@@ -12,28 +10,24 @@ loop-i-init c =
 
 pub turn_word-requires : goal.turn_word-requires
 turn_word-requires c =
-    let at-known = c in
-    let l = at-known.loop-i in
-    let p = at-known.requires in
-    let h = at-known.loop-i-test.true in
+    let l = c.loop-i in
+    let p = c.requires in
+    let h = c.loop-i-test.true in
     let r = p.reached-fit in (
       omega (arith, p.few-states),
       omega arith,
-      λ q m. omega (arith, word_below p h (omega (arith, at-known.shared_slice_known-in-loop-i-1.given l.i)) q m, r, l.invariant.1),
+      λ q m. omega (arith, word_below p h (omega arith) q m, r, l.invariant.1),
     )
 
 pub loop-i-preserved : goal.loop-i-preserved
 loop-i-preserved c =
-    let at-turn-word = c in
-    let at-known = at-turn-word in
-    let at-if1 = at-known in
-    let l = at-if1.loop-i in
-    let p = at-if1.requires in
-    let h = at-if1.loop-i-test.true in
-    let r = at-turn-word.turn_word in (
+    let l = c.loop-i in
+    let p = c.requires in
+    let h = c.loop-i-test.true in
+    let r = c.turn_word in (
       omega arith,
       r.auto.reached ∙ l.invariant.1,
-      turned_more p h (omega (arith, at-known.shared_slice_known-in-loop-i-1.given l.i)) l.invariant.2 r.ensures,
+      turned_more p h (omega arith) l.invariant.2 r.ensures,
     )
 
 pub returns : goal.returns

@@ -1,9 +1,6 @@
 -- `turn_back` meets its contract. The loop's invariant: the words before i have been turned.
 use Rattle.std.specs.Prelude.{◌≡◌, ◌-◌, ◌*◌, ◌≤◌, length}
-use mathlib.Core.Path.{refl, ◌∙◌}
-use Rattle.answering.specs.TurnedBack.{TurnedBelow, word_below, turned-start, turned_more, turned-all}
-use native.Mathlib.Omega.{arith}
-use borrow.Author.Rules.{rules}
+use Rattle.answering.specs.TurnedBack.{TurnedBelow}
 use Rattle.answering.proofs.turned_back.turn_back.Given as goal
 
 abbrev pub invariant-loop-i : goal.invariant-loop-i

@@ -1,14 +1,12 @@
-use Rattle.std.specs.Prelude.{◌≡◌, ℕ, ◌+◌, ◌-◌, ◌^◌, ◌<◌, List, length}
+use Rattle.std.specs.Prelude.{◌+◌, ◌-◌, ◌<◌, length}
 use mathlib.Core.Path.{refl, ◌∙◌, subst}
 use native.Mathlib.Nat.{one-mul}
 use lib.Bits.{bit_and, and_le_r}
 use lib.Count.{count_trailing_zeros, trailing_le}
-use Rattle.theory.specs.Places.{Member}
 use Rattle.places.specs.NextPlace.{trailing-here}
 use Rattle.places.specs.Followed.{rest-within}
 use Rattle.answering.specs.TurnedBack.{WordTurned, turned_none, turned-least}
 use native.Mathlib.Omega.{arith}
-use borrow.Author.Rules.{rules}
 use Rattle.answering.proofs.turned_back.turn_word.Goals as goal
 
 pub loop-rest-init : goal.loop-rest-init
@@ -22,32 +20,32 @@ overflow_add-from c = omega (arith, trailing_le 64 c.loop-rest.rest, c.requires.
 
 pub put-requires : goal.put-requires
 put-requires c =
-    let at-start = c in
-    let h = (let it : c.args.from + count_trailing_zeros 64 c.loop-rest.rest < length c.loop-rest.reached = let l = c.loop-rest in let h = c.requires.2 _ (l.invariant.2 _ (trailing-here 64 l.rest c.loop-rest-test.true l.invariant.0)) in omega (arith, h, l.invariant.1) in it) in
-    let e = one-mul (at-start.args.from + count_trailing_zeros 64 c.loop-rest.rest) in
-    omega (arith, at-start.requires.0)
+    let l = c.loop-rest in
+    let h = c.requires.2 _ (l.invariant.2 _ (trailing-here 64 l.rest c.loop-rest-test.true l.invariant.0)) in
+    let g : c.args.from + count_trailing_zeros 64 l.rest < length l.reached = omega (arith, l.invariant.1) in
+    let e = one-mul (c.args.from + count_trailing_zeros 64 c.loop-rest.rest) in
+    omega (arith, c.requires.0)
 
 pub loop-rest-smaller : goal.loop-rest-smaller
 loop-rest-smaller c =
-    let at_in = c in
-    let r = at_in.loop-rest.rest in
-    omega (arith, at_in.loop-rest-test.true, and_le_r r (r - 1))
+    let r = c.loop-rest.rest in
+    omega (arith, c.loop-rest-test.true, and_le_r r (r - 1))
 
 pub loop-rest-preserved : goal.loop-rest-preserved
 loop-rest-preserved c =
-    let at-put = c in
-    let at_in = at-put in
-    let l = at_in.loop-rest in
-    let a = at_in.args in
-    let k = at_in.requires.0 in
-    let d = at_in.loop-rest-test.true in
-    let v = l.invariant in (
+    let l = c.loop-rest in
+    let a = c.args in
+    let k = c.requires.0 in
+    let d = c.loop-rest-test.true in
+    let v = l.invariant in
+    let h = c.requires.2 _ (v.2 _ (trailing-here 64 l.rest d v.0)) in
+    let g : a.from + count_trailing_zeros 64 l.rest < length l.reached = omega (arith, v.1) in (
       omega (arith, v.0, and_le_r l.rest (l.rest - 1)),
-      at-put.put.auto.pairs ∙ v.1,
+      c.put.auto.pairs ∙ v.1,
       rest-within a.set l.rest v.2 d v.0,
       λ after w. v.3 after
-          (turned-least l.reached d v.0 k ((let it : at_in.args.from + count_trailing_zeros 64 at_in.loop-rest.rest < length at_in.loop-rest.reached = let l = at_in.loop-rest in let h = at_in.requires.2 _ (l.invariant.2 _ (trailing-here 64 l.rest at_in.loop-rest-test.true l.invariant.0)) in omega (arith, h, l.invariant.1) in it))
-          (subst (λ m. WordTurned (bit_and l.rest (l.rest - 1)) a.from a.s m after) at-put.put.ensures w)),
+          (turned-least l.reached d v.0 k g
+          (subst (λ m. WordTurned (bit_and l.rest (l.rest - 1)) a.from a.s m after) c.put.ensures w)),
     )
 
 pub returns : goal.returns

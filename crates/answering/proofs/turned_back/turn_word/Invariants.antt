@@ -1,16 +1,8 @@
 -- `turn_word` meets its contract. The loop's invariant: what comes of the members left comes of the whole word. The measure is the members
 -- left.
-use Rattle.std.specs.Prelude.{◌≡◌, ℕ, ◌+◌, ◌-◌, ◌^◌, ◌<◌, List, length}
-use mathlib.Core.Path.{refl, ◌∙◌, subst}
-use native.Mathlib.Nat.{one-mul}
-use lib.Bits.{bit_and, and_le_r}
-use lib.Count.{count_trailing_zeros, trailing_le}
+use Rattle.std.specs.Prelude.{◌≡◌, ℕ, ◌^◌, ◌<◌, List, length}
 use Rattle.theory.specs.Places.{Member}
-use Rattle.places.specs.NextPlace.{trailing-here}
-use Rattle.places.specs.Followed.{rest-within}
-use Rattle.answering.specs.TurnedBack.{WordTurned, turned_none, turned-least}
-use native.Mathlib.Omega.{arith}
-use borrow.Author.Rules.{rules}
+use Rattle.answering.specs.TurnedBack.{WordTurned}
 use Rattle.answering.proofs.turned_back.turn_word.Given as goal
 
 abbrev pub invariant-loop-rest : goal.invariant-loop-rest

@@ -1,8 +1,6 @@
 -- `find_sets` meets its contract. The loop's invariant: what is reached was found, and what is done was followed.
 use Rattle.std.specs.Prelude.{◌≡◌, length}
-use mathlib.Core.Path.{refl, ◌∙◌}
-use Rattle.answering.specs.TurnedRounds.{rounds_left, RoundsTaken, start-place, rounds-begin, rounds-more, rounds-less, rounds-done}
-use borrow.Author.Rules.{rules}
+use Rattle.answering.specs.TurnedRounds.{rounds_left, RoundsTaken}
 use Rattle.answering.proofs.turned_search.find_sets.Given as goal
 
 abbrev pub invariant-loop-more : goal.invariant-loop-more

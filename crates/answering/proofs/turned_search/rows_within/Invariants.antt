@@ -1,12 +1,5 @@
 -- `rows_within` meets its contract. The loop's invariant: the words passed are below the end.
-use Rattle.std.specs.Prelude.{ℕ, ◌-◌, ◌^◌, ◌<◌, ◌≤◌, get_or}
-use mathlib.Core.Bool.{false≢true}
-use mathlib.Core.Path.{◌∙◌, subst}
-use native.Mathlib.Nat.{one-mul}
-use lib.Pow.{shl_exact}
-use borrow.Author.Count.{below_more}
-use native.Mathlib.Omega.{arith}
-use borrow.Author.Rules.{rules}
+use Rattle.std.specs.Prelude.{ℕ, ◌-◌, ◌<◌, ◌≤◌, get_or}
 use Rattle.answering.proofs.turned_search.rows_within.Given as goal
 
 abbrev pub invariant-loop-i : goal.invariant-loop-i

@@ -1,7 +1,6 @@
 -- `search_turned` meets its contract: the words are zero to begin with, and suffice.
 use Rattle.answering.specs.Ends.{zero-ends}
 use native.Mathlib.Omega.{arith}
-use borrow.Author.Rules.{rules}
 use Rattle.answering.proofs.turned_search.search_turned.Goals as goal
 
 pub search_lent-requires : goal.search_lent-requires

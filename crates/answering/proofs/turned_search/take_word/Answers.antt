@@ -7,26 +7,19 @@ use Rattle.answering.proofs.turned_search.take_word.Goals as goal
 
 pub returns-then-new-eq0 : goal.returns-then-new-eq0
 returns-then-new-eq0 c =
-    let at-start = c in
-    let a = at-start.args in
-    word_same at-start.requires.3 at-start.requires.4 a.rows.now a.sizes.symbols a.ends.now c.if-new-eq0.true
+    let a = c.args in
+    word_same c.requires.3 c.requires.4 a.rows.now a.sizes.symbols a.ends.now c.if-new-eq0.true
 
 pub follow_members-requires : goal.follow_members-requires
 follow_members-requires c =
-    let at-sets = c in
-    let at-start = at-sets in
-    let a = at-start.args in
-    let p = at-start.requires in
-    let low : get_or a.sets.now a.i 0 < 2 ^ 64 = omega (arith, at-sets.slice_known-1.given a.i) in
+    let a = c.args in
+    let p = c.requires in
+    let low : get_or a.sets.now a.i 0 < 2 ^ 64 = omega arith in
     (p.0, p.1, omega (arith, p.4), new-below p.3 p.4 low, omega arith, p.3.sets-fit)
 
 pub returns : goal.returns
 returns c =
-    let at-follow = c in
-    let at-if1 = at-follow in
-    let at-sets = at-if1 in
-    let at-start = at-sets in
-    let p = at-start.requires in
-    let f = at-follow.follow_members in
-    word-taken f.new.sets p.0 p.1 p.2 p.3 p.4 (λ j. omega (arith, at-sets.slice_known-1.given j))
-    f.ensures f.auto.sets at-if1.if-new-eq0.false
+    let p = c.requires in
+    let f = c.follow_members in
+    word-taken f.new.sets p.0 p.1 p.2 p.3 p.4 (λ j. search rules)
+    f.ensures f.auto.sets c.if-new-eq0.false

@@ -1,36 +1,27 @@
-use Rattle.std.specs.Prelude.{◌≡◌, ◌-◌, ◌*◌, ◌≤◌, length}
-use mathlib.Core.Logic.{⊎_elim}
 use mathlib.Core.Path.{refl, ◌∙◌}
-use Rattle.answering.specs.TurnedRounds.{WordsTaken, words-none, words_more, words_same, words-all}
+use Rattle.answering.specs.TurnedRounds.{words-none, words_more, words_same, words-all}
 use native.Mathlib.Omega.{arith}
-use borrow.Author.Rules.{rules}
 use Rattle.answering.proofs.turned_search.take_words.Goals as goal
 use Rattle.answering.proofs.turned_search.take_words.Goals.{else-take_word, then-take_word}
 
 pub loop-i-init : goal.loop-i-init
 loop-i-init c =
-    let at-start = c in
-    let a = at-start.args in
-    (omega arith, refl, refl, words-none a.rows.now a.sizes.symbols a.ends.now at-start.requires.3)
+    let a = c.args in
+    (omega arith, refl, refl, words-none a.rows.now a.sizes.symbols a.ends.now c.requires.3)
 
 pub overflow_mul-sizes : goal.overflow_mul-sizes
 overflow_mul-sizes c =
-    let at-start = c in
-    let n = at-start.requires.0.few-states in omega arith
+    let n = c.requires.0.few-states in omega arith
 
 pub take_word-requires : goal.take_word-requires
 take_word-requires c =
-    let at-loop = c in
-    let at-start = at-loop in
-    let p = at-start.requires in
-    (p.0, p.1, p.2, at-loop.loop-i.invariant.3.lent, omega arith)
+    let p = c.requires in
+    (p.0, p.1, p.2, c.loop-i.invariant.3.lent, omega arith)
 
 pub loop-i-preserved : goal.loop-i-preserved
 loop-i-preserved c =
-    let at-take-word = c in
-    let at-loop = at-take-word in
-    let v = at-loop.loop-i.invariant in
-    let f = at-take-word.take_word in (
+    let v = c.loop-i.invariant in
+    let f = c.take_word in (
       omega arith,
       f.auto.sets ∙ v.1,
       f.auto.done ∙ v.2,
@@ -39,5 +30,4 @@ loop-i-preserved c =
 
 pub returns : goal.returns
 returns c =
-    let at-loop = c in
-    words-all (omega arith) at-loop.loop-i.invariant.3
+    words-all (omega arith) c.loop-i.invariant.3

@@ -1,10 +1,6 @@
 -- `take_words` meets its contract. The loop's invariant: the words before i are taken.
 use Rattle.std.specs.Prelude.{◌≡◌, ◌-◌, ◌*◌, ◌≤◌, length}
-use mathlib.Core.Logic.{⊎_elim}
-use mathlib.Core.Path.{refl, ◌∙◌}
-use Rattle.answering.specs.TurnedRounds.{WordsTaken, words-none, words_more, words_same, words-all}
-use native.Mathlib.Omega.{arith}
-use borrow.Author.Rules.{rules}
+use Rattle.answering.specs.TurnedRounds.{WordsTaken}
 use Rattle.answering.proofs.turned_search.take_words.Given as goal
 
 abbrev pub invariant-loop-i : goal.invariant-loop-i

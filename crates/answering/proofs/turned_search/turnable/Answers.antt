@@ -4,7 +4,6 @@ use mathlib.Core.Bool.{false≢true}
 use native.Mathlib.Nat.{mul-le-mul}
 use Rattle.answering.specs.TurnedTest.{turnable-told}
 use native.Mathlib.Omega.{arith}
-use borrow.Author.Rules.{rules}
 use Rattle.answering.proofs.turned_search.turnable.Goals as goal
 
 pub returns-then-sizes-eq0 : goal.returns-then-sizes-eq0
@@ -18,9 +17,8 @@ returns-then-sizes-gt256 c e = absurd (false≢true e)
 
 pub overflow_mul-sizes : goal.overflow_mul-sizes
 overflow_mul-sizes c =
-    let at-start = c in
-    let z = at-start.args.sizes in
-    let m : z.symbols * z.recordings ≤ 32 * 256 = mul-le-mul {n₂ = 32} {m₂ = 256} at-start.requires.0 (omega arith) in
+    let z = c.args.sizes in
+    let m : z.symbols * z.recordings ≤ 32 * 256 = mul-le-mul {n₂ = 32} {m₂ = 256} c.requires.0 (omega arith) in
     omega (arith, m)
 
 pub returns-then-sizes-gt768 : goal.returns-then-sizes-gt768
@@ -28,6 +26,5 @@ returns-then-sizes-gt768 c e = absurd (false≢true e)
 
 pub returns : goal.returns
 returns c e =
-    let at-start = c in
-    let p = at-start.requires in
+    let p = c.requires in
     (turnable-told (omega arith) (omega arith) p.0 p.1 (c.rows_within.ensures e), omega arith, omega arith)

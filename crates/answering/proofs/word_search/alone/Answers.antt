@@ -3,7 +3,6 @@ use Rattle.answering.specs.WordsPending.{alone-least}
 use mathlib.Core.Bool.{false≢true}
 use native.Mathlib.Omega.{arith}
 use borrow.Author.Tests.{eqb-true}
-use borrow.Author.Rules.{rules}
 use Rattle.answering.proofs.word_search.alone.Goals as goal
 
 pub returns-then-states-eq0 : goal.returns-then-states-eq0

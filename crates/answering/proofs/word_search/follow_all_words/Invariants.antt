@@ -1,21 +1,11 @@
 -- `follow_all_words` meets its contract. The loop's invariant: what is reached was found, and all links of what is reached and not pending
 -- were followed; those that wait stand in the stack from `head` on; where the rows are cut, the words of the symbols stay as they are. A
 -- turn takes the recording at the front, and each recording that comes behind the others has a pair that was not reached before.
-use Rattle.std.specs.Prelude.{◌≡◌, ◌+◌, ◌*◌, ◌<◌, ◌≤◌, true, length, get_or, drop}
-use mathlib.Core.Path.{refl, sym, ◌∙◌, subst}
-use lib.Bits.{bit_xor}
-use lib.ListN.{length-set}
-use Rattle.theory.specs.PlacesLaws.{member-one}
-use Rattle.answering.specs.Rest.{rest_back, back-length}
+use Rattle.std.specs.Prelude.{◌≡◌, ◌+◌, ◌<◌, true, length, drop}
 use Rattle.answering.specs.Pairs.{room}
-use Rattle.answering.specs.Waiting.{waiting-most}
-use Rattle.answering.specs.Grown.{front-inside, front_below, ready_moved, ready-back}
-use Rattle.answering.specs.SetSearchRun.{SetGoing, set-going-begin, set-going-next, set-going-moved, set-going-done}
-use Rattle.answering.specs.WordSteps.{WordStep, WordRoom, next-room, words_spread}
-use Rattle.answering.specs.WordsPending.{pending_of, DoneReached, WordsReady, words-room, words-begin, words-front, words-grown}
-use Rattle.answering.specs.WordsPending.{pending-within, done-zeroed, done-taken, states-taken}
-use native.Mathlib.Omega.{arith}
-use borrow.Author.Rules.{rules}
+use Rattle.answering.specs.SetSearchRun.{SetGoing}
+use Rattle.answering.specs.WordSteps.{WordStep}
+use Rattle.answering.specs.WordsPending.{pending_of, DoneReached}
 use Rattle.answering.proofs.word_search.follow_all_words.Given as goal
 
 abbrev pub invariant-loop-top : goal.invariant-loop-top

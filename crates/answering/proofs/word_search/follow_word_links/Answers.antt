@@ -1,55 +1,43 @@
-use Rattle.std.specs.Prelude.{◌≡◌, ◌-◌, ◌/◌, length}
 use mathlib.Core.Path.{refl, ◌∙◌}
 use Rattle.answering.specs.LinkAt.{FirstLeaving}
-use Rattle.answering.specs.LinkReading.{Reading, reading-first, reading-leaves, reading-next, next_place}
-use Rattle.answering.specs.SetSteps.{RowsGoing, rows_none, rows_next, rows-ended}
-use Rattle.answering.specs.WordSteps.{WordImage}
-use Rattle.answering.specs.WordsPending.{pending_of, words-grown}
+use Rattle.answering.specs.LinkReading.{reading-first, reading-leaves, reading-next, next_place}
+use Rattle.answering.specs.SetSteps.{rows_none, rows_next, rows-ended}
+use Rattle.answering.specs.WordsPending.{words-grown}
 use native.Mathlib.Omega.{arith}
-use borrow.Author.Rules.{rules}
 use Rattle.answering.proofs.word_search.follow_word_links.Goals as goal
 
 pub loop-link-init : goal.loop-link-init
 loop-link-init c =
-    let at-start = c in
-    let a = at-start.args in
+    let a = c.args in
     let f : FirstLeaving a.table.now a.x c.leaving_at-link.result = record {
       first = a.first;
-      begins = at-start.requires.2;
+      begins = c.requires.2;
       reads = c.leaving_at-link.ensures;
     } in
-    (reading-first f, refl, refl, rows_none at-start.requires.0.ready f)
+    (reading-first f, refl, refl, rows_none c.requires.0.ready f)
 
 pub follow_word-top-requires : goal.follow_word-top-requires
 follow_word-top-requires c =
-    let at-loop = c in
-    let at-start = at-loop in
-    let at-loop-test = c in
-    let v = at-loop.loop-link.invariant in
-    let l = reading-leaves v.0 at-loop-test.loop-link-test.true in
-    let within = at-start.requires.3 in (
-      words-grown at-start.requires.0.within v.3.grown,
-      at-start.requires.1,
+    let v = c.loop-link.invariant in
+    let l = reading-leaves v.0 c.loop-link-test.true in
+    let within = c.requires.3 in (
+      words-grown c.requires.0.within v.3.grown,
+      c.requires.1,
       omega (arith, l.label, within.label _ l.within),
       omega (arith, l.end, within.end _ l.within),
     )
 
 pub loop-link-smaller : goal.loop-link-smaller
 loop-link-smaller c =
-    let at-loop-test = c in
-    let at-loop = at-loop-test in
-    let v = at-loop.loop-link.invariant in
-    let e = at-loop-test.loop-link-test.true in
+    let v = c.loop-link.invariant in
+    let e = c.loop-link-test.true in
     omega (arith, (reading-leaves v.0 e).within, next_place v.0 e c.next_leaving-link.ensures)
 
 pub loop-link-preserved : goal.loop-link-preserved
 loop-link-preserved c =
-    let at-follow-word = c in
-    let at-loop-test = at-follow-word in
-    let at-loop = at-loop-test in
-    let v = at-loop.loop-link.invariant in
-    let e = at-loop-test.loop-link-test.true in
-    let f = at-follow-word.follow_word-top in
+    let v = c.loop-link.invariant in
+    let e = c.loop-link-test.true in
+    let f = c.follow_word-top in
     let read = c.next_leaving-link.ensures in (
       reading-next v.0 e read,
       f.auto.reached ∙ v.1,
@@ -59,5 +47,4 @@ loop-link-preserved c =
 
 pub returns : goal.returns
 returns c =
-    let at-loop = c in
-    let v = at-loop.loop-link.invariant in rows-ended v.0 c.loop-link-test.false v.3
+    let v = c.loop-link.invariant in rows-ended v.0 c.loop-link-test.false v.3

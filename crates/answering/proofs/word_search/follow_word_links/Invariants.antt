@@ -1,13 +1,9 @@
 -- `follow_word_links` meets its contract. The loop's invariant: the links of x before the place of the one that was read were followed.
 use Rattle.std.specs.Prelude.{◌≡◌, ◌-◌, ◌/◌, length}
-use mathlib.Core.Path.{refl, ◌∙◌}
-use Rattle.answering.specs.LinkAt.{FirstLeaving}
-use Rattle.answering.specs.LinkReading.{Reading, reading-first, reading-leaves, reading-next, next_place}
-use Rattle.answering.specs.SetSteps.{RowsGoing, rows_none, rows_next, rows-ended}
+use Rattle.answering.specs.LinkReading.{Reading}
+use Rattle.answering.specs.SetSteps.{RowsGoing}
 use Rattle.answering.specs.WordSteps.{WordImage}
-use Rattle.answering.specs.WordsPending.{pending_of, words-grown}
-use native.Mathlib.Omega.{arith}
-use borrow.Author.Rules.{rules}
+use Rattle.answering.specs.WordsPending.{pending_of}
 use Rattle.answering.proofs.word_search.follow_word_links.Given as goal
 
 abbrev pub invariant-loop-link : goal.invariant-loop-link

@@ -1,10 +1,9 @@
-use Rattle.std.specs.Prelude.{◌≡◌, ℕ, ◌+◌, ◌-◌, ◌<◌, ◌≤◌, length, get_or}
+use Rattle.std.specs.Prelude.{◌+◌, ◌<◌, length, get_or}
 use mathlib.Core.Path.{refl, ◌∙◌}
 use lib.ListN.{length-set}
 use lib.Seq.{get_or-set_same, get_or-set_other}
 use borrow.Author.Count.{below_more}
 use native.Mathlib.Omega.{arith}
-use borrow.Author.Rules.{rules}
 use Rattle.answering.proofs.word_search.move_front.Goals as goal
 
 pub loop-i-init : goal.loop-i-init
@@ -12,11 +11,9 @@ loop-i-init c = (omega arith, refl, λ j h. absurd (omega arith), λ j h. refl)
 
 pub loop-i-preserved : goal.loop-i-preserved
 loop-i-preserved c =
-    let at-loop = c in
-    let at-start = at-loop in
-    let l = at-loop.loop-i in
-    let a = at-start.args in
-    let h : l.i < length l.stack = omega (arith, l.invariant.1, at-start.requires) in
+    let l = c.loop-i in
+    let a = c.args in
+    let h : l.i < length l.stack = omega (arith, l.invariant.1, c.requires) in
     let v = get_or l.stack (a.head + l.i) 0 in (
       omega arith,
       simp length-set l.invariant.1,
@@ -27,5 +24,4 @@ loop-i-preserved c =
 
 pub returns : goal.returns
 returns c =
-    let at-loop = c in
-    λ j h. at-loop.loop-i.invariant.2 j (omega arith)
+    λ j h. c.loop-i.invariant.2 j (omega arith)

@@ -1,11 +1,5 @@
 -- `move_front` meets its contract. The loop's invariant: the numbers before `i` have come to the front, and the others are as they were.
 use Rattle.std.specs.Prelude.{◌≡◌, ℕ, ◌+◌, ◌-◌, ◌<◌, ◌≤◌, length, get_or}
-use mathlib.Core.Path.{refl, ◌∙◌}
-use lib.ListN.{length-set}
-use lib.Seq.{get_or-set_same, get_or-set_other}
-use borrow.Author.Count.{below_more}
-use native.Mathlib.Omega.{arith}
-use borrow.Author.Rules.{rules}
 use Rattle.answering.proofs.word_search.move_front.Given as goal
 
 abbrev pub invariant-loop-i : goal.invariant-loop-i

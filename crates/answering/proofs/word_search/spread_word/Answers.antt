@@ -1,11 +1,9 @@
-use Rattle.std.specs.Prelude.{◌≡◌, ℕ, ◌-◌, ◌<◌, ◌≤◌, length, get_or}
+use Rattle.std.specs.Prelude.{◌<◌, length}
 use mathlib.Core.Path.{refl, ◌∙◌}
 use lib.ListN.{length-set}
 use lib.Seq.{get_or-set_same, get_or-set_other}
 use borrow.Author.Count.{below_more}
-use Rattle.places.specs.Joined.{joined}
 use native.Mathlib.Omega.{arith}
-use borrow.Author.Rules.{rules}
 use Rattle.answering.proofs.word_search.spread_word.Goals as goal
 
 pub loop-a-init : goal.loop-a-init
@@ -13,21 +11,16 @@ loop-a-init c = (omega arith, refl, λ b h. absurd (omega arith))
 
 pub join-requires : goal.join-requires
 join-requires c =
-    let at-start = c in
-    λ s m. at-start.requires.0 s c.loop-a.a m c.loop-a-test.true
+    λ s m. c.requires.0 s c.loop-a.a m c.loop-a-test.true
 
 pub bounds-images-a : goal.bounds-images-a
 bounds-images-a c =
-    let at-loop = c in
-    let at-start = c in
-    omega (arith, at-loop.loop-a.invariant.1, at-start.requires.1)
+    omega (arith, c.loop-a.invariant.1, c.requires.1)
 
 pub loop-a-preserved : goal.loop-a-preserved
 loop-a-preserved c =
-    let at-loop = c in
-    let at-start = c in
-    let l = at-loop.loop-a in
-    let h : l.a < length l.images = omega (arith, l.invariant.1, at-start.requires.1) in
+    let l = c.loop-a in
+    let h : l.a < length l.images = omega (arith, l.invariant.1, c.requires.1) in
     let v = c.join.result in (
       omega arith,
       simp length-set l.invariant.1,
@@ -37,5 +30,4 @@ loop-a-preserved c =
 
 pub returns : goal.returns
 returns c =
-    let at-loop = c in
-    λ a h. at-loop.loop-a.invariant.2 a (omega arith)
+    λ a h. c.loop-a.invariant.2 a (omega arith)

@@ -4,7 +4,6 @@ use mathlib.Core.Path.{refl, ap, ◌∙◌}
 use native.Mathlib.Nat.{one-mul}
 use lib.Pow.{shl_exact, pow_pos}
 use native.Mathlib.Omega.{arith}
-use borrow.Author.Rules.{rules}
 use Rattle.answering.proofs.word_search.states_below.Goals as goal
 
 pub returns-then-n-eq64 : goal.returns-then-n-eq64

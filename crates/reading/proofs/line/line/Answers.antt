@@ -1,6 +1,5 @@
 -- `line` meets its contract.
 use Rattle.reading.specs.TellingLaws.{given-told-early, given-told-late}
-use borrow.Author.Rules.{rules}
 use Rattle.reading.proofs.line.line.Goals as goal
 
 pub returns-then-p : goal.returns-then-p

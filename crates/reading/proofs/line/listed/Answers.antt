@@ -1,15 +1,14 @@
 -- `listed` meets its contract: the name is looked up among the lists' names, the expression is read over the labels into the rows behind
 -- the other lists', and the name is stored behind theirs.
-use Prim.Native.Nat.{ℕ, ◌+◌, ◌*◌, ◌≤◌}
+use Prim.Native.Nat.{ℕ, ◌+◌, ◌≤◌}
+use mathlib.Core.Bool.{Bool}
 use mathlib.Core.List.{List}
 use mathlib.Core.Path.{◌≡◌, sym, ap₂, ◌∙◌}
-use lib.ListN.{take, drop}
-use borrow.Author.Tests.{not-true, not-false}
+use Rattle.syntax.specs.Byte.{Bytes}
 use Rattle.syntax.specs.Resolve.{names_at}
 use Rattle.reading.specs.Read.{fresh}
 use Rattle.reading.specs.ListLaws.{list-told-many, list-told-name, list-told-faulty, list-told-fine}
 use native.Mathlib.Omega.{arith}
-use borrow.Author.Rules.{rules}
 use Rattle.reading.proofs.line.listed.Goals as goal
 
 pub returns-then-lists-ge16 : goal.returns-then-lists-ge16
@@ -19,13 +18,18 @@ returns-then-lists-ge16 c =
     list-told-many a.text.now a.p a.start a.size a.at a.rest a.names.now a.follow.now a.enter.now
     a.sizes.now a.accepting.now a.follow.now a.enter.now a.sizes.now a.accepting.now s split _ c.if-lists-ge16.true
 
+-- What the search among the lists' names told.
+told : (text : Bytes) {name n : Bytes} {entries l : List ℕ} {r t : Bool} → name ≡ n → entries ≡ l → r ≡ fresh name (names_at text entries)
+    → r ≡ t → fresh n (names_at text l) ≡ t
+told text e f g h = sym (ap₂ (λ (m k : List ℕ). fresh m (names_at text k)) e f) ∙ sym g ∙ h
+
 pub returns-then-not-fresh : goal.returns-then-not-fresh
 returns-then-not-fresh c =
     let a = c.args in
     λ s split.
     list-told-name a.text.now a.p a.start a.size a.at a.rest a.names.now a.follow.now a.enter.now
     a.sizes.now a.accepting.now a.follow.now a.enter.now a.sizes.now a.accepting.now s split _ c.if-lists-ge16.false
-    (sym ((let it : let a = c.args in c.fresh.result ≡ fresh (take a.size (drop a.start a.text.now)) (names_at a.text.now (take (2 * a.p.lists) (drop 64 a.names.now))) = let a = c.args in c.fresh.ensures ∙ ap₂ (λ (n l : List ℕ). fresh n (names_at a.text.now l)) c.part.ensures c.entries.ensures in it)) ∙ not-true _ c.if-not-fresh.true-raw)
+    (told a.text.now c.part.ensures c.entries.ensures c.fresh.ensures c.if-not-fresh.true)
 
 pub expression-told-requires : goal.expression-told-requires
 expression-told-requires c =
@@ -42,7 +46,8 @@ returns-in-Faulty c =
     let a = c.args in
     λ s split.
     list-told-faulty a.text.now a.p a.start a.size a.at a.rest a.names.now a.follow.now a.enter.now
-    a.sizes.now a.accepting.now _ _ _ _ s split c.if-lists-ge16.false (sym ((let it : let a = c.args in c.fresh.result ≡ fresh (take a.size (drop a.start a.text.now)) (names_at a.text.now (take (2 * a.p.lists) (drop 64 a.names.now))) = let a = c.args in c.fresh.ensures ∙ ap₂ (λ (n l : List ℕ). fresh n (names_at a.text.now l)) c.part.ensures c.entries.ensures in it)) ∙ not-false _ c.if-not-fresh.false-raw) _
+    a.sizes.now a.accepting.now _ _ _ _ s split c.if-lists-ge16.false
+    (told a.text.now c.part.ensures c.entries.ensures c.fresh.ensures c.if-not-fresh.false) _
     (rw (c.entries-2.ensures, c.part-2.ensures, c.in-Faulty.is) at c.expression-told.ensures)
 
 pub returns-in-Fine : goal.returns-in-Fine
@@ -51,6 +56,7 @@ returns-in-Fine c =
     λ s split.
     rw c.store.ensures
     (list-told-fine a.text.now a.p a.start a.size a.at a.rest a.names.now a.follow.now a.enter.now
-    a.sizes.now a.accepting.now _ _ _ _ s split c.if-lists-ge16.false (sym ((let it : let a = c.args in c.fresh.result ≡ fresh (take a.size (drop a.start a.text.now)) (names_at a.text.now (take (2 * a.p.lists) (drop 64 a.names.now))) = let a = c.args in c.fresh.ensures ∙ ap₂ (λ (n l : List ℕ). fresh n (names_at a.text.now l)) c.part.ensures c.entries.ensures in it)) ∙ not-false _ c.if-not-fresh.false-raw)
-    (omega (arith, c.entries-arg-2-1))
+    a.sizes.now a.accepting.now _ _ _ _ s split c.if-lists-ge16.false
+    (told a.text.now c.part.ensures c.entries.ensures c.fresh.ensures c.if-not-fresh.false)
+    (omega arith)
     (rw (c.entries-2.ensures, c.part-2.ensures, c.in-Fine.is) at c.expression-told.ensures))

@@ -1,7 +1,6 @@
 -- `query` meets its contract: the expression is read over the labels into the rows 0.
 use Rattle.reading.specs.QueryLaws.{query-told-early, query-told-faulty, query-told-fine}
 use native.Mathlib.Omega.{arith}
-use borrow.Author.Rules.{rules}
 use Rattle.reading.proofs.line.query.Goals as goal
 
 pub returns-then-labels-lt1 : goal.returns-then-labels-lt1

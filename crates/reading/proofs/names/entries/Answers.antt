@@ -1,6 +1,5 @@
 -- `entries` meets its contract.
 use native.Mathlib.Nat.{add-sub_cancel_left}
-use borrow.Author.Rules.{rules}
 use Rattle.reading.proofs.names.entries.Goals as goal
 
 pub returns : goal.returns

@@ -1,17 +1,10 @@
 -- `lines` meets its contract. The loop's invariant: what is left of the text gives what the whole gives, from what the tables hold; there
 -- are no more lines than bytes, and the tables stay as long as they are.
 use Prim.Native.Nat.{◌+◌, ◌-◌, ◌≤◌}
-use mathlib.Core.Path.{◌≡◌, refl, ap, ◌∙◌}
-use lib.ListN.{length, drop, length-drop}
-use lib.Seq.{take_all}
-use Rattle.reading.specs.Text.{newline}
+use mathlib.Core.Path.{◌≡◌}
+use lib.ListN.{length}
 use Rattle.reading.specs.Loading.{tables}
-use Rattle.reading.specs.LabelLaws.{labels-held}
-use Rattle.reading.specs.Scan.{before}
-use Rattle.reading.specs.RowRoom.{fewer-rows, roomy-refused}
-use Rattle.reading.specs.Underway.{Underway, underway-first, underway-next, loaded-unclosed, loaded-fault, loaded-early, loaded-job, list-within, roomy-lists}
-use native.Mathlib.Omega.{arith}
-use borrow.Author.Rules.{rules}
+use Rattle.reading.specs.Underway.{Underway}
 use Rattle.reading.proofs.reader.lines.Given as goal
 
 abbrev pub invariant-loop-at : goal.invariant-loop-at

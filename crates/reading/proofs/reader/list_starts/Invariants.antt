@@ -1,12 +1,8 @@
 -- `list_starts` meets its contract. The loop's invariant: those counted and those of what is left are those of the whole.
 use Prim.Native.Nat.{◌+◌, ◌-◌, ◌≤◌}
-use mathlib.Core.Logic.{⊎_elim}
-use mathlib.Core.Path.{◌≡◌, sym, ◌∙◌}
-use native.Mathlib.Nat.{zero-add}
-use lib.ListN.{length, get_or, drop, length-drop}
-use Rattle.reading.specs.ListStarts.{list_starts, start-pair, start-not, starts-next, starts_none, starts-within}
-use native.Mathlib.Omega.{arith}
-use borrow.Author.Rules.{rules}
+use mathlib.Core.Path.{◌≡◌}
+use lib.ListN.{length, drop}
+use Rattle.reading.specs.ListStarts.{list_starts}
 use Rattle.reading.proofs.reader.list_starts.Given as goal
 
 abbrev pub invariant-loop-i : goal.invariant-loop-i

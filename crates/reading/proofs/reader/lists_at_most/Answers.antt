@@ -1,7 +1,6 @@
 -- `lists_at_most` meets its contract.
 use mathlib.Core.Logic.{inl, inr}
 use native.Mathlib.Omega.{arith}
-use borrow.Author.Rules.{rules}
 use Rattle.reading.proofs.reader.lists_at_most.Goals as goal
 
 pub returns-then-text-gt1024 : goal.returns-then-text-gt1024

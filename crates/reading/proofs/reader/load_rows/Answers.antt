@@ -1,7 +1,6 @@
 -- `load_rows` meets its contract: a text that is too long is refused, and of any other the lines are read.
 use Rattle.reading.specs.RowRoom.{roomy-refused}
 use Rattle.reading.specs.Underway.{loaded-long}
-use borrow.Author.Rules.{rules}
 use Rattle.reading.proofs.reader.load_rows.Goals as goal
 
 pub returns-then-text-gt-MOST_TEXT : goal.returns-then-text-gt-MOST_TEXT

@@ -1,5 +1,4 @@
 -- `read` meets its contract: its reply is that of what `load` answers.
-use borrow.Author.Rules.{rules}
 use Rattle.reading.specs.Loading.{loaded-reply}
 use Rattle.reading.proofs.reader.read.Goals as goal
 

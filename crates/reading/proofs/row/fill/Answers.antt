@@ -2,7 +2,6 @@
 use Prim.Native.Nat.{◌*◌}
 use native.Mathlib.Nat.{add-sub_cancel_left}
 use Rattle.reading.specs.FillingLaws.{rows-lent}
-use borrow.Author.Rules.{rules}
 use Rattle.reading.proofs.row.fill.Goals as goal
 
 pub returns : goal.returns

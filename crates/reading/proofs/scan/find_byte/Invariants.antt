@@ -1,13 +1,9 @@
 -- `find_byte` meets its contract. The loop's invariant: the bytes passed and those before the first b in what is left are those before the
 -- first b in the whole.
-use Prim.Native.Nat.{ℕ, suc, ◌+◌, ◌-◌, ◌≤◌}
-use mathlib.Core.Path.{◌≡◌, sym, ap, ◌∙◌}
-use native.Mathlib.Nat.{zero-add}
-use native.Mathlib.Numerals.{add-one}
-use lib.ListN.{length, drop, drop_of_length-le}
-use Rattle.reading.specs.Scan.{before, before-found, before-next, before-nil}
-use native.Mathlib.Omega.{arith}
-use borrow.Author.Rules.{rules}
+use Prim.Native.Nat.{◌+◌, ◌-◌, ◌≤◌}
+use mathlib.Core.Path.{◌≡◌}
+use lib.ListN.{length, drop}
+use Rattle.reading.specs.Scan.{before}
 use Rattle.reading.proofs.scan.find_byte.Given as goal
 
 abbrev pub invariant-loop-i : goal.invariant-loop-i

@@ -1,15 +1,8 @@
 -- The three reading functions meet their contracts. Three times the number of unread bytes, with the rank of the level, falls with each
 -- call; each turn of a loop, and each way through `factor`, is one lemma (Turns, FactorWays).
-use native.Mathlib.Omega.{arith}
-use mathlib.Core.Path.{sym, ◌∙◌}
-use Rattle.syntax.specs.Byte.{dot, bar, opening, closing}
 use Rattle.syntax.specs.Resolve.{names_at}
-use Rattle.syntax.specs.PlaceLaws.{mark-to, mark-failed}
-use Rattle.syntax.proofs.Turns.{behind-to, behind-failed}
-use Rattle.syntax.proofs.Turns.{Choosing, choosing-start, choosing-on, choosing-end, Chaining, chaining-start, chaining-on, chaining-end}
-use Rattle.syntax.proofs.FactorWays.{factor-name, factor-deep, factor-unit, factor-group, factor-open}
-use borrow.Author.Rules.{rules}
-use Prim.Native.Nat.{ℕ, ◌+◌, ◌*◌, ◌-◌, ◌<◌}
+use Rattle.syntax.proofs.Turns.{Choosing, Chaining}
+use Prim.Native.Nat.{◌+◌, ◌*◌, ◌-◌}
 use lib.ListN.{length}
 use Rattle.syntax.proofs.build.+alternative_factor_sequence.Given as goal
 
@@ -21,3 +14,17 @@ decreases-factor l = 3 * (length l.s.now - l.c.at) + 1
 
 abbrev pub decreases-sequence : goal.decreases-sequence
 decreases-sequence l = 3 * (length l.s.now - l.c.at) + 2
+
+abbrev pub invariant-alternative-loop-next : goal.invariant-alternative-loop-next
+invariant-alternative-loop-next l =
+    Choosing (names_at l.text l.names) l.s l.initial.from.at l.k l.«open» l.initial.follow l.initial.enter l.part l.from.at l.follow l.enter
+
+abbrev pub decreases-alternative-loop-next : goal.decreases-alternative-loop-next
+decreases-alternative-loop-next l = length l.s - l.from.at
+
+abbrev pub invariant-sequence-loop-next : goal.invariant-sequence-loop-next
+invariant-sequence-loop-next l =
+    Chaining (names_at l.text l.names) l.s l.initial.from.at l.k l.«open» l.initial.follow l.initial.enter l.part l.from.at l.follow l.enter
+
+abbrev pub decreases-sequence-loop-next : goal.decreases-sequence-loop-next
+decreases-sequence-loop-next l = length l.s - l.from.at

@@ -1,7 +1,6 @@
 -- `behind` meets its contract.
 use native.Mathlib.Omega.{arith}
 use mathlib.Core.Path.{refl}
-use borrow.Author.Rules.{rules}
 use Rattle.syntax.proofs.build.behind.Goals as goal
 
 pub returns-then-part-gt64 : goal.returns-then-part-gt64

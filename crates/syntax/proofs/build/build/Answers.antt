@@ -7,7 +7,6 @@ use mathlib.Core.Logic.{◌⊎◌, inl, inr}
 use mathlib.Core.Path.{◌≡◌, refl, sym, ap, ap₂, ◌∙◌, subst}
 use native.Mathlib.Omega.{arith}
 use lib.ListN.{length, drop, set, replicate, length-drop, drop_of_length-le}
-use borrow.Author.Tests.{ltb-true, ltb-false}
 use Rattle.theory.specs.Expression.{Expression}
 use Rattle.theory.specs.Standing.{size}
 use Rattle.theory.specs.Places.{none, one, union, when}
@@ -25,8 +24,12 @@ use Rattle.syntax.specs.Check.{Checked, fine, faulty, check}
 use Rattle.syntax.specs.FineLaws.{fine-cases, whole-fine}
 use Rattle.syntax.specs.Splice.{splice_front}
 use Rattle.syntax.specs.Build.{Built, Room, Builds, outcome, automaton, cleared, building}
-use borrow.Author.Rules.{rules}
 use Rattle.syntax.proofs.build.build.Goals as goal
+use Rattle.syntax.proofs.build.build.Goals.{then-whole-gt64-via-then-whole-gt64, then-whole-gt64-via-else-whole-gt64+then-whole-s}
+
+same-cleared : (follow enter f₁ e₁ : List ℕ) → length f₁ ≡ length follow → length e₁ ≡ length enter → cleared f₁ e₁ ≡ cleared follow enter
+same-cleared follow enter f₁ e₁ l m =
+    ap₂ (λ a b. record { fine = false; size = 0; accepting = none; follow = replicate a none; enter = replicate b none }) l m
 
 -- A text with a fault gives cleared tables.
 faulted : (c : Checked) (follow enter : List ℕ) → ((e : Expression) → c ≡ fine e → ⊥) → cleared follow enter ≡ building c follow enter
@@ -100,12 +103,9 @@ module _ (labels : List Bytes) (s : Bytes) (follow enter : List ℕ) (p : Part) 
 
 pub returns-then-s-gt-MOST_BYTES : goal.returns-then-s-gt-MOST_BYTES
 returns-then-s-gt-MOST_BYTES c =
-    let refused = c in
-    let long = refused in
-    let a = long.args in
+    let a = c.args in
     let labels = names_at a.text.now a.names.now in
-    refused.refused.ensures
-    ∙ faulted (check labels a.s.now) a.follow.now a.enter.now (too_long labels a.s.now long.if-s-gt-MOST_BYTES.true)
+    c.refused.ensures ∙ faulted (check labels a.s.now) a.follow.now a.enter.now (too_long labels a.s.now c.if-s-gt-MOST_BYTES.true)
 
 pub alternative-whole-requires : goal.alternative-whole-requires
 unfolding kind_table kind
@@ -113,30 +113,21 @@ alternative-whole-requires c = refl
 
 pub returns-then-whole-gt64 : goal.returns-then-whole-gt64
 returns-then-whole-gt64 c =
-    let refused = c in
-    let tested = refused in
-    let read = tested in
-    let start = read in
-    let a = start.args in
-    let w = read.alternative-whole in
+    let a = c.args in
+    let w = c.alternative-whole in
     let labels = names_at a.text.now a.names.now in
-    refused.refused-then-whole-gt64.ensures
-    ∙ refuses labels a.s.now a.follow.now a.enter.now w.result w.new.follow w.new.enter start.requires
-    w.ensures (elim tested.if-whole-gt64.branch [ inl h ↦ inl h.taken | inr h ↦ inr (ltb-true _ _ h.2.taken) ])
+    c.refused-then-whole-gt64.ensures
+    ∙ refuses labels a.s.now a.follow.now a.enter.now w.result w.new.follow w.new.enter c.requires w.ensures
+    (elim c.then-whole-gt64.branch [
+      | then-whole-gt64-via-then-whole-gt64 v ↦ inl v.if-whole-gt64.true
+      | then-whole-gt64-via-else-whole-gt64+then-whole-s v ↦ inr v.if-whole-s.true
+    ])
 
 pub returns : goal.returns
 returns c =
-    let joined = c in
-    let tested = joined in
-    let stored = tested in
-    let ended = stored in
-    let few = ended in
-    let read = few in
-    let short = read in
-    let start = short in
-    let a = start.args in
-    let w = read.alternative-whole in
+    let a = c.args in
+    let w = c.alternative-whole in
     let labels = names_at a.text.now a.names.now in
-    makes labels a.s.now a.follow.now a.enter.now w.result w.new.follow w.new.enter start.requires
-    w.ensures short.if-s-gt-MOST_BYTES.false few.if-whole-gt64.false (ltb-false _ _ ended.if-whole-s.false-raw) _ _ refl refl
-    (joined.union-accepting.ensures ∙ ap (λ x. union x w.result.last.0) tested.when.ensures) stored.put.ensures
+    makes labels a.s.now a.follow.now a.enter.now w.result w.new.follow w.new.enter c.requires w.ensures c.if-s-gt-MOST_BYTES.false
+    c.if-whole-gt64.false c.if-whole-s.false _ _ refl refl
+    (c.union-accepting.ensures ∙ ap (λ x. union x w.result.last.0) c.when.ensures) c.put.ensures

@@ -13,7 +13,6 @@ use Rattle.syntax.specs.Resolve.{known, names_at}
 use Rattle.syntax.specs.Some.{is_some}
 use Rattle.syntax.specs.Verdict.{unless, first}
 use Rattle.syntax.specs.VerdictLaws.{too_long, labels-told, in_order}
-use borrow.Author.Rules.{rules}
 use Rattle.syntax.proofs.checks.check_expression.Goals as goal
 
 pub returns-then-s-gt-MOST_BYTES : goal.returns-then-s-gt-MOST_BYTES
@@ -31,9 +30,13 @@ occurrences-told-requires c = refl
 
 pub returns : goal.returns
 returns c =
-    let l = c in
-    let d = l in
-    let a = d.args in
-    rw (c.first-3.ensures, c.first-2.ensures)
-    (rw ((let it : let s = d.args.s.now in d.unless-grammar.result ≡ unless (is_some (parse s)) NotInGrammar = d.unless-grammar.ensures ∙ ap (λ x. unless x NotInGrammar) d.in_grammar.ensures in it), (let it : let s = d.args.s.now in d.unless-depth.result ≡ unless (leb (nesting 0 s) most_nesting) TooDeep = d.unless-depth.ensures ∙ ap (λ x. unless (leb x most_nesting) TooDeep) d.nesting-deep.ensures in it), (let it : let a = l.args in let names = unless (known (names_at a.text.now a.names.now) (runs false a.s.now)) UnknownLabel in let number = unless (leb (length (runs false a.s.now)) most_occurrences) TooManyOccurrences in l.first.result ≡ first names number = let n = l in let l = n in l.first.ensures ∙ ap₂ first l.unless-labels.ensures n.unless-number.ensures ∙ labels-told _ _ _ l.occurrences-told.ensures in it))
-    (in_order (names_at a.text.now a.names.now) a.s.now (omega arith)))
+    let a = c.args in
+    let labels = names_at a.text.now a.names.now in
+    let grammar : c.unless-grammar.result ≡ unless (is_some (parse a.s.now)) NotInGrammar =
+    c.unless-grammar.ensures ∙ ap (λ x. unless x NotInGrammar) c.in_grammar.ensures in
+    let depth : c.unless-depth.result ≡ unless (leb (nesting 0 a.s.now) most_nesting) TooDeep =
+    c.unless-depth.ensures ∙ ap (λ x. unless (leb x most_nesting) TooDeep) c.nesting-deep.ensures in
+    let told : c.first.result ≡ first (unless (known labels (runs false a.s.now)) UnknownLabel)
+    (unless (leb (length (runs false a.s.now)) most_occurrences) TooManyOccurrences) =
+    c.first.ensures ∙ ap₂ first c.unless-labels.ensures c.unless-number.ensures ∙ labels-told _ _ _ c.occurrences-told.ensures in
+    rw (c.first-3.ensures, c.first-2.ensures, grammar, depth, told) (in_order labels a.s.now (omega arith))

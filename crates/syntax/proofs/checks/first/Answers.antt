@@ -1,6 +1,5 @@
 -- `first` meets its contract: the arms are the two cases.
 use mathlib.Core.Path.{sym, ap}
-use borrow.Author.Rules.{rules}
 use Rattle.syntax.specs.Verdict.{first}
 use Rattle.syntax.proofs.checks.first.Goals as goal
 

@@ -1,15 +1,8 @@
 -- `suffixes` meets its contract. The loop's invariant: the marks that are left give what all the marks give.
-use native.Mathlib.Omega.{arith}
-use Prim.Native.Nat.{◌≤◌, ◌-◌, ◌+◌}
-use mathlib.Core.Bool.{true}
-use mathlib.Core.Path.{◌≡◌, refl, sym, ap, ◌∙◌}
-use mathlib.Core.Logic.{⊎_elim}
+use Prim.Native.Nat.{◌≤◌, ◌-◌}
+use mathlib.Core.Path.{◌≡◌}
 use lib.ListN.{length, drop}
-use Rattle.theory.specs.Automaton.{link}
-use Rattle.theory.proofs.AutomatonLaws.{length-link}
 use Rattle.syntax.specs.Build.{marked}
-use Rattle.syntax.specs.MarkedLaws.{marked-star, marked-question, marked_other, marked-end}
-use borrow.Author.Rules.{rules}
 use Rattle.syntax.proofs.leaf.suffixes.Given as goal
 
 abbrev pub invariant-loop-at : goal.invariant-loop-at

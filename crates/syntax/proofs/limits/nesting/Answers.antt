@@ -1,6 +1,5 @@
-use Prim.Native.Nat.{ℕ, suc, max, ◌+◌, ◌-◌, ◌<◌, ◌≤◌}
+use Prim.Native.Nat.{ℕ, suc, max, ◌+◌, ◌<◌, ◌≤◌}
 use mathlib.Core.Bool.{Bool, true, false}
-use mathlib.Core.Logic.{⊎_elim}
 use mathlib.Core.Path.{◌≡◌, refl}
 use native.Mathlib.Numerals.{add-one}
 use native.Mathlib.Omega.{arith}
@@ -12,6 +11,7 @@ use Rattle.syntax.specs.Byte.{Bytes, opening, closing}
 use Rattle.syntax.specs.Limits.{nesting, balance}
 use Rattle.syntax.specs.NestingLaws.{opens, closes, keeps, deeper}
 use Rattle.syntax.proofs.limits.nesting.Goals as goal
+use Rattle.syntax.proofs.limits.nesting.Goals.{in-40, in-41+then-open-gt0, in-41+else-open-gt0, in_default, then-most-here, else-most-here}
 
 module _ (n b : ℕ) where
   one_more : balance n b ≤ suc n
@@ -32,16 +32,22 @@ loop-i-init c = omega (arith, deeper 0 c.args.s.now)
 
 pub loop-i-preserved : goal.loop-i-preserved
 loop-i-preserved c =
-    let m = c in
-    let l = m.loop-i in
-    let s : Bytes = m.args.s.now in
-    let e = (let it : m.in_default.«open» ≡ balance m.loop-i.«open» (get_or m.args.s.now m.loop-i.i 0) = let n : ℕ = m.loop-i.«open» in let b : ℕ = get_or m.args.s.now m.loop-i.i 0 in ⊎_elim (λ w. omega (arith, opens n b w.0.keys1)) (⊎_elim (λ w. omega (arith, closes n b w.0.keys2)) (⊎_elim (λ w. omega (arith, closes n b w.0.keys2)) (λ w. omega (arith, keeps n b w.0.rest.0.1 w.0.rest.1)))) m.in_default.branch in it) in
-    let d = deeper m.in_default.«open» (drop (l.i + 1) s) in
-    let f : nesting l.«open» (drop l.i s) ≡ max l.«open» (nesting m.in_default.«open» (drop (l.i + 1) s)) =
-    rw e (next s l.i l.«open» m.loop-i-test.true) in
-    let most : c.if-most-here.most ≡ max l.most m.in_default.«open» =
-    ⊎_elim (λ w. omega (arith, c.depth-here.ensures)) (λ w. omega (arith, c.depth-here.ensures)) c.if-most-here.branch in
-    (omega arith, omega arith, omega (arith, one_more l.«open» (get_or s l.i 0)))
+    let l = c.loop-i in
+    let n : ℕ = l.«open» in
+    let s : Bytes = c.args.s.now in
+    let b : ℕ = get_or s l.i 0 in
+    let e : c.match-s-i.«open» ≡ balance n b =
+    elim c.match-s-i.branch [
+      | in-40 w ↦ omega (arith, opens n b w.in-40.is, w.open-is)
+      | in-41+then-open-gt0 w ↦ omega (arith, closes n b w.in-41.is, w.open-is)
+      | in-41+else-open-gt0 w ↦ omega (arith, closes n b w.in-41.is, w.open-is)
+      | in_default w ↦ omega (arith, keeps n b (search rules) (search rules), w.open-is)
+    ] in
+    let d = deeper c.match-s-i.«open» (drop (l.i + 1) s) in
+    let f : nesting n (drop l.i s) ≡ max n (nesting c.match-s-i.«open» (drop (l.i + 1) s)) = rw e (next s l.i n c.loop-i-test.true) in
+    let most : c.if-most-here.most ≡ max l.most c.match-s-i.«open» =
+    elim c.if-most-here.branch [ then-most-here w ↦ omega (arith, c.depth-here.ensures) | else-most-here w ↦ omega (arith, c.depth-here.ensures) ] in
+    (omega arith, omega arith, omega (arith, one_more n b))
 
 pub returns : goal.returns
 unfolding nesting

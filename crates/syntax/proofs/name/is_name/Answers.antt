@@ -1,4 +1,4 @@
-use Prim.Native.Nat.{ℕ, ◌+◌, ◌-◌, ◌<◌, ◌≤◌}
+use Prim.Native.Nat.{ℕ, ◌+◌, ◌<◌, ◌≤◌}
 use mathlib.Core.Bool.{Bool, true, false, ◌&&◌, and-true, and-false}
 use mathlib.Core.Path.{◌≡◌, sym, ◌∙◌}
 use native.Mathlib.Numerals.{add-one}
@@ -6,8 +6,7 @@ use native.Mathlib.Omega.{arith}
 use lib.Dec.{eqb}
 use lib.ListN.{length, drop, get_or, drop_of_length-le}
 use lib.Seq.{drop-cons}
-use borrow.Author.Rules.{rules}
-use borrow.Author.Tests.{le-leb, lt-leb, not-true, not-false}
+use borrow.Author.Tests.{le-leb, lt-leb}
 use Rattle.syntax.specs.Byte.{Bytes, kind, letter, name_byte}
 use Rattle.syntax.specs.Name.{name_bytes, is_name}
 use Rattle.syntax.specs.NameLaws.{no_bytes, name-parts}
@@ -38,20 +37,20 @@ pub returns-then-s-gt-LONGEST : goal.returns-then-s-gt-LONGEST
 returns-then-s-gt-LONGEST c = too_long _ c.if-s-gt-LONGEST.true
 
 pub returns-then-not-is_letter : goal.returns-then-not-is_letter
-returns-then-not-is_letter c = no-letter _ (omega arith) (sym c.is_letter.ensures ∙ not-true _ c.if-not-is_letter.true-raw)
+returns-then-not-is_letter c = no-letter _ (omega arith) (sym c.is_letter.ensures ∙ c.if-not-is_letter.true)
 
 pub loop-i-init : goal.loop-i-init
-loop-i-init c = begins _ (omega arith) (omega arith) (sym c.is_letter.ensures ∙ not-false _ c.if-not-is_letter.false-raw)
+loop-i-init c = begins _ (omega arith) (omega arith) (sym c.is_letter.ensures ∙ c.if-not-is_letter.false)
 
 pub returns-then-not-in_name : goal.returns-then-not-in_name
 returns-then-not-in_name c =
     let l = c.loop-i in
-    next _ l.i false (omega arith) (sym c.in_name.ensures ∙ not-true _ c.if-not-in_name.true-raw) ∙ l.invariant
+    next _ l.i false (omega arith) (sym c.in_name.ensures ∙ c.if-not-in_name.true) ∙ l.invariant
 
 pub loop-i-preserved : goal.loop-i-preserved
 loop-i-preserved c =
     let l = c.loop-i in
-    next _ l.i true (omega arith) (sym c.in_name.ensures ∙ not-false _ c.if-not-in_name.false-raw) ∙ l.invariant
+    next _ l.i true (omega arith) (sym c.in_name.ensures ∙ c.if-not-in_name.false) ∙ l.invariant
 
 pub returns : goal.returns
 returns c = ended _ c.loop-i.i c.loop-i-test.false ∙ c.loop-i.invariant

@@ -1,16 +1,8 @@
 -- `same_name` meets its contract. The loop's invariant: what is left of the two names is the same where the names are.
-use Prim.Native.Nat.{ℕ, ◌+◌, ◌-◌, ◌<◌, ◌≤◌}
-use mathlib.Core.Bool.{true, false}
-use mathlib.Core.Path.{◌≡◌, refl, sym, ◌∙◌}
-use native.Mathlib.Numerals.{add-one}
-use native.Mathlib.Omega.{arith}
-use lib.ListN.{length, drop, get_or, drop_of_length-le}
-use lib.Seq.{drop-cons}
-use borrow.Author.Rules.{rules}
-use borrow.Author.Tests.{eq-eqb, ne_eqb}
-use Rattle.syntax.specs.Byte.{Bytes}
+use Prim.Native.Nat.{◌-◌}
+use mathlib.Core.Path.{◌≡◌}
+use lib.ListN.{length, drop}
 use Rattle.syntax.specs.Name.{same_name}
-use Rattle.syntax.specs.NameLaws.{lengths_differ}
 use Rattle.syntax.proofs.name.same_name.Given as goal
 
 abbrev pub invariant-loop-i : goal.invariant-loop-i

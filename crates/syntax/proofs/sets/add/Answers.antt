@@ -1,7 +1,6 @@
 -- `add` meets its contract: a store beyond the end changes nothing.
 use mathlib.Core.Path.{sym}
 use lib.Seq.{set_out}
-use borrow.Author.Rules.{rules}
 use Rattle.syntax.proofs.sets.add.Goals as goal
 
 pub returns-else-i-table : goal.returns-else-i-table

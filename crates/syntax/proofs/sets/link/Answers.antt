@@ -1,12 +1,10 @@
-use Prim.Native.Nat.{◌-◌, ◌<◌, ◌^◌}
-use mathlib.Core.Path.{◌≡◌, refl, sym, ap, ◌∙◌}
+use Prim.Native.Nat.{◌-◌}
+use mathlib.Core.Path.{refl, sym, ap, ◌∙◌}
 use native.Mathlib.Omega.{arith}
 use lib.Bits.{bit_and, and_le_r}
 use lib.Count.{trailing_le}
-use lib.ListN.{length}
 use Rattle.theory.specs.Automaton.{link}
 use Rattle.syntax.specs.Link.{link-turn, link-over}
-use borrow.Author.Rules.{rules}
 use Rattle.syntax.proofs.sets.link.Goals as goal
 
 pub loop-rest-init : goal.loop-rest-init

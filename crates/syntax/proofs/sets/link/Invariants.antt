@@ -1,13 +1,8 @@
 -- The loop's invariant: the ends that are left, linked in the table as it is, give what all of them give. The measure is the ends left.
-use Prim.Native.Nat.{◌-◌, ◌<◌, ◌^◌}
-use mathlib.Core.Path.{◌≡◌, refl, sym, ap, ◌∙◌}
-use native.Mathlib.Omega.{arith}
-use lib.Bits.{bit_and, and_le_r}
-use lib.Count.{trailing_le}
+use Prim.Native.Nat.{◌<◌, ◌^◌}
+use mathlib.Core.Path.{◌≡◌}
 use lib.ListN.{length}
 use Rattle.theory.specs.Automaton.{link}
-use Rattle.syntax.specs.Link.{link-turn, link-over}
-use borrow.Author.Rules.{rules}
 use Rattle.syntax.proofs.sets.link.Given as goal
 
 abbrev pub invariant-loop-rest : goal.invariant-loop-rest

@@ -1,11 +1,12 @@
-use Prim.Native.Nat.{◌-◌, ◌≤◌}
+use Prim.Native.Nat.{ℕ}
+use mathlib.Core.Bool.{Bool, true, false}
+use mathlib.Core.List.{List}
 use mathlib.Core.Path.{◌≡◌, sym, ap, ◌∙◌}
 use native.Mathlib.Omega.{arith}
 use Rattle.syntax.specs.Byte.{Bytes}
 use Rattle.syntax.specs.Name.{same_name}
 use Rattle.syntax.specs.NameLaws.{one_byte}
 use Rattle.syntax.specs.TableLaws.{name_at, find_from, find_from-here, find_from-past, find_from-end}
-use borrow.Author.Rules.{rules}
 use Rattle.syntax.proofs.table.find.Goals as goal
 
 pub returns-then-name-eq1 : goal.returns-then-name-eq1
@@ -14,19 +15,24 @@ returns-then-name-eq1 c =
     c.find_letter.ensures
     ∙ ap (λ (n : Bytes). find_from a.text.now a.names.now n 0) (one_byte a.name.now c.if-name-eq1.true)
 
+-- The name at i has been told to be the one that is looked for, or not.
+same_at : (text : Bytes) (names : List ℕ) (i : ℕ) (name m : Bytes) (r t : Bool) → m ≡ name_at text names i → r ≡ same_name m name → r ≡ t
+    → same_name (name_at text names i) name ≡ t
+same_at text names i name m r t here told e = sym (ap (λ (n : Bytes). same_name n name) here) ∙ sym told ∙ e
+
 pub returns-then-same_name : goal.returns-then-same_name
 returns-then-same_name c =
     let a = c.args in
     let l = c.loop-i in
-    sym (find_from-here a.text.now a.names.now a.name.now l.i (omega arith) (sym ((let it : let a = c.args in let i = c.loop-i.i in c.same_name.result ≡ same_name (name_at a.text.now a.names.now i) a.name.now = let a = c.args in c.same_name.ensures ∙ ap (λ (m : Bytes). same_name m a.name.now) c.part.ensures in it)) ∙ c.if-same_name.true))
-    ∙ l.invariant.1
+    let same = same_at a.text.now a.names.now l.i a.name.now _ _ true c.part.ensures c.same_name.ensures c.if-same_name.true in
+    sym (find_from-here a.text.now a.names.now a.name.now l.i (omega arith) same) ∙ l.invariant.1
 
 pub loop-i-preserved : goal.loop-i-preserved
 loop-i-preserved c =
     let a = c.args in
     let l = c.loop-i in
-    let past = find_from-past a.text.now a.names.now a.name.now l.i (omega arith) (sym ((let it : let a = c.args in let i = c.loop-i.i in c.same_name.result ≡ same_name (name_at a.text.now a.names.now i) a.name.now = let a = c.args in c.same_name.ensures ∙ ap (λ (m : Bytes). same_name m a.name.now) c.part.ensures in it)) ∙ c.if-same_name.false) in
-    (omega arith, sym past ∙ l.invariant.1)
+    let other = same_at a.text.now a.names.now l.i a.name.now _ _ false c.part.ensures c.same_name.ensures c.if-same_name.false in
+    (omega arith, sym (find_from-past a.text.now a.names.now a.name.now l.i (omega arith) other) ∙ l.invariant.1)
 
 pub returns : goal.returns
 returns c =

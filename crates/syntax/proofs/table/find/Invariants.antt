@@ -1,13 +1,8 @@
 -- `find` meets its contract: a name of one byte is looked for as a letter. The loop's invariant: a search over the names that are left gives
 -- what a search over all of them gives.
 use Prim.Native.Nat.{◌-◌, ◌≤◌}
-use mathlib.Core.Path.{◌≡◌, sym, ap, ◌∙◌}
-use native.Mathlib.Omega.{arith}
-use Rattle.syntax.specs.Byte.{Bytes}
-use Rattle.syntax.specs.Name.{same_name}
-use Rattle.syntax.specs.NameLaws.{one_byte}
-use Rattle.syntax.specs.TableLaws.{name_at, find_from, find_from-here, find_from-past, find_from-end}
-use borrow.Author.Rules.{rules}
+use mathlib.Core.Path.{◌≡◌}
+use Rattle.syntax.specs.TableLaws.{find_from}
 use Rattle.syntax.proofs.table.find.Given as goal
 
 abbrev pub invariant-loop-i : goal.invariant-loop-i

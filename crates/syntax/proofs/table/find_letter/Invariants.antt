@@ -1,12 +1,8 @@
 -- `find_letter` meets its contract. The loop's invariant: what is found is what a search over the names that were looked at gives.
-use Prim.Native.Nat.{◌+◌, ◌-◌, ◌≤◌}
+use Prim.Native.Nat.{◌≤◌}
 use mathlib.Core.List.{[], ◌∷◌}
-use mathlib.Core.Path.{◌≡◌, sym, ap, ◌∙◌}
-use native.Mathlib.Omega.{arith}
-use borrow.Author.Rules.{rules}
-use Rattle.syntax.specs.Byte.{Bytes}
-use Rattle.syntax.specs.Name.{same_name}
-use Rattle.syntax.specs.TableLaws.{name_at, find_from, find_from-here, find_from-past, find_from-end}
+use mathlib.Core.Path.{◌≡◌}
+use Rattle.syntax.specs.TableLaws.{find_from}
 use Rattle.syntax.proofs.table.find_letter.Given as goal
 
 abbrev pub invariant-loop-i : goal.invariant-loop-i

@@ -4,7 +4,6 @@ use mathlib.Core.List.{[], ◌∷◌}
 use mathlib.Core.Path.{sym, ap, ◌∙◌}
 use lib.Dec.{eqb}
 use lib.ListN.{get_or}
-use borrow.Author.Rules.{rules}
 use Rattle.syntax.specs.Byte.{Bytes}
 use Rattle.syntax.specs.Name.{same_name}
 use Rattle.syntax.specs.NameLaws.{lengths_differ, one_byte}

@@ -1,35 +1,29 @@
-use Prim.Native.Nat.{◌-◌, ◌<◌}
-use mathlib.Core.Path.{◌≡◌, refl, ap, sym, ◌∙◌}
+use mathlib.Core.Path.{refl, ap, sym, ◌∙◌}
 use native.Mathlib.Omega.{arith}
-use lib.ListN.{length, drop, get_or}
-use borrow.Author.Rules.{rules}
 use Rattle.syntax.specs.Byte.{name_byte}
 use Rattle.syntax.specs.Place.{cursor_at}
 use Rattle.syntax.specs.KindTable.{in-name, not-in-name}
-use Rattle.syntax.proofs.Front.{past_while, past-run, passed, stopped, ended}
+use Rattle.syntax.proofs.Front.{past-run, passed, stopped, ended}
 use Rattle.syntax.proofs.cursor.Cursor.past_run.Goals as goal
 
 pub loop-i-init : goal.loop-i-init
 loop-i-init c = refl
 
-pub overflow_cast-s : goal.overflow_cast-s
-overflow_cast-s c = let b = (let it : get_or c.args.s.now c.loop-i.i 0 < 256 = omega (arith, c.shared_slice_known-1.given c.loop-i.i) in it) in omega arith
-
 pub bounds-kinds-s : goal.bounds-kinds-s
-bounds-kinds-s c = let b = (let it : get_or c.args.s.now c.loop-i.i 0 < 256 = omega (arith, c.shared_slice_known-1.given c.loop-i.i) in it) in omega arith
+bounds-kinds-s c = omega (arith, c.type_inv.s c.loop-i.i)
 
 pub returns-then-kinds-s-gt-HYPHEN : goal.returns-then-kinds-s-gt-HYPHEN
 returns-then-kinds-s-gt-HYPHEN c =
     let s = c.args.s.now in
     let l = c.loop-i in
-    let k = not-in-name _ c.requires _ ((let it : get_or c.args.s.now c.loop-i.i 0 < 256 = omega (arith, c.shared_slice_known-1.given c.loop-i.i) in it)) c.if-kinds-s-gt-HYPHEN.true in
+    let k = not-in-name _ c.requires _ (omega (arith, c.type_inv.s c.loop-i.i)) c.if-kinds-s-gt-HYPHEN.true in
     stopped name_byte s l.i c.loop-i-test.true k ∙ ap (cursor_at s) (l.invariant ∙ sym (past-run _))
 
 pub loop-i-preserved : goal.loop-i-preserved
 loop-i-preserved c =
     let s = c.args.s.now in
     let l = c.loop-i in
-    let k = in-name _ c.requires _ ((let it : get_or c.args.s.now c.loop-i.i 0 < 256 = omega (arith, c.shared_slice_known-1.given c.loop-i.i) in it)) c.if-kinds-s-gt-HYPHEN.false in
+    let k = in-name _ c.requires _ (omega (arith, c.type_inv.s c.loop-i.i)) c.if-kinds-s-gt-HYPHEN.false in
     passed name_byte s l.i c.loop-i-test.true k ∙ l.invariant
 
 pub returns : goal.returns

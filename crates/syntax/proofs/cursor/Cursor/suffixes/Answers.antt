@@ -1,16 +1,16 @@
-use Prim.Native.Nat.{ℕ, ◌-◌}
+use Prim.Native.Nat.{ℕ}
 use mathlib.Core.Bool.{true, false, ◌||◌, or-true}
 use mathlib.Core.Logic.{◌⊎◌, inl, inr}
 use mathlib.Core.Path.{◌≡◌, refl, ap, ap₂, ◌∙◌}
 use lib.Dec.{eqb}
-use lib.ListN.{length, drop}
+use lib.ListN.{get_or}
 use borrow.Author.Rules.{rules}
 use borrow.Author.Tests.{eq-eqb, ne_eqb}
 use Rattle.syntax.specs.declared.cursor.Moved.{Moved}
 use Rattle.syntax.specs.declared.cursor.Moved.TheVariants.{To}
 use Rattle.syntax.specs.Byte.{asterisk, question}
 use Rattle.syntax.specs.Place.{cursor_at}
-use Rattle.syntax.proofs.Front.{past_while, suffix, past-suffixes, passed, stopped, ended}
+use Rattle.syntax.proofs.Front.{suffix, past-suffixes, passed, stopped, ended}
 use Rattle.syntax.proofs.cursor.Cursor.suffixes.Goals as goal
 
 -- The arms of the match are the test.
@@ -34,9 +34,8 @@ pub returns-in_default : goal.returns-in_default
 returns-in_default c t =
     let s = c.args.s.now in
     let l = c.loop-i in
-    ap {B = Moved} To (stopped suffix s l.i c.loop-i-test.true (unmarked _ c.in_default.rest.1)
-    ∙ ap (cursor_at s) l.invariant)
-    ∙ past-suffixes s t _
+    let other : ((get_or s l.i 0 ≡ asterisk) ⊎ (get_or s l.i 0 ≡ question)) → ⊥ = search rules in
+    ap {B = Moved} To (stopped suffix s l.i c.loop-i-test.true (unmarked _ other) ∙ ap (cursor_at s) l.invariant) ∙ past-suffixes s t _
 
 pub returns : goal.returns
 returns c t =

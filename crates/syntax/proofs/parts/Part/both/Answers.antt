@@ -1,5 +1,4 @@
 -- `Part::both` meets its contract: a part that has the empty path lets the other part's places through.
-use borrow.Author.Rules.{rules}
 use mathlib.Core.Path.{refl}
 use Rattle.syntax.specs.Part.{same-part}
 use Rattle.syntax.proofs.parts.Part.both.Goals as goal

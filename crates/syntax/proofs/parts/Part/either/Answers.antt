@@ -1,5 +1,4 @@
 -- `Part::either` meets its contract: its sets are the unions, and the test of the left part decides the empty path.
-use borrow.Author.Rules.{rules}
 use mathlib.Core.Path.{refl}
 use Rattle.syntax.specs.Part.{same-part}
 use Rattle.syntax.proofs.parts.Part.either.Goals as goal

@@ -1,7 +1,6 @@
 -- `Refusal::number` meets its contract: each arm knows its variant.
 use mathlib.Core.Path.{sym, ap}
 use Rattle.syntax.specs.Number.{number}
-use borrow.Author.Rules.{rules}
 use Rattle.syntax.proofs.refusal.Refusal.number.Goals as goal
 
 pub returns-in-TextTooLong : goal.returns-in-TextTooLong
