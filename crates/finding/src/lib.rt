@@ -3,12 +3,12 @@
 
 pub mod answer;
 pub mod clear;
-pub mod job_rows;
 pub mod count;
 pub mod first;
 mod flags;
 mod image;
 mod index;
+pub mod job_rows;
 mod level;
 mod list_images;
 mod merge;

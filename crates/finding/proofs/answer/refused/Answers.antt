@@ -3,7 +3,6 @@ use mathlib.Core.Path.{ap}
 use Rattle.finding.specs.declared.answer.FindAnswer.{FindAnswer}
 use Rattle.finding.specs.declared.answer.Finding.TheVariants.{Refused}
 use Rattle.finding.specs.declared.first.FirstWord.{FirstWord}
-use borrow.Author.Rules.{rules}
 use Rattle.finding.proofs.answer.refused.Goals as goal
 
 pub returns : goal.returns

@@ -1,9 +1,8 @@
-use Rattle.std.specs.Prelude.{◌≡◌, ◌-◌, ◌≤◌, ◌++◌, length, drop, set, replicate}
+use Rattle.std.specs.Prelude.{◌≡◌, ◌++◌, drop, set, replicate}
 use native.Mathlib.Omega.{arith}
 use mathlib.Core.Path.{refl, ap, ◌∙◌}
 use borrow.Author.Fill.{fill_more}
 use lib.ListN.{length-set}
-use borrow.Author.Rules.{rules}
 use Rattle.finding.proofs.clear.clear_bytes.Goals as goal
 
 pub returns-then-n-bytes : goal.returns-then-n-bytes

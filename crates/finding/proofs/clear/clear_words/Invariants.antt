@@ -1,10 +1,5 @@
 -- The loop's invariant: the first i words are zeros, the rest is as it was.
-use Rattle.std.specs.Prelude.{◌≡◌, ◌-◌, ◌≤◌, ◌++◌, length, drop, set, replicate}
-use native.Mathlib.Omega.{arith}
-use mathlib.Core.Path.{refl, ap, ◌∙◌}
-use borrow.Author.Fill.{fill_more}
-use lib.ListN.{length-set}
-use borrow.Author.Rules.{rules}
+use Rattle.std.specs.Prelude.{◌≡◌, ◌-◌, ◌≤◌, ◌++◌, length, drop, replicate}
 use Rattle.finding.proofs.clear.clear_words.Given as goal
 
 abbrev pub invariant-loop-i : goal.invariant-loop-i

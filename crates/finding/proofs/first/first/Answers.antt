@@ -1,7 +1,6 @@
 -- The first state with flag 1 has the first accepted word, and its trail is spelled into zeros.
 use mathlib.Core.Path.{sym}
 use lib.Seq.{length-take-le}
-use borrow.Author.Rules.{rules}
 use Rattle.finding.specs.FirstWords.{first-many, first_short, first-none, first-word}
 use Rattle.finding.proofs.first.first.Goals as goal
 
@@ -27,13 +26,10 @@ returns-then-state-n c =
 
 pub returns : goal.returns
 returns c =
-    let spelled = c in
-    let walked = spelled in
-    let tested = walked in
-    let a = tested.args in
-    let f = tested.flag_place-state in
-    let t = walked.trail_length-length in
-    let s = spelled.spell in
+    let a = c.args in
+    let f = c.flag_place-state in
+    let t = c.trail_length-length in
+    let s = c.spell in
     first-word a.flags.now a.count a.parents.now a.symbols.now f.result t.result
-    s.new.word f.ensures tested.if-state-n.false
+    s.new.word f.ensures c.if-state-n.false
     t.ensures s.ensures

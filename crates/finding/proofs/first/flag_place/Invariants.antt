@@ -1,10 +1,6 @@
 -- The loop's invariant: the search from i on gives what the whole search gives.
 use Rattle.std.specs.Prelude.{◌≡◌, ◌-◌, ◌≤◌, length, drop}
-use mathlib.Core.Path.{sym, ◌∙◌}
 use Rattle.finding.specs.Standings.{place_from, place_of}
-use Rattle.finding.specs.PlaceOfLaws.{place-whole, place_here, place-on, place_end}
-use native.Mathlib.Omega.{arith}
-use borrow.Author.Rules.{rules}
 use Rattle.finding.proofs.first.flag_place.Given as goal
 
 abbrev pub invariant-loop-i : goal.invariant-loop-i

@@ -1,8 +1,7 @@
-use Rattle.std.specs.Prelude.{◌<◌, get_or}
+use Rattle.std.specs.Prelude.{get_or}
 use mathlib.Core.Path.{refl}
 use native.Mathlib.Omega.{arith}
-use Rattle.finding.specs.FirstWords.{Spelling, spelling-start, spelling-more, spelling-end}
-use borrow.Author.Rules.{rules}
+use Rattle.finding.specs.FirstWords.{spelling-start, spelling-more, spelling-end}
 use Rattle.finding.proofs.first.spell.Goals as goal
 
 pub loop-end-init : goal.loop-end-init
@@ -15,13 +14,11 @@ bounds-word-end c = omega (arith, c.loop-end.invariant.1.below, c.loop-end.invar
 
 pub loop-end-preserved : goal.loop-end-preserved
 loop-end-preserved c =
-    let head = c in
-    let start = head in
-    let a = start.args in
-    let l = head.loop-end in (
+    let a = c.args in
+    let l = c.loop-end in (
       c.wide-at.ensures.1,
       spelling-more a.parents.now a.symbols.now a.state a.size a.word.now l.at l.end
-          (get_or a.symbols.now l.at 0) c.wide-at.result l.word l.invariant.1 start.requires.1
+          (get_or a.symbols.now l.at 0) c.wide-at.result l.word l.invariant.1 c.requires.1
           c.loop-end-test.true refl c.wide-at.ensures.0,
     )
 
@@ -30,8 +27,7 @@ shape_of-word c = c.loop-end.invariant.1.sized
 
 pub returns : goal.returns
 returns c =
-    let start = c in
-    let a = start.args in
+    let a = c.args in
     let l = c.loop-end in
-    spelling-end a.parents.now a.symbols.now a.state a.size a.word.now l.at l.end l.word l.invariant.1 start.requires.1
+    spelling-end a.parents.now a.symbols.now a.state a.size a.word.now l.at l.end l.word l.invariant.1 c.requires.1
     c.loop-end-test.false

@@ -1,9 +1,6 @@
 -- The loop's invariant: the word of the trail from here, with what is stored behind it, is the word of the state's trail.
-use Rattle.std.specs.Prelude.{◌<◌, get_or}
-use mathlib.Core.Path.{refl}
-use native.Mathlib.Omega.{arith}
-use Rattle.finding.specs.FirstWords.{Spelling, spelling-start, spelling-more, spelling-end}
-use borrow.Author.Rules.{rules}
+use Rattle.std.specs.Prelude.{◌<◌}
+use Rattle.finding.specs.FirstWords.{Spelling}
 use Rattle.finding.proofs.first.spell.Given as goal
 
 abbrev pub invariant-loop-end : goal.invariant-loop-end

@@ -1,6 +1,5 @@
 use native.Mathlib.Omega.{arith}
-use Rattle.finding.specs.FirstWords.{Walking, walking_start, walking-more, walking-stuck, walking-end}
-use borrow.Author.Rules.{rules}
+use Rattle.finding.specs.FirstWords.{walking_start, walking-more, walking-stuck, walking-end}
 use Rattle.finding.proofs.first.trail_length.Goals as goal
 
 pub loop-at-init : goal.loop-at-init
@@ -11,9 +10,8 @@ bounds-parents-at c = omega (arith, c.loop-at.invariant.within, c.requires)
 
 pub returns-then-parent-at : goal.returns-then-parent-at
 returns-then-parent-at c =
-    let head = c in
-    let a = head.args in
-    let l = head.loop-at in
+    let a = c.args in
+    let l = c.loop-at in
     let parent = c.wide-parent in
     walking-stuck a.parents.now a.state l.at l.steps parent.result l.invariant c.loop-at-test.true
     parent.ensures.0 c.if-parent-at.true
@@ -23,9 +21,8 @@ overflow_add-steps c = omega (arith, c.loop-at.invariant.within)
 
 pub loop-at-preserved : goal.loop-at-preserved
 loop-at-preserved c =
-    let head = c in
-    let a = head.args in
-    let l = head.loop-at in
+    let a = c.args in
+    let l = c.loop-at in
     let parent = c.wide-parent in
     walking-more a.parents.now a.state l.at l.steps parent.result l.invariant c.loop-at-test.true
     parent.ensures.0 c.if-parent-at.false

@@ -1,7 +1,5 @@
 -- The loop's invariant: the steps gone and the trail from here make up the state's trail.
-use native.Mathlib.Omega.{arith}
-use Rattle.finding.specs.FirstWords.{Walking, walking_start, walking-more, walking-stuck, walking-end}
-use borrow.Author.Rules.{rules}
+use Rattle.finding.specs.FirstWords.{Walking}
 use Rattle.finding.proofs.first.trail_length.Given as goal
 
 abbrev pub invariant-loop-at : goal.invariant-loop-at

@@ -1,8 +1,7 @@
-use Rattle.std.specs.Prelude.{◌≡◌, ℕ, ◌+◌, ◌-◌, ◌*◌, ◌%◌, ◌^◌, ◌<◌, ◌≤◌, Bool, not, eqb, ◌≢◌, List, [], length, get_or, take}
+use Rattle.std.specs.Prelude.{◌≡◌, ℕ, ◌+◌, ◌*◌, ◌%◌, ◌^◌, ◌<◌, ◌≤◌, not, eqb, ◌≢◌, List, [], length, get_or, take}
 use native.Mathlib.Nat.{one-mul}
 use lib.Pow.{shl_exact}
 use native.Mathlib.Omega.{arith}
-use mathlib.Core.Logic.{⊎_elim}
 use mathlib.Core.Path.{ap, ap₂, sym, ◌∙◌}
 use lib.Dec.{lit<}
 use lib.Seq.{get_or-take, length-take-le}
@@ -11,7 +10,6 @@ use Rattle.theory.specs.Places.{collect, union, intersection, none}
 use Rattle.finding.specs.States.{accepting_standings}
 use Rattle.finding.specs.Plain.{plain}
 use Rattle.finding.specs.CollectLaws.{collect-none, collect-yes, collect-no, collect-agree, accepts-yes, accepts-no}
-use borrow.Author.Rules.{rules}
 use Rattle.finding.proofs.flags.accepting_standings.Invariants.{meets}
 use Rattle.finding.proofs.flags.accepting_standings.Goals as goal
 use Rattle.finding.proofs.flags.accepting_standings.Goals.{else-number_at-accepting-ne0, then-number_at-accepting-ne0}
@@ -45,14 +43,16 @@ loop-i-init c = (omega arith, omega arith, collect-none _)
 
 pub loop-i-preserved : goal.loop-i-preserved
 loop-i-preserved c =
-    let head = c in
-    let a = head.args in
-    let l = head.loop-i in
+    let a = c.args in
+    let l = c.loop-i in
     let at = c.number_at in (
       omega arith,
       l.invariant.1,
-      (elim c.if-number_at-accepting-ne0.branch [ then-number_at-accepting-ne0 w ↦ w.numbers-is ∙ (ap (λ n. union n (1 * 2 ^ l.i % 2 ^ 64)) l.invariant.2
-          ∙ passes a.found.now a.accepting.0 l.i at.result at.ensures w.if-number_at-accepting-ne0.true (omega arith)) | else-number_at-accepting-ne0 w ↦ w.numbers-is ∙ (l.invariant.2 ∙ fails a.found.now a.accepting.0 l.i at.result at.ensures w.if-number_at-accepting-ne0.false) ]),
+      (elim c.if-number_at-accepting-ne0.branch [
+        | then-number_at-accepting-ne0 w ↦ w.numbers-is ∙ (ap (λ n. union n (1 * 2 ^ l.i % 2 ^ 64)) l.invariant.2
+            ∙ passes a.found.now a.accepting.0 l.i at.result at.ensures w.if-number_at-accepting-ne0.true (omega arith))
+        | else-number_at-accepting-ne0 w ↦ w.numbers-is ∙ (l.invariant.2 ∙ fails a.found.now a.accepting.0 l.i at.result at.ensures w.if-number_at-accepting-ne0.false)
+      ]),
     )
 
 pub returns : goal.returns

@@ -1,18 +1,8 @@
 -- The loop's invariant: the numbers collected are those of the first i standings that meet the accepting places.
-use Rattle.std.specs.Prelude.{◌≡◌, ℕ, ◌+◌, ◌-◌, ◌*◌, ◌%◌, ◌^◌, ◌<◌, ◌≤◌, Bool, not, eqb, ◌≢◌, List, [], length, get_or, take}
-use native.Mathlib.Nat.{one-mul}
-use lib.Pow.{shl_exact}
-use native.Mathlib.Omega.{arith}
-use mathlib.Core.Logic.{⊎_elim}
-use mathlib.Core.Path.{ap, ap₂, sym, ◌∙◌}
-use lib.Dec.{lit<}
-use lib.Seq.{get_or-take, length-take-le}
-use Rattle.theory.specs.Automaton.{Automaton, accepts}
-use Rattle.theory.specs.Places.{collect, union, intersection, none}
-use Rattle.finding.specs.States.{accepting_standings}
+use Rattle.std.specs.Prelude.{◌≡◌, ℕ, ◌-◌, ◌≤◌, Bool, List, [], get_or}
+use Rattle.theory.specs.Automaton.{accepts}
+use Rattle.theory.specs.Places.{collect}
 use Rattle.finding.specs.Plain.{plain}
-use Rattle.finding.specs.CollectLaws.{collect-none, collect-yes, collect-no, collect-agree, accepts-yes, accepts-no}
-use borrow.Author.Rules.{rules}
 use Rattle.finding.proofs.flags.accepting_standings.Given as goal
 
 -- The standing number k meets the accepting places.

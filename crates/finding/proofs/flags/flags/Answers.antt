@@ -1,11 +1,10 @@
-use Rattle.std.specs.Prelude.{◌≡◌, ◌-◌, ◌≤◌, ◌++◌, map, length, get_or, take, drop, set}
+use Rattle.std.specs.Prelude.{◌≡◌, ◌++◌, map, get_or, take, drop, set}
 use native.Mathlib.Omega.{arith}
 use mathlib.Core.Path.{ap, ap₂, ◌∙◌}
 use lib.ListN.{length-set}
 use Rattle.finding.specs.States.{state_accepts}
 use Rattle.finding.specs.Find.{flag}
 use Rattle.finding.specs.Filling.{map_more}
-use borrow.Author.Rules.{rules}
 use Rattle.finding.proofs.flags.flags.Goals as goal
 
 pub returns-then-n-states : goal.returns-then-n-states
@@ -16,9 +15,8 @@ returns-then-n-flags c = λ h k. absurd (omega arith)
 
 pub loop-i-preserved : goal.loop-i-preserved
 loop-i-preserved c =
-    let head = c in
-    let a = head.args in
-    let l = head.loop-i in
+    let a = c.args in
+    let l = c.loop-i in
     let e : c.flag.result ≡ flag (state_accepts a.accepting (get_or a.states.now l.i 0)) =
     c.flag.ensures ∙ ap flag c.state_accepts.ensures in (
       omega arith,

@@ -1,12 +1,7 @@
 -- The loop's invariant: the first i bytes are the flags of the first i states, the rest is as it was.
-use Rattle.std.specs.Prelude.{◌≡◌, ◌-◌, ◌≤◌, ◌++◌, map, length, get_or, take, drop, set}
-use native.Mathlib.Omega.{arith}
-use mathlib.Core.Path.{ap, ap₂, ◌∙◌}
-use lib.ListN.{length-set}
+use Rattle.std.specs.Prelude.{◌≡◌, ◌-◌, ◌≤◌, ◌++◌, map, length, take, drop}
 use Rattle.finding.specs.States.{state_accepts}
 use Rattle.finding.specs.Find.{flag}
-use Rattle.finding.specs.Filling.{map_more}
-use borrow.Author.Rules.{rules}
 use Rattle.finding.proofs.flags.flags.Given as goal
 
 abbrev pub invariant-loop-i : goal.invariant-loop-i

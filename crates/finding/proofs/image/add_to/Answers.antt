@@ -1,4 +1,4 @@
-use Rattle.std.specs.Prelude.{◌≡◌, ℕ, ◌-◌, ◌*◌, ◌%◌, ◌^◌, ◌<◌, length, get_or, set}
+use Rattle.std.specs.Prelude.{◌≡◌, ◌≢◌, ℕ, ◌-◌, ◌*◌, ◌%◌, ◌^◌, ◌<◌, List, length, get_or, set}
 use mathlib.Core.Path.{sym, ◌∙◌, subst}
 use lib.Bits.{bit_and, and_le_r}
 use lib.Count.{count_trailing_zeros, trailing_le}
@@ -9,8 +9,13 @@ use Rattle.places.specs.NextPlace.{trailing-here}
 use Rattle.places.specs.Followed.{Passed, rest-within}
 use Rattle.finding.specs.ImagesTurned.{Added, added_none, added-all, added_more}
 use native.Mathlib.Omega.{arith}
-use borrow.Author.Rules.{rules}
 use Rattle.finding.proofs.image.add_to.Goals as goal
+
+-- The standing passed next has an image.
+there : (all rest : ℕ) (before out : List ℕ) → rest ≢ 0 → rest < 2 ^ 64 → ((i : ℕ) → Member i rest → Member i all)
+    → ((i : ℕ) → Member i all → i < length before) → length out ≡ length before → count_trailing_zeros 64 rest < length out
+there all rest before out d small within room size =
+    subst (λ z. count_trailing_zeros 64 rest < z) (sym size) (room _ (within _ (trailing-here 64 rest d small)))
 
 pub loop-rest-init : goal.loop-rest-init
 loop-rest-init c = (omega arith, λ i m. m, added_none c.args.all c.args.to c.args.out.now)
@@ -22,13 +27,13 @@ pub offset_bounds-out-i : goal.offset_bounds-out-i
 offset_bounds-out-i c = omega (arith, trailing_le 64 c.loop-rest.rest)
 
 pub bounds-out-i : goal.bounds-out-i
-bounds-out-i c = (let it : count_trailing_zeros 64 c.loop-rest.rest < length c.loop-rest.out = let l = c.loop-rest in subst (λ z. count_trailing_zeros 64 l.rest < z) (sym l.invariant.2.size) (c.requires.1 (count_trailing_zeros 64 l.rest) (l.invariant.1 (count_trailing_zeros 64 l.rest) (trailing-here 64 l.rest c.loop-rest-test.true l.invariant.0))) in it)
+bounds-out-i c = let l = c.loop-rest in there _ l.rest _ _ c.loop-rest-test.true l.invariant.0 l.invariant.1 c.requires.1 l.invariant.2.size
 
 pub offset_bounds-out-i-in-loop-rest : goal.offset_bounds-out-i-in-loop-rest
 offset_bounds-out-i-in-loop-rest c = omega (arith, trailing_le 64 c.loop-rest.rest)
 
 pub bounds-out-i-in-loop-rest : goal.bounds-out-i-in-loop-rest
-bounds-out-i-in-loop-rest c = (let it : count_trailing_zeros 64 c.loop-rest.rest < length c.loop-rest.out = let l = c.loop-rest in subst (λ z. count_trailing_zeros 64 l.rest < z) (sym l.invariant.2.size) (c.requires.1 (count_trailing_zeros 64 l.rest) (l.invariant.1 (count_trailing_zeros 64 l.rest) (trailing-here 64 l.rest c.loop-rest-test.true l.invariant.0))) in it)
+bounds-out-i-in-loop-rest c = let l = c.loop-rest in there _ l.rest _ _ c.loop-rest-test.true l.invariant.0 l.invariant.1 c.requires.1 l.invariant.2.size
 
 pub loop-rest-smaller : goal.loop-rest-smaller
 loop-rest-smaller c = omega (arith, c.loop-rest-test.true, and_le_r c.loop-rest.rest (c.loop-rest.rest - 1))
@@ -45,7 +50,7 @@ loop-rest-preserved c =
           (λ z. Added (Passed x.all (bit_and l.rest (l.rest - 1))) x.to x.out.now
           (set l.out (count_trailing_zeros 64 l.rest) (union (get_or l.out (count_trailing_zeros 64 l.rest) 0) z)))
           (sym bit)
-          (added_more x.all l.rest x.to x.out.now l.out l.invariant.1 d l.invariant.0 ((let it : count_trailing_zeros 64 c.loop-rest.rest < length c.loop-rest.out = let l = c.loop-rest in subst (λ z. count_trailing_zeros 64 l.rest < z) (sym l.invariant.2.size) (c.requires.1 (count_trailing_zeros 64 l.rest) (l.invariant.1 (count_trailing_zeros 64 l.rest) (trailing-here 64 l.rest c.loop-rest-test.true l.invariant.0))) in it)) l.invariant.2),
+          (added_more x.all l.rest x.to x.out.now l.out l.invariant.1 d l.invariant.0 (there _ l.rest _ _ d l.invariant.0 l.invariant.1 c.requires.1 l.invariant.2.size) l.invariant.2),
     )
 
 pub shape_of-out : goal.shape_of-out

@@ -6,15 +6,13 @@ use Rattle.theory.specs.PlacesShift.{member-cut}
 use Rattle.places.specs.Joined.{joined}
 use Rattle.finding.specs.MoveTable.{row_within}
 use Rattle.finding.specs.ImagesTurned.{ended-joined}
-use borrow.Author.Rules.{rules}
 use Rattle.finding.proofs.image.ended.Goals as goal
 
 pub join-requires : goal.join-requires
 join-requires c = λ p m.
-    let s = c in
-    let a = s.args in
+    let a = c.args in
     let h = ((member-cut a.places p a.accepting).0 (subst (Member p) c.below.ensures m)).0 in
-    omega (arith, s.requires.0, s.requires.1, row_within a.count p a.places h)
+    omega (arith, c.requires.0, c.requires.1, row_within a.count p a.places h)
 
 pub returns : goal.returns
 returns c =

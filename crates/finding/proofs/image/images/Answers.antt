@@ -2,7 +2,6 @@
 use Rattle.finding.specs.ImageSearch.{tables}
 use Rattle.finding.specs.ImagesTold.{images-told}
 use native.Mathlib.Omega.{arith}
-use borrow.Author.Rules.{rules}
 use Rattle.finding.proofs.image.images.Goals as goal
 
 pub find_sources-requires : goal.find_sources-requires
@@ -23,4 +22,7 @@ returns c =
     let x = c.args in
     let D = tables x.moves.now x.count x.labels x.follow.now x.enter.now in
     let f = c.find_sources in
-    record { images_told = images-told D x.accepting.0 _ x.out.now _ f.ensures.searched c.turn.ensures; cleared = f.ensures.cleared }
+    record {
+      images_told = images-told D x.accepting.0 _ x.out.now _ f.ensures.searched c.turn.ensures;
+      cleared = f.ensures.cleared;
+    }

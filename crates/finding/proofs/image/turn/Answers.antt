@@ -1,15 +1,13 @@
-use Rattle.std.specs.Prelude.{◌≡◌, ◌+◌, ◌-◌, ◌≤◌, ◌++◌, length, drop, replicate}
+use Rattle.std.specs.Prelude.{◌≡◌, ◌++◌, drop, replicate}
 use mathlib.Core.Path.{refl, sym, ◌∙◌, subst}
 use Rattle.finding.specs.ImagesTurned.{Turned, ended-inside, turned_none, turned_more, turned-cleared}
 use native.Mathlib.Omega.{arith}
-use borrow.Author.Rules.{rules}
 use Rattle.finding.proofs.image.turn.Goals as goal
 
 pub loop-to-init : goal.loop-to-init
 loop-to-init c =
-    let start = c in
-    let x = start.args in
-    let e = c.clear_words.ensures.enough start.requires.2 in (
+    let x = c.args in
+    let e = c.clear_words.ensures.enough c.requires.2 in (
       omega arith,
       refl,
       subst (λ l. Turned x.count x.places x.accepting x.from.now 0 l l) (sym e)
@@ -18,10 +16,9 @@ loop-to-init c =
 
 pub add_to-requires : goal.add_to-requires
 add_to-requires c =
-    let start = c in
     let l = c.loop-to in
-    let x = start.args in
-    let p = start.requires in
+    let x = c.args in
+    let p = c.requires in
     let e = c.ended-all in (
       omega (arith, p.0),
       λ i m.
@@ -32,23 +29,21 @@ add_to-requires c =
 
 pub loop-to-preserved : goal.loop-to-preserved
 loop-to-preserved c =
-    let start = c in
     let l = c.loop-to in
-    let x = start.args in
+    let x = c.args in
     let a = c.add_to in
     let e = c.ended-all in (
       omega arith,
       a.ensures.size ∙ l.invariant.1,
-      turned_more x.count x.places x.accepting x.from.now _ l.to e.result l.out _ start.requires.3
+      turned_more x.count x.places x.accepting x.from.now _ l.to e.result l.out _ c.requires.3
           c.loop-to-test.true l.invariant.2 e.ensures a.ensures,
     )
 
 pub returns : goal.returns
 returns c =
-    let start = c in
     let l = c.loop-to in
-    let p = start.requires in
-    let x = start.args in
+    let p = c.requires in
+    let x = c.args in
     let e : l.to ≡ x.count = omega arith in
     let f = c.clear_words.ensures.enough p.2 in
     turned-cleared x.count x.places x.accepting x.from.now x.out.now x.count l.out p.2

@@ -1,9 +1,6 @@
 -- The loop's invariant: the standings passed are in the images of their sources.
-use Rattle.std.specs.Prelude.{◌≡◌, ◌+◌, ◌-◌, ◌≤◌, ◌++◌, length, drop, replicate}
-use mathlib.Core.Path.{refl, sym, ◌∙◌, subst}
-use Rattle.finding.specs.ImagesTurned.{Turned, ended-inside, turned_none, turned_more, turned-cleared}
-use native.Mathlib.Omega.{arith}
-use borrow.Author.Rules.{rules}
+use Rattle.std.specs.Prelude.{◌≡◌, ◌-◌, ◌≤◌, length}
+use Rattle.finding.specs.ImagesTurned.{Turned}
 use Rattle.finding.proofs.image.turn.Given as goal
 
 abbrev pub invariant-loop-to : goal.invariant-loop-to

@@ -1,85 +1,75 @@
 use Rattle.std.specs.Prelude.{◌≡◌, ◌-◌, get_or}
 use mathlib.Core.Path.{sym, ap, ◌∙◌}
-use Rattle.finding.specs.Buckets.{Walk}
 use Rattle.finding.specs.BucketsLaws.{walk_start, walk_turn, walk-less}
 use Rattle.finding.specs.NumberIndex.{bucket_of, number_after}
 use Rattle.finding.specs.NumberIndexLaws.{walk-found, walk_end, number-before}
 use native.Mathlib.Omega.{arith}
-use borrow.Author.Rules.{rules}
 use Rattle.finding.proofs.index.find_place.Goals as goal
 
 pub overflow_cast-next : goal.overflow_cast-next
 overflow_cast-next c =
-    let s = c in
-    omega (arith, (s.requires.3.chained.head s.args.at (omega (arith, s.requires.2))).within, s.requires.1)
+    omega (arith, (c.requires.3.chained.head c.args.at (omega (arith, c.requires.2))).within, c.requires.1)
 
 pub loop-next-init : goal.loop-next-init
 loop-next-init c =
-    let s = c in
-    let a = s.args in
-    walk_start bucket_of 509 255 (number_after a.found.now) (a.n - 1) a.heads.now a.nexts.now s.requires.3.chained a.x a.at
-    s.requires.2 (omega (arith, s.requires.2))
+    let a = c.args in
+    walk_start bucket_of 509 255 (number_after a.found.now) (a.n - 1) a.heads.now a.nexts.now c.requires.3.chained a.x a.at
+    c.requires.2 (omega (arith, c.requires.2))
 
 pub offset_bounds-found-next : goal.offset_bounds-found-next
-offset_bounds-found-next c = let s = c in omega (arith, c.loop-next.invariant.within, s.requires.1)
+offset_bounds-found-next c = omega (arith, c.loop-next.invariant.within, c.requires.1)
 
 pub bounds-found-next : goal.bounds-found-next
-bounds-found-next c = let s = c in omega (arith, c.loop-next.invariant.within, s.requires.0, s.requires.3.some)
+bounds-found-next c = omega (arith, c.loop-next.invariant.within, c.requires.0, c.requires.3.some)
 
 pub returns-then-found-next : goal.returns-then-found-next
 returns-then-found-next c =
-    let s = c in
-    let a = s.args in
+    let a = c.args in
     let l = c.loop-next in
-    walk-found a.found.now a.n a.x a.heads.now a.nexts.now s.requires.0 s.requires.3 l.next l.invariant c.if-found-next.true
+    walk-found a.found.now a.n a.x a.heads.now a.nexts.now c.requires.0 c.requires.3 l.next l.invariant c.if-found-next.true
 
 pub bounds-nexts-next : goal.bounds-nexts-next
-bounds-nexts-next c = let s = c in omega (arith, c.loop-next.invariant.within, s.requires.1, c.loop-next-test.true)
+bounds-nexts-next c = omega (arith, c.loop-next.invariant.within, c.requires.1, c.loop-next-test.true)
 
 pub overflow_cast-next-in-loop-next : goal.overflow_cast-next-in-loop-next
 overflow_cast-next-in-loop-next c =
-    let s = c in
     let l = c.loop-next in
     omega (
       arith,
-      (s.requires.3.chained.next (l.next - 1) (omega (arith, l.invariant.within, c.loop-next-test.true))).within,
+      (c.requires.3.chained.next (l.next - 1) (omega (arith, l.invariant.within, c.loop-next-test.true))).within,
       l.invariant.within,
-      s.requires.1,
+      c.requires.1,
     )
 
 pub loop-next-smaller : goal.loop-next-smaller
 loop-next-smaller c =
-    let s = c in
-    let a = s.args in
+    let a = c.args in
     let l = c.loop-next in
-    walk-less bucket_of 509 255 (number_after a.found.now) (a.n - 1) a.heads.now a.nexts.now s.requires.3.chained a.x l.next
+    walk-less bucket_of 509 255 (number_after a.found.now) (a.n - 1) a.heads.now a.nexts.now c.requires.3.chained a.x l.next
     l.invariant c.loop-next-test.true
 
 pub loop-next-preserved : goal.loop-next-preserved
 loop-next-preserved c =
-    let s = c in
-    let a = s.args in
+    let a = c.args in
     let l = c.loop-next in
     let h = c.loop-next-test.true in
-    walk_turn bucket_of 509 255 (number_after a.found.now) (a.n - 1) a.heads.now a.nexts.now s.requires.3.chained a.x l.next
+    walk_turn bucket_of 509 255 (number_after a.found.now) (a.n - 1) a.heads.now a.nexts.now c.requires.3.chained a.x l.next
     l.invariant h (number-before a.found.now a.x l.next h c.if-found-next.false)
 
 pub bounds-found-0 : goal.bounds-found-0
-bounds-found-0 c = let s = c in omega (arith, s.requires.0, s.requires.3.some)
+bounds-found-0 c = omega (arith, c.requires.0, c.requires.3.some)
 
 pub returns-then-found-x : goal.returns-then-found-x
 returns-then-found-x c =
-    let s = c in
-    let a = s.args in
+    let a = c.args in
     let l = c.loop-next in
     let z : l.next ≡ 0 = omega (arith, c.loop-next-test.false) in
-    sym z ∙ walk-found a.found.now a.n a.x a.heads.now a.nexts.now s.requires.0 s.requires.3 l.next l.invariant
+    sym z ∙ walk-found a.found.now a.n a.x a.heads.now a.nexts.now c.requires.0 c.requires.3 l.next l.invariant
     (ap (λ i. get_or a.found.now i 0) z ∙ c.if-found-x.true)
 
 pub returns-else-found-x : goal.returns-else-found-x
 returns-else-found-x c =
-    let s = c in
-    let a = s.args in
+    let a = c.args in
     let l = c.loop-next in
-    walk_end a.found.now a.n a.x a.heads.now a.nexts.now s.requires.0 s.requires.3 l.next l.invariant
+    walk_end a.found.now a.n a.x a.heads.now a.nexts.now c.requires.0 c.requires.3 l.next l.invariant
     c.loop-next-test.false c.if-found-x.false

@@ -1,12 +1,7 @@
 -- The loop's invariant: `next` stands for a number of the bucket, and the numbers from there on are others (Buckets, Walk).
-use Rattle.std.specs.Prelude.{◌≡◌, ◌-◌, get_or}
-use mathlib.Core.Path.{sym, ap, ◌∙◌}
+use Rattle.std.specs.Prelude.{◌-◌}
 use Rattle.finding.specs.Buckets.{Walk}
-use Rattle.finding.specs.BucketsLaws.{walk_start, walk_turn, walk-less}
 use Rattle.finding.specs.NumberIndex.{bucket_of, number_after}
-use Rattle.finding.specs.NumberIndexLaws.{walk-found, walk_end, number-before}
-use native.Mathlib.Omega.{arith}
-use borrow.Author.Rules.{rules}
 use Rattle.finding.proofs.index.find_place.Given as goal
 
 abbrev pub invariant-loop-next : goal.invariant-loop-next

@@ -1,6 +1,5 @@
 -- There is room for the images of the lists: of at most two, or of four.
 use native.Mathlib.Omega.{arith}
-use borrow.Author.Rules.{rules}
 use Rattle.finding.proofs.job_rows.few_states.Goals as goal
 
 pub states_in-requires : goal.states_in-requires

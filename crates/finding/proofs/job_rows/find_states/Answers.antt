@@ -1,6 +1,5 @@
 -- There is room for the images of the lists: of at most four, or of sixteen.
 use native.Mathlib.Omega.{arith}
-use borrow.Author.Rules.{rules}
 use Rattle.finding.proofs.job_rows.find_states.Goals as goal
 
 pub few_states-requires : goal.few_states-requires

@@ -1,15 +1,11 @@
 -- The flags are written into cleared memory, and the first accepted word is read off them.
 use Rattle.finding.specs.FoundTold.{found-told}
 use native.Mathlib.Omega.{arith}
-use borrow.Author.Rules.{rules}
 use Rattle.finding.proofs.job_rows.found_answer.Goals as goal
 
 pub returns : goal.returns
 returns c =
-    let flagged = c in
-    let stood = flagged in
-    let start = stood in
-    let a = start.args in
+    let a = c.args in
     found-told a.found.now a.count a.accepting a.explored.now a.n a.parents.now a.symbols.now a.marks.now
-    flagged.flags.new.flags stood.accepting_standings-good.result c.first-word.result stood.accepting_standings-good.ensures
-    flagged.flags.ensures c.first-word.ensures (omega arith)
+    c.flags.new.flags c.accepting_standings-good.result c.first-word.result c.accepting_standings-good.ensures
+    c.flags.ensures c.first-word.ensures (omega arith)

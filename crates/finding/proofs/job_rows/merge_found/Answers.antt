@@ -1,13 +1,11 @@
 -- A refusal is handed on; where states are told, they are merged.
 use Rattle.finding.specs.MergedAnswer.{answer-refused, answer-found}
-use borrow.Author.Rules.{rules}
 use Rattle.finding.proofs.job_rows.merge_found.Goals as goal
 
 pub merge-merged-requires : goal.merge-merged-requires
 merge-merged-requires c =
-    let told = c.finding-in-Found-1.given in
-    let start = c in
-    start.requires _ _ told.1
+    let told = c.in-Found in
+    c.requires _ _ told.is
 
 pub returns-in-Refused : goal.returns-in-Refused
 returns-in-Refused c =
@@ -17,6 +15,6 @@ returns-in-Refused c =
 pub returns-in-Found : goal.returns-in-Found
 returns-in-Found c =
     let m = c.merge-merged in
-    let told = c.finding-in-Found-1.given in
+    let told = c.in-Found in
     let a = c.args in
-    answer-found a.told a.lists a.table.now a.marks.now _ _ m.result m.new.table m.new.flags told.1 m.ensures
+    answer-found a.told a.lists a.table.now a.marks.now _ _ m.result m.new.table m.new.flags told.is m.ensures

@@ -6,7 +6,6 @@ use lib.ListN.{length-take}
 use lib.Seq.{length-take-le}
 use Rattle.finding.specs.QueryTold.{query-refused, query-told}
 use native.Mathlib.Omega.{arith}
-use borrow.Author.Rules.{rules}
 use Rattle.finding.proofs.job_rows.query_standings.Goals as goal
 
 pub returns-then-size-gt63 : goal.returns-then-size-gt63

@@ -1,12 +1,8 @@
 -- The loop's invariant: the levels are known as far as they go.
-use mathlib.Core.Bool.{false≢true}
 use Rattle.std.specs.Prelude.{◌≡◌, length}
-use borrow.Author.Tests.{not-true}
 use Rattle.theory.specs.Level.{Known}
 use Rattle.finding.specs.Find.{deterministic}
 use Rattle.finding.specs.LevelTold.{most_level, level_at}
-use Rattle.finding.specs.LevelLaws.{flags-known}
-use borrow.Author.Rules.{rules}
 use Rattle.finding.proofs.level.find_levels.Given as goal
 
 abbrev pub invariant-loop-left : goal.invariant-loop-left

@@ -1,10 +1,9 @@
-use Rattle.std.specs.Prelude.{◌≡◌, ◌-◌, ◌≤◌, get_or}
+use Rattle.std.specs.Prelude.{◌≡◌, get_or}
 use mathlib.Core.Path.{◌∙◌}
 use lib.ListN.{length-set}
-use Rattle.finding.specs.LevelTold.{flag_level, FlagLevels}
+use Rattle.finding.specs.LevelTold.{flag_level}
 use Rattle.finding.specs.Filling.{filled_more}
 use native.Mathlib.Omega.{arith}
-use borrow.Author.Rules.{rules}
 use Rattle.finding.proofs.level.flag_levels.Goals as goal
 
 pub loop-s-init : goal.loop-s-init
@@ -12,14 +11,13 @@ loop-s-init c = (omega arith, record { sized = c.requires.2; at = λ q h. absurd
 
 pub loop-s-preserved : goal.loop-s-preserved
 loop-s-preserved c =
-    let at-loop = c in
-    let l = at-loop.loop-s in
-    let flags = at-loop.args.flags.now in (
+    let l = c.loop-s in
+    let flags = c.args.flags.now in (
       omega arith,
       record {
         sized = length-set l.levels l.s c.flag_level.result ∙ l.invariant.1.sized;
         at = filled_more (λ q n. n ≡ flag_level (get_or flags q 0)) l.levels l.s c.flag_level.result
-            (omega (arith, l.invariant.1.sized, at-loop.requires.0)) l.invariant.1.at c.flag_level.ensures;
+            (omega (arith, l.invariant.1.sized, c.requires.0)) l.invariant.1.at c.flag_level.ensures;
       },
     )
 

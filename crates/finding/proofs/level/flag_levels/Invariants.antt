@@ -1,11 +1,6 @@
 -- The loop's invariant: the levels of the states below s are set.
-use Rattle.std.specs.Prelude.{◌≡◌, ◌-◌, ◌≤◌, get_or}
-use mathlib.Core.Path.{◌∙◌}
-use lib.ListN.{length-set}
-use Rattle.finding.specs.LevelTold.{flag_level, FlagLevels}
-use Rattle.finding.specs.Filling.{filled_more}
-use native.Mathlib.Omega.{arith}
-use borrow.Author.Rules.{rules}
+use Rattle.std.specs.Prelude.{◌-◌, ◌≤◌}
+use Rattle.finding.specs.LevelTold.{FlagLevels}
 use Rattle.finding.proofs.level.flag_levels.Given as goal
 
 abbrev pub invariant-loop-s : goal.invariant-loop-s

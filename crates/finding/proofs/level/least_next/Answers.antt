@@ -1,26 +1,23 @@
-use Rattle.std.specs.Prelude.{◌≡◌, ◌+◌, ◌-◌, ◌*◌, ◌≤◌}
+use Rattle.std.specs.Prelude.{◌≡◌, ◌+◌, ◌*◌}
 use mathlib.Core.Path.{subst}
 use Rattle.finding.specs.LevelTold.{LeastNext}
 use Rattle.finding.specs.LevelLaws.{least-none, least_more}
 use native.Mathlib.Omega.{arith}
-use borrow.Author.Rules.{rules}
 use Rattle.finding.proofs.level.least_next.Goals as goal
 
 pub loop-v-init : goal.loop-v-init
 loop-v-init c = let a = c.args in (omega arith, least-none a.table.now a.s a.levels.now)
 
 pub overflow_cast-next : goal.overflow_cast-next
-overflow_cast-next c = omega (arith, c.shared_slice_known-in-loop-v-1.given (16 * c.args.s + c.loop-v.v))
+overflow_cast-next c = omega (arith, c.type_inv.table (16 * c.args.s + c.loop-v.v))
 
 pub offset_bounds-levels-next : goal.offset_bounds-levels-next
 offset_bounds-levels-next c =
-    let at-loop = c in
-    omega (arith, at-loop.requires.next at-loop.loop-v.v c.loop-v-test.true)
+    omega (arith, c.requires.next c.loop-v.v c.loop-v-test.true)
 
 pub bounds-levels-next : goal.bounds-levels-next
 bounds-levels-next c =
-    let at-loop = c in
-    omega (arith, at-loop.requires.next at-loop.loop-v.v c.loop-v-test.true)
+    omega (arith, c.requires.next c.loop-v.v c.loop-v-test.true)
 
 pub loop-v-preserved : goal.loop-v-preserved
 loop-v-preserved c =
@@ -30,7 +27,6 @@ loop-v-preserved c =
 
 pub returns : goal.returns
 returns c =
-    let at-loop = c in
-    let a = at-loop.args in
-    let all : at-loop.loop-v.v ≡ a.lists = omega arith in
-    subst (λ n. LeastNext a.table.now n a.s a.levels.now at-loop.loop-v.least) all at-loop.loop-v.invariant.1
+    let a = c.args in
+    let all : c.loop-v.v ≡ a.lists = omega arith in
+    subst (λ n. LeastNext a.table.now n a.s a.levels.now c.loop-v.least) all c.loop-v.invariant.1

@@ -1,10 +1,6 @@
 -- The loop's invariant: what is told of the lists below v.
-use Rattle.std.specs.Prelude.{◌≡◌, ◌+◌, ◌-◌, ◌*◌, ◌≤◌}
-use mathlib.Core.Path.{subst}
+use Rattle.std.specs.Prelude.{◌-◌, ◌≤◌}
 use Rattle.finding.specs.LevelTold.{LeastNext}
-use Rattle.finding.specs.LevelLaws.{least-none, least_more}
-use native.Mathlib.Omega.{arith}
-use borrow.Author.Rules.{rules}
 use Rattle.finding.proofs.level.least_next.Given as goal
 
 abbrev pub invariant-loop-v : goal.invariant-loop-v

@@ -1,12 +1,9 @@
-use Rattle.std.specs.Prelude.{◌≡◌, ℕ, suc, ◌+◌, ◌-◌, ◌*◌, ◌<◌, ◌≤◌, false, List, length, get_or}
+use Rattle.std.specs.Prelude.{◌≡◌, ℕ, suc, ◌+◌, ◌-◌, ◌*◌, ◌<◌, ◌≤◌, List, get_or}
 use mathlib.Core.Bool.{true≢false}
 use native.Mathlib.Decide.{ℕ_discrete}
-use Rattle.theory.specs.Level.{Known}
-use Rattle.finding.specs.Find.{deterministic}
 use Rattle.finding.specs.TableLent.{row-lent}
-use Rattle.finding.specs.LevelTold.{most_level, level_at}
+use Rattle.finding.specs.LevelTold.{level_at}
 use native.Mathlib.Omega.{arith}
-use borrow.Author.Rules.{rules}
 use Rattle.finding.proofs.level.sweep.Invariants.{SettledFrom}
 use Rattle.finding.proofs.level.sweep.Goals as goal
 
@@ -25,18 +22,16 @@ loop-s-init c =
 
 pub lower-requires : goal.lower-requires
 lower-requires c =
-    let at-loop = c in
-    let l = at-loop.loop-s in (
-      row-lent at-loop.requires.0 (l.s - 1) (omega (arith, c.loop-s-test.true, l.invariant.0)),
+    let l = c.loop-s in (
+      row-lent c.requires.0 (l.s - 1) (omega (arith, c.loop-s-test.true, l.invariant.0)),
       l.invariant.1,
     )
 
 pub loop-s-preserved-then-lower : goal.loop-s-preserved-then-lower
 loop-s-preserved-then-lower c =
-    let at-loop = c in
-    let l = at-loop.loop-s in
+    let l = c.loop-s in
     let told = c.lower.ensures in
-    let rows = at-loop.requires.0 in (
+    let rows = c.requires.0 in (
       omega arith,
       told.sized,
       λ flags K. told.known _ flags (omega (arith, l.invariant.0)) rows.next (l.invariant.2 flags K),
@@ -45,11 +40,10 @@ loop-s-preserved-then-lower c =
 
 pub loop-s-preserved : goal.loop-s-preserved
 loop-s-preserved c =
-    let at-loop = c in
-    let l = at-loop.loop-s in
-    let a = at-loop.args in
+    let l = c.loop-s in
+    let a = c.args in
     let told = c.lower.ensures in
-    let rows = at-loop.requires.0 in (
+    let rows = c.requires.0 in (
       omega arith,
       told.sized,
       λ flags K. told.known _ flags (omega (arith, l.invariant.0)) rows.next (l.invariant.2 flags K),

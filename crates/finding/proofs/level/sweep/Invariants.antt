@@ -1,13 +1,8 @@
 -- The loop's invariant: what was known is known, and where none was lowered, the states from s on are settled.
-use Rattle.std.specs.Prelude.{◌≡◌, ℕ, suc, ◌+◌, ◌-◌, ◌*◌, ◌<◌, ◌≤◌, false, List, length, get_or}
-use mathlib.Core.Bool.{true≢false}
-use native.Mathlib.Decide.{ℕ_discrete}
+use Rattle.std.specs.Prelude.{◌≡◌, ℕ, suc, ◌+◌, ◌*◌, ◌<◌, ◌≤◌, false, List, length, get_or}
 use Rattle.theory.specs.Level.{Known}
 use Rattle.finding.specs.Find.{deterministic}
-use Rattle.finding.specs.TableLent.{row-lent}
 use Rattle.finding.specs.LevelTold.{most_level, level_at}
-use native.Mathlib.Omega.{arith}
-use borrow.Author.Rules.{rules}
 use Rattle.finding.proofs.level.sweep.Given as goal
 
 -- The states from s on are settled.

@@ -6,23 +6,24 @@ use lib.ListN.{length-take, length-drop}
 use Rattle.finding.specs.ImageSearch.{tables}
 use Rattle.finding.specs.ListRows.{row-filled}
 use native.Mathlib.Omega.{arith}
-use borrow.Author.Rules.{rules}
 use Rattle.finding.proofs.list_images.fill_row.Goals as goal
 
 pub images-requires : goal.images-requires
 images-requires c =
-    let start = c in
-    let a = start.args in
-    let p = start.requires in
+    let a = c.args in
+    let p = c.requires in
     (p.2, p.3, p.4, simp (length-take, length-drop) (omega (arith, p.1, p.2.standings)), p.5)
 
 pub returns : goal.returns
 returns c =
-    let start = c in
-    let a = start.args in
-    let room = start.requires.1 in
+    let a = c.args in
+    let room = c.requires.1 in
     let called = c.images in
     let sized : length called.new.out ≡ 64 =
-    called.auto.out ∙ simp (length-take, length-drop) (omega (arith, room)) in record { filled_row = row-filled (tables a.moves.now a.count a.labels a.follow.now a.enter.now) a.accepting a.v a.rows.now
+    called.auto.out ∙ simp (length-take, length-drop) (omega (arith, room)) in
+    record {
+      filled_row = row-filled (tables a.moves.now a.count a.labels a.follow.now a.enter.now) a.accepting a.v a.rows.now
           called.new.out (64 * a.v + 64 - 64 * a.v) (add-sub_cancel_left (64 * a.v) 64) room sized
-          called.ensures.images_told; cleared = called.ensures.cleared }
+          called.ensures.images_told;
+      cleared = called.ensures.cleared;
+    }

@@ -1,9 +1,5 @@
 -- The loop's invariant: no list passed has more occurrences.
 use Rattle.std.specs.Prelude.{ℕ, ◌+◌, ◌-◌, ◌<◌, ◌≤◌, get_or}
-use mathlib.Core.Logic.{⊎_elim}
-use borrow.Author.Count.{below_more}
-use native.Mathlib.Omega.{arith}
-use borrow.Author.Rules.{rules}
 use Rattle.finding.proofs.list_images.greatest.Given as goal
 
 abbrev pub invariant-loop-v : goal.invariant-loop-v

@@ -1,6 +1,5 @@
 -- Where nothing is done, nothing is promised; else the words are enough for the pairs of each list.
 use native.Mathlib.Omega.{arith}
-use borrow.Author.Rules.{rules}
 use Rattle.finding.proofs.list_images.list_images.Goals as goal
 
 pub returns-then-lists-gt16 : goal.returns-then-lists-gt16
@@ -17,13 +16,11 @@ returns-then-labels-gt32 c = λ h k. record { table = λ few narrow A found Bs m
 
 pub rows_of_few-requires : goal.rows_of_few-requires
 rows_of_few-requires c =
-    let start = c in
-    (omega arith, omega arith, omega arith, c.words_for-words.ensures, c.if-words-le512.true, omega arith, start.requires)
+    (omega arith, omega arith, omega arith, c.words_for-words.ensures, c.if-words-le512.true, omega arith, c.requires)
 
 pub rows_of_many-requires : goal.rows_of_many-requires
 rows_of_many-requires c =
-    let start = c in
-    (omega arith, omega arith, omega arith, c.words_for-words.ensures, omega arith, start.requires)
+    (omega arith, omega arith, omega arith, c.words_for-words.ensures, omega arith, c.requires)
 
 pub returns-then-words-le512 : goal.returns-then-words-le512
 returns-then-words-le512 c = λ h k. c.rows_of_few.ensures

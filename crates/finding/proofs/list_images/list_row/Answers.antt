@@ -5,22 +5,22 @@ use lib.ListN.{length-take, length-drop}
 use native.Mathlib.Numerals.{add-one}
 use Rattle.finding.specs.ListRows.{job_tables, part_length, list-refused, list-told}
 use native.Mathlib.Omega.{arith}
-use borrow.Author.Rules.{rules}
 use Rattle.finding.proofs.list_images.list_row.Goals as goal
 
 pub returns-then-size-gt63 : goal.returns-then-size-gt63
 returns-then-size-gt63 c =
-    let start = c in
-    let a = start.args in
+    let a = c.args in
     let T =
     job_tables a.moves.now a.count a.labels a.follow.now a.enter.now a.sizes.now a.accepting.now in
-    record { list_told = list-refused T a.v a.rows.now a.rows.now (rw (← add-one a.v) c.if-size-gt63.true); cleared = start.requires.7 }
+    record {
+      list_told = list-refused T a.v a.rows.now a.rows.now (rw (← add-one a.v) c.if-size-gt63.true);
+      cleared = c.requires.7;
+    }
 
 pub fill_row-requires : goal.fill_row-requires
 fill_row-requires c =
-    let start = c in
-    let a = start.args in
-    let p = start.requires in
+    let a = c.args in
+    let p = c.requires in
     let size = get_or a.sizes.now (a.v + 1) 0 in
     let small = c.if-size-gt63.false in
     let long = part_length (64 * (a.v + 1)) size a.follow.now (omega (arith, p.5, small)) in
@@ -36,10 +36,13 @@ fill_row-requires c =
 
 pub returns : goal.returns
 returns c =
-    let start = c in
-    let a = start.args in
+    let a = c.args in
     let row = c.fill_row in
     let T =
-    job_tables a.moves.now a.count a.labels a.follow.now a.enter.now a.sizes.now a.accepting.now in record { list_told = list-told T a.v a.rows.now row.new.rows (a.v + 1)
+    job_tables a.moves.now a.count a.labels a.follow.now a.enter.now a.sizes.now a.accepting.now in
+    record {
+      list_told = list-told T a.v a.rows.now row.new.rows (a.v + 1)
           (64 * (a.v + 1) + get_or a.sizes.now (a.v + 1) 0 + 1 - 64 * (a.v + 1)) (32 * (a.v + 1) + 32 - 32 * (a.v + 1)) (add-one a.v)
-          (omega arith) (omega arith) (omega (arith, start.requires.6)) row.ensures.filled_row; cleared = row.ensures.cleared }
+          (omega arith) (omega arith) (omega (arith, c.requires.6)) row.ensures.filled_row;
+      cleared = row.ensures.cleared;
+    }

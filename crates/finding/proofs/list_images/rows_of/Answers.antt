@@ -1,8 +1,7 @@
-use Rattle.std.specs.Prelude.{◌≡◌, ℕ, ◌-◌, ◌≤◌, length, replicate}
+use Rattle.std.specs.Prelude.{◌≡◌, ℕ}
 use mathlib.Core.Path.{refl, ◌∙◌, subst, sym}
 use Rattle.finding.specs.ListRows.{job_tables, Paired, ListsDone, lists-none, lists-more, images-of}
 use native.Mathlib.Omega.{arith}
-use borrow.Author.Rules.{rules}
 use Rattle.finding.proofs.list_images.rows_of.Goals as goal
 
 pub loop-v-init : goal.loop-v-init
@@ -14,10 +13,9 @@ loop-v-init c =
 
 pub list_row-requires : goal.list_row-requires
 list_row-requires c =
-    let start = c in
     let l = c.loop-v in
-    let a = start.args in
-    let p = start.requires in
+    let a = c.args in
+    let p = c.requires in
     let h = c.loop-v-test.true in (
       omega (arith, h, p.2),
       p.0,

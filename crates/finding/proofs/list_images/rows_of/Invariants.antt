@@ -1,9 +1,6 @@
 -- The loop's invariant: the rows of the lists passed are in their places, and nothing is pending.
-use Rattle.std.specs.Prelude.{◌≡◌, ℕ, ◌-◌, ◌≤◌, length, replicate}
-use mathlib.Core.Path.{refl, ◌∙◌, subst, sym}
-use Rattle.finding.specs.ListRows.{job_tables, Paired, ListsDone, lists-none, lists-more, images-of}
-use native.Mathlib.Omega.{arith}
-use borrow.Author.Rules.{rules}
+use Rattle.std.specs.Prelude.{◌≡◌, ◌-◌, ◌≤◌, length, replicate}
+use Rattle.finding.specs.ListRows.{job_tables, ListsDone}
 use Rattle.finding.proofs.list_images.rows_of.Given as goal
 
 abbrev pub invariant-loop-v : goal.invariant-loop-v

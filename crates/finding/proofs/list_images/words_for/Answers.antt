@@ -3,13 +3,11 @@ use Rattle.std.specs.Prelude.{◌+◌, ◌*◌}
 use native.Mathlib.Nat.{mul-le-mul_left}
 use Rattle.finding.specs.ListRows.{paired-most, paired-any}
 use native.Mathlib.Omega.{arith}
-use borrow.Author.Rules.{rules}
 use Rattle.finding.proofs.list_images.words_for.Goals as goal
 
 pub overflow_mul-result : goal.overflow_mul-result
 overflow_mul-result c =
-    let s = c in
-    omega (arith, s.requires.1, mul-le-mul_left {m = c.greatest-most.result + 1} {n = 64} s.args.count (omega arith))
+    omega (arith, c.requires.1, mul-le-mul_left {m = c.greatest-most.result + 1} {n = 64} c.args.count (omega arith))
 
 pub returns-then-most-lt64 : goal.returns-then-most-lt64
 returns-then-most-lt64 c =
@@ -19,5 +17,4 @@ returns-then-most-lt64 c =
 
 pub returns-else-most-lt64 : goal.returns-else-most-lt64
 returns-else-most-lt64 c =
-    let s = c in
-    λ v h. paired-any s.args.count s.args.sizes.now v s.requires.1
+    λ v h. paired-any c.args.count c.args.sizes.now v c.requires.1

@@ -1,11 +1,8 @@
-use Rattle.std.specs.Prelude.{◌≡◌, ◌-◌, ◌<◌, ◌≤◌}
-use mathlib.Core.Logic.{⊎_elim}
+use Rattle.std.specs.Prelude.{◌≡◌, ◌<◌}
 use native.Mathlib.Omega.{arith}
 use Rattle.theory.specs.Leaders.{leaders-at-most}
 use Rattle.theory.specs.Refinement.{class_at}
-use Rattle.finding.specs.MergeTold.{ClassNumbers}
 use Rattle.finding.specs.MergeLaws.{numbers-none, numbers-first, numbers-later}
-use borrow.Author.Rules.{rules}
 use Rattle.finding.proofs.merge.number_classes.Goals as goal
 use Rattle.finding.proofs.merge.number_classes.Goals.{else-first-s, then-first-s}
 
@@ -13,25 +10,27 @@ pub loop-s-init : goal.loop-s-init
 loop-s-init c = (omega arith, numbers-none _ _ c.requires.2)
 
 pub overflow_cast-first : goal.overflow_cast-first
-overflow_cast-first c = omega (arith, (let it : class_at c.args.classes.now c.loop-s.s < 256 = let p = c.requires in omega (arith, p.1.at_most c.loop-s.s c.loop-s-test.true, p.0) in it))
+overflow_cast-first c = omega (arith, c.requires.1.at_most c.loop-s.s c.loop-s-test.true, c.requires.0)
 
 pub overflow_cast-numbers : goal.overflow_cast-numbers
-overflow_cast-numbers c = omega (arith, (let it : c.loop-s.count < 256 = let l = c.loop-s in omega (arith, l.invariant.1.count, leaders-at-most (class_at c.args.classes.now) l.s, c.requires.0) in it))
+overflow_cast-numbers c = omega (arith, leaders-at-most (class_at c.args.classes.now) c.loop-s.s)
 
 pub overflow_add-count : goal.overflow_add-count
-overflow_add-count c = omega (arith, (let it : c.loop-s.count < 256 = let l = c.loop-s in omega (arith, l.invariant.1.count, leaders-at-most (class_at c.args.classes.now) l.s, c.requires.0) in it))
+overflow_add-count c = omega (arith, leaders-at-most (class_at c.args.classes.now) c.loop-s.s)
 
 pub bounds-numbers-first : goal.bounds-numbers-first
-bounds-numbers-first c = omega (arith, (let it : class_at c.args.classes.now c.loop-s.s < 256 = let p = c.requires in omega (arith, p.1.at_most c.loop-s.s c.loop-s-test.true, p.0) in it))
+bounds-numbers-first c = omega (arith, c.requires.1.at_most c.loop-s.s c.loop-s-test.true, c.requires.0)
 
 pub loop-s-preserved : goal.loop-s-preserved
 loop-s-preserved c =
-    let start = c in
     let l = c.loop-s in
     let h = c.loop-s-test.true in
-    let room : l.s < 256 = omega (arith, start.requires.0) in (
+    let room : l.s < 256 = omega (arith, c.requires.0) in (
       omega arith,
-      (elim c.if-first-s.branch [ then-first-s w ↦ rw (w.numbers-is, w.count-is) (numbers-first l.invariant.1 room w.if-first-s.true) | else-first-s w ↦ rw (w.numbers-is, w.count-is) (numbers-later l.invariant.1 room start.requires.1 h w.if-first-s.false) ]),
+      elim c.if-first-s.branch [
+        | then-first-s w ↦ rw (w.numbers-is, w.count-is) (numbers-first l.invariant.1 room w.if-first-s.true)
+        | else-first-s w ↦ rw (w.numbers-is, w.count-is) (numbers-later l.invariant.1 room c.requires.1 h w.if-first-s.false)
+      ],
     )
 
 pub returns : goal.returns

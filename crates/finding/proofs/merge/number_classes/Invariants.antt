@@ -1,12 +1,6 @@
 -- The loop's invariant: the classes that begin below s are counted, and the states below s have the numbers of their classes.
-use Rattle.std.specs.Prelude.{◌≡◌, ◌-◌, ◌<◌, ◌≤◌}
-use mathlib.Core.Logic.{⊎_elim}
-use native.Mathlib.Omega.{arith}
-use Rattle.theory.specs.Leaders.{leaders-at-most}
-use Rattle.theory.specs.Refinement.{class_at}
+use Rattle.std.specs.Prelude.{◌-◌, ◌≤◌}
 use Rattle.finding.specs.MergeTold.{ClassNumbers}
-use Rattle.finding.specs.MergeLaws.{numbers-none, numbers-first, numbers-later}
-use borrow.Author.Rules.{rules}
 use Rattle.finding.proofs.merge.number_classes.Given as goal
 
 abbrev pub invariant-loop-s : goal.invariant-loop-s

@@ -1,10 +1,6 @@
 -- The loop's invariant: the entries for the lists below v are put.
-use Rattle.std.specs.Prelude.{◌≡◌, ◌+◌, ◌-◌, ◌*◌, ◌<◌, ◌≤◌, get_or}
-use mathlib.Core.Path.{refl}
-use native.Mathlib.Omega.{arith}
+use Rattle.std.specs.Prelude.{◌-◌, ◌≤◌}
 use Rattle.finding.specs.MergeTold.{RowPut}
-use Rattle.finding.specs.MergeLaws.{row-ahead, row_more}
-use borrow.Author.Rules.{rules}
 use Rattle.finding.proofs.merge.put_row.Given as goal
 
 abbrev pub invariant-loop-v : goal.invariant-loop-v

@@ -1,7 +1,6 @@
 -- Beyond the end `get_or` gives 0 too.
 use mathlib.Core.Path.{sym}
 use lib.ListN.{get_or-eq_default}
-use borrow.Author.Rules.{rules}
 use Rattle.finding.proofs.number.number_at.Goals as goal
 
 pub returns-else-at-numbers : goal.returns-else-at-numbers

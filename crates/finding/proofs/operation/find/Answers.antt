@@ -19,11 +19,10 @@ returns-then-marks-lt256 c =
 
 pub find_in-requires : goal.find_in-requires
 find_in-requires c =
-    let at_count = c in
-    let a = at_count.args in (
-      enough-rows 4 at_count.lists_at_most-lists.result a.text.now at_count.lists_at_most-lists.ensures (omega arith) (omega arith) (omega arith),
-      omega (arith, at_count.if-table-lt4096.false),
-      omega (arith, at_count.if-marks-lt256.false),
+    let a = c.args in (
+      enough-rows 4 c.lists_at_most-lists.result a.text.now c.lists_at_most-lists.ensures (omega arith) (omega arith) (omega arith),
+      omega (arith, c.if-table-lt4096.false),
+      omega (arith, c.if-marks-lt256.false),
     )
 
 pub returns-then-lists-le2 : goal.returns-then-lists-le2
@@ -31,23 +30,21 @@ returns-then-lists-le2 c = ap told c.find_in.ensures
 
 pub find_in-requires-then-lists-le4 : goal.find_in-requires-then-lists-le4
 find_in-requires-then-lists-le4 c =
-    let at_count = c in
-    let a = at_count.args in (
-      enough-rows 6 at_count.lists_at_most-lists.result a.text.now at_count.lists_at_most-lists.ensures (omega arith) (omega arith) (omega arith),
-      omega (arith, at_count.if-table-lt4096.false),
-      omega (arith, at_count.if-marks-lt256.false),
+    let a = c.args in (
+      enough-rows 6 c.lists_at_most-lists.result a.text.now c.lists_at_most-lists.ensures (omega arith) (omega arith) (omega arith),
+      omega (arith, c.if-table-lt4096.false),
+      omega (arith, c.if-marks-lt256.false),
     )
 
 pub returns-then-lists-le4 : goal.returns-then-lists-le4
 returns-then-lists-le4 c = ap told c.find_in-then-lists-le4.ensures
 
 pub find_in-requires-2 : goal.find_in-requires-2
-find_in-requires-2 c =
-    let at_count = c in (
-      all-rows _ (omega arith) (omega arith),
-      omega (arith, at_count.if-table-lt4096.false),
-      omega (arith, at_count.if-marks-lt256.false),
-    )
+find_in-requires-2 c = (
+  all-rows _ (omega arith) (omega arith),
+  omega (arith, c.if-table-lt4096.false),
+  omega (arith, c.if-marks-lt256.false),
+)
 
 pub returns : goal.returns
 returns c = ap told c.find_in-2.ensures

@@ -1,11 +1,6 @@
 -- The loop's invariant: the next states for the lists below v are in the same classes.
 use Rattle.std.specs.Prelude.{◌≡◌, ℕ, ◌+◌, ◌-◌, ◌*◌, ◌<◌, ◌≤◌, get_or}
-use mathlib.Core.Bool.{false≢true}
-use mathlib.Core.Path.{refl}
-use borrow.Author.Count.{below_more}
 use Rattle.theory.specs.Refinement.{class_at}
-use native.Mathlib.Omega.{arith}
-use borrow.Author.Rules.{rules}
 use Rattle.finding.proofs.refine.alike.Given as goal
 
 abbrev pub invariant-loop-v : goal.invariant-loop-v

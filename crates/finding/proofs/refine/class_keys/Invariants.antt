@@ -1,9 +1,6 @@
 -- The loop's invariant: the states below s are classed (Classing).
-use Rattle.std.specs.Prelude.{◌-◌, ◌<◌, ◌≤◌, get_or}
-use mathlib.Core.Logic.{⊎_elim}
-use Rattle.finding.proofs.Classing.{Classing, classing-none, classing-joins, classing-leads}
-use native.Mathlib.Omega.{arith}
-use borrow.Author.Rules.{rules}
+use Rattle.std.specs.Prelude.{◌-◌, ◌≤◌}
+use Rattle.finding.proofs.Classing.{Classing}
 use Rattle.finding.proofs.refine.class_keys.Given as goal
 
 abbrev pub invariant-loop-s : goal.invariant-loop-s

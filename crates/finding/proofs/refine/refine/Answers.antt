@@ -1,11 +1,5 @@
-use Rattle.std.specs.Prelude.{◌≡◌, ◌-◌, length}
-use mathlib.Core.Logic.{⊎_elim}
 use mathlib.Core.Path.{refl}
-use Rattle.theory.specs.Classes.{Coarse}
-use Rattle.theory.specs.Leaders.{Led, leaders}
-use Rattle.theory.specs.Refinement.{class_at}
 use Rattle.theory.specs.Splitting.{split_below}
-use Rattle.finding.specs.Find.{deterministic}
 use Rattle.finding.specs.ClassesLaws.{classed-led, one_class, levels-class, split-class, split-falls, classes-refined}
 use native.Mathlib.Omega.{arith}
 use Rattle.finding.proofs.refine.refine.Goals as goal
@@ -16,56 +10,48 @@ find_levels-requires c = (c.requires.0, refl)
 
 pub class_keys-requires : goal.class_keys-requires
 class_keys-requires c =
-    let start = c in
     let levels = c.find_levels.ensures.1 c.if-find_levels.true in
-    (start.requires.0.rows.most, λ s h. omega (arith, levels.known.within s h), start.requires.2)
+    (c.requires.0.rows.most, λ s h. omega (arith, levels.known.within s h), c.requires.2)
 
 pub loop-keys-init : goal.loop-keys-init
 loop-keys-init c =
-    let start = c in
     let levels = c.find_levels.ensures in
-    let T = start.requires.0 in
-    let one = one_class T start.args.classes.now start.requires.1 in
-    (elim c.if-find_levels.branch [ then-find_levels w ↦ rw w.classes-is (
-      w.class_keys.ensures.sized,
-      levels.0,
-      classed-led w.class_keys.ensures,
-      levels-class T (levels.1 w.if-find_levels.true) w.class_keys.ensures,
-    ) | else-find_levels w ↦ rw w.classes-is (start.requires.2, levels.0, one.0, one.1) ])
+    let T = c.requires.0 in
+    let one = one_class T c.args.classes.now c.requires.1 in
+    (elim c.if-find_levels.branch [
+      | then-find_levels w ↦ rw w.classes-is (
+        w.class_keys.ensures.sized,
+        levels.0,
+        classed-led w.class_keys.ensures,
+        levels-class T (levels.1 w.if-find_levels.true) w.class_keys.ensures,
+      )
+      | else-find_levels w ↦ rw w.classes-is (c.requires.2, levels.0, one.0, one.1)
+    ])
 
 pub split_keys-requires : goal.split_keys-requires
 split_keys-requires c =
-    let at-loop = c in
-    (at-loop.requires.0, at-loop.loop-keys.invariant.2, at-loop.loop-keys.invariant.1)
+    (c.requires.0, c.loop-keys.invariant.2, c.loop-keys.invariant.1)
 
 pub class_keys-requires-in-loop-keys : goal.class_keys-requires-in-loop-keys
 class_keys-requires-in-loop-keys c =
-    let at-loop = c in
-    let start = at-loop in
-    (start.requires.0.rows.most, split_below c.split_keys.ensures.keyed, at-loop.loop-keys.invariant.0)
+    (c.requires.0.rows.most, split_below c.split_keys.ensures.keyed, c.loop-keys.invariant.0)
 
 pub loop-keys-smaller : goal.loop-keys-smaller
 loop-keys-smaller c =
-    let at-loop = c in
-    let start = at-loop in
-    split-falls start.requires.0 c.split_keys.ensures c.loop-keys-test.true
-    at-loop.loop-keys.invariant.2 c.class_keys-in-loop-keys.ensures
+    split-falls c.requires.0 c.split_keys.ensures c.loop-keys-test.true
+    c.loop-keys.invariant.2 c.class_keys-in-loop-keys.ensures
 
 pub loop-keys-preserved : goal.loop-keys-preserved
 loop-keys-preserved c =
-    let at-loop = c in
-    let start = at-loop in
     let split = c.split_keys.ensures in (
       c.class_keys-in-loop-keys.ensures.sized,
       split.sized,
       classed-led c.class_keys-in-loop-keys.ensures,
-      split-class start.requires.0 split at-loop.loop-keys.invariant.3 c.class_keys-in-loop-keys.ensures,
+      split-class c.requires.0 split c.loop-keys.invariant.3 c.class_keys-in-loop-keys.ensures,
     )
 
 pub returns : goal.returns
 returns c =
-    let at-loop = c in
-    let start = at-loop in
-    let i = at-loop.loop-keys.invariant in
-    classes-refined start.requires.0 at-loop.loop-keys.classes i.0 i.2 i.3
+    let i = c.loop-keys.invariant in
+    classes-refined c.requires.0 c.loop-keys.classes i.0 i.2 i.3
     (c.split_keys.ensures.stays c.loop-keys-test.false)

@@ -1,15 +1,10 @@
 -- The loop's invariant: each class is named by its first state, and states with the same continuations are in one class. A split that some
 -- state leaves its class in makes more classes, of which there are at most as many as states.
 use Rattle.std.specs.Prelude.{◌≡◌, ◌-◌, length}
-use mathlib.Core.Logic.{⊎_elim}
-use mathlib.Core.Path.{refl}
 use Rattle.theory.specs.Classes.{Coarse}
 use Rattle.theory.specs.Leaders.{Led, leaders}
 use Rattle.theory.specs.Refinement.{class_at}
-use Rattle.theory.specs.Splitting.{split_below}
 use Rattle.finding.specs.Find.{deterministic}
-use Rattle.finding.specs.ClassesLaws.{classed-led, one_class, levels-class, split-class, split-falls, classes-refined}
-use native.Mathlib.Omega.{arith}
 use Rattle.finding.proofs.refine.refine.Given as goal
 
 abbrev pub invariant-loop-keys : goal.invariant-loop-keys

@@ -1,7 +1,6 @@
 use mathlib.Core.Bool.{true≢false}
 use mathlib.Core.Logic.{inl, inr}
 use mathlib.Core.Path.{refl, sym, ◌∙◌}
-use borrow.Author.Rules.{rules}
 use Rattle.finding.proofs.refine.split_key.Goals as goal
 
 pub returns-then-alike : goal.returns-then-alike

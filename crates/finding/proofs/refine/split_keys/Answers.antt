@@ -1,6 +1,5 @@
-use Rattle.std.specs.Prelude.{◌≡◌, ℕ, ◌+◌, ◌-◌, ◌<◌, ◌≤◌, true, false, List, length, set}
+use Rattle.std.specs.Prelude.{ℕ, ◌+◌, ◌<◌, ◌≤◌, List, length, set}
 use mathlib.Core.Bool.{true≢false, false≢true}
-use mathlib.Core.Logic.{⊎_elim}
 use mathlib.Core.Path.{sym, ◌∙◌}
 use lib.ListN.{length-set}
 use lib.Seq.{get_or-set_same, get_or-set_other}
@@ -10,7 +9,6 @@ use Rattle.finding.specs.ClassesTold.{key_at, SplitKey}
 use Rattle.finding.specs.ClassesLaws.{rows_alike, split-keyed, key-keeps, key-leaves}
 use Rattle.finding.specs.Filling.{filled_more}
 use native.Mathlib.Omega.{arith}
-use borrow.Author.Rules.{rules}
 use Rattle.finding.proofs.refine.split_keys.Invariants.{Leaving}
 use Rattle.finding.proofs.refine.split_keys.Goals as goal
 use Rattle.finding.proofs.refine.split_keys.Goals.{else-key-ge256, then-key-ge256}
@@ -32,41 +30,44 @@ loop-s-init c = (
 
 pub split_key-key-requires : goal.split_key-key-requires
 split_key-key-requires c =
-    let at-loop = c in
-    let start = at-loop in
-    let s = at-loop.loop-s.s in
+    let s = c.loop-s.s in
     let more = c.loop-s-test.true in
-    let rows = start.requires.0.rows in
-    let first = class_at start.args.classes.now s in
-    (row-lent rows s more, row-lent rows first (omega (arith, start.requires.1.at_most s more)), start.requires.0.flags-room)
+    let rows = c.requires.0.rows in
+    let first = class_at c.args.classes.now s in
+    (row-lent rows s more, row-lent rows first (omega (arith, c.requires.1.at_most s more)), c.requires.0.flags-room)
 
 pub loop-s-preserved : goal.loop-s-preserved
 loop-s-preserved c =
-    let at-loop = c in
-    let start = at-loop in
-    let a = start.args in
-    let l = at-loop.loop-s in
+    let a = c.args in
+    let l = c.loop-s in
     let key = c.split_key-key.result in
-    let room : l.s < length l.keys = omega (arith, l.invariant.1, c.loop-s-test.true, start.requires.0.rows.most) in (
+    let room : l.s < length l.keys = omega (arith, l.invariant.1, c.loop-s-test.true, c.requires.0.rows.most) in (
       omega arith,
       length-set l.keys l.s key ∙ l.invariant.1,
       filled_more (SplitKey a.table.now a.flags.now a.lists a.classes.now) l.keys l.s key room l.invariant.2
           c.split_key-key.ensures,
-      λ f. (elim c.if-key-ge256.branch [ then-key-ge256 w ↦ leaving-here l.keys l.s key room w.if-key-ge256.true | else-key-ge256 w ↦ leaving-more l.keys l.s key (l.invariant.3 (sym w.leaves-is ∙ f)) ]),
+      λ f. (elim c.if-key-ge256.branch [
+        | then-key-ge256 w ↦ leaving-here l.keys l.s key room w.if-key-ge256.true
+        | else-key-ge256 w ↦ leaving-more l.keys l.s key (l.invariant.3 (sym w.leaves-is ∙ f))
+      ]),
       λ f. filled_more (λ q n. n < 256) l.keys l.s key room
-          ((elim c.if-key-ge256.branch [ then-key-ge256 w ↦ absurd (true≢false (sym w.leaves-is ∙ f)) | else-key-ge256 w ↦ l.invariant.4 (sym w.leaves-is ∙ f) ]))
-          ((elim c.if-key-ge256.branch [ then-key-ge256 w ↦ absurd (true≢false (sym w.leaves-is ∙ f)) | else-key-ge256 w ↦ w.if-key-ge256.false ])),
+          (elim c.if-key-ge256.branch [
+            | then-key-ge256 w ↦ absurd (true≢false (sym w.leaves-is ∙ f))
+            | else-key-ge256 w ↦ l.invariant.4 (sym w.leaves-is ∙ f)
+          ])
+          (elim c.if-key-ge256.branch [
+            | then-key-ge256 w ↦ absurd (true≢false (sym w.leaves-is ∙ f))
+            | else-key-ge256 w ↦ w.if-key-ge256.false
+          ]),
     )
 
 pub returns : goal.returns
 returns c =
-    let at-loop = c in
-    let start = at-loop in
-    let a = start.args in
-    let i = at-loop.loop-s.invariant in
-    let T = start.requires.0 in
-    let L = start.requires.1 in
-    let keys = at-loop.loop-s.keys in
+    let a = c.args in
+    let i = c.loop-s.invariant in
+    let T = c.requires.0 in
+    let L = c.requires.1 in
+    let keys = c.loop-s.keys in
     let all : (q : ℕ) → q < a.states → SplitKey a.table.now a.flags.now a.lists a.classes.now q (key_at keys q) =
     λ q h. i.2 q (omega arith) in
     record {

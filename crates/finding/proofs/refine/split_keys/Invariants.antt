@@ -1,17 +1,6 @@
 -- The loop's invariant: the keys of the states below s are stored, and it is told whether one of them leaves its class.
-use Rattle.std.specs.Prelude.{◌≡◌, ℕ, ◌+◌, ◌-◌, ◌<◌, ◌≤◌, true, false, List, length, set}
-use mathlib.Core.Bool.{true≢false, false≢true}
-use mathlib.Core.Logic.{⊎_elim}
-use mathlib.Core.Path.{sym, ◌∙◌}
-use lib.ListN.{length-set}
-use lib.Seq.{get_or-set_same, get_or-set_other}
-use Rattle.theory.specs.Refinement.{class_at}
-use Rattle.finding.specs.TableLent.{row-lent}
+use Rattle.std.specs.Prelude.{◌≡◌, ℕ, ◌-◌, ◌<◌, ◌≤◌, true, false, List, length}
 use Rattle.finding.specs.ClassesTold.{key_at, SplitKey}
-use Rattle.finding.specs.ClassesLaws.{rows_alike, split-keyed, key-keeps, key-leaves}
-use Rattle.finding.specs.Filling.{filled_more}
-use native.Mathlib.Omega.{arith}
-use borrow.Author.Rules.{rules}
 use Rattle.finding.proofs.refine.split_keys.Given as goal
 
 -- Some state below s leaves its class.

@@ -1,7 +1,6 @@
 -- `flag` meets its contract: past the flags there is nothing, which counts as 0.
 use mathlib.Core.Path.{sym}
 use lib.ListN.{get_or-eq_default}
-use borrow.Author.Rules.{rules}
 use Rattle.finding.proofs.rewriting.flag.Goals as goal
 
 pub returns-else-at-flags : goal.returns-else-at-flags

@@ -1,7 +1,6 @@
 -- `next_state` meets its contract: past the table there is nothing, which counts as 0.
 use mathlib.Core.Path.{sym}
 use lib.ListN.{get_or-eq_default}
-use borrow.Author.Rules.{rules}
 use Rattle.finding.proofs.rewriting.next_state.Goals as goal
 
 pub returns-else-at-table : goal.returns-else-at-table

@@ -1,4 +1,4 @@
-use Rattle.std.specs.Prelude.{◌≡◌, ◌+◌, ◌-◌, ◌*◌, ◌%◌, ◌^◌, ◌≤◌, length, set}
+use Rattle.std.specs.Prelude.{◌≡◌, ◌+◌, ◌*◌, ◌%◌, ◌^◌, set}
 use mathlib.Core.Path.{refl, sym, ◌∙◌, subst}
 use lib.Dec.{lit<}
 use lib.ListN.{length-set}
@@ -8,7 +8,6 @@ use Rattle.finding.specs.MoveTable.{row_within}
 use Rattle.finding.specs.Sources.{Begun}
 use Rattle.finding.specs.SourcesSearch.{begun-none, begun_more}
 use native.Mathlib.Omega.{arith}
-use borrow.Author.Rules.{rules}
 use Rattle.finding.proofs.sources.begin.Goals as goal
 
 pub overflow_mul-count : goal.overflow_mul-count
@@ -16,19 +15,17 @@ overflow_mul-count c = omega (arith, c.requires.2)
 
 pub loop-i-init : goal.loop-i-init
 loop-i-init c =
-    let start = c in
-    let x = start.args in (
+    let x = c.args in (
       omega arith,
       refl,
-      subst (λ l. Begun x.count 0 x.places l 0) (sym (c.clear_words.ensures.enough start.requires.2))
+      subst (λ l. Begun x.count 0 x.places l 0) (sym (c.clear_words.ensures.enough c.requires.2))
           (begun-none x.count x.places x.from.now),
     )
 
 pub bounds-from-i : goal.bounds-from-i
 bounds-from-i c =
-    let start = c in
-    let x = start.args in
-    let p = start.requires in
+    let x = c.args in
+    let p = c.requires in
     omega (
       arith,
       c.loop-i.invariant.1,
@@ -39,10 +36,9 @@ bounds-from-i c =
 
 pub loop-i-preserved : goal.loop-i-preserved
 loop-i-preserved c =
-    let start = c in
     let l = c.loop-i in
-    let x = start.args in
-    let p = start.requires in
+    let x = c.args in
+    let p = c.requires in
     let bit : 1 * 2 ^ l.i % 2 ^ 64 ≡ one l.i = shl_exact {a = 1} 1 l.i 64 (lit< tt) (omega arith) ∙ omega arith in (
       omega arith,
       length-set l.from l.i (1 * 2 ^ l.i % 2 ^ 64) ∙ l.invariant.1,

@@ -1,9 +1,8 @@
-use Rattle.std.specs.Prelude.{◌≡◌, ℕ, zero, suc, ◌+◌, ◌-◌, ◌<◌, ◌≤◌, List, [], ◌∷◌, get_or, set}
+use Rattle.std.specs.Prelude.{◌≡◌, ℕ, zero, suc, ◌+◌, ◌<◌, List, [], ◌∷◌, get_or, set}
 use mathlib.Core.Path.{refl, ap, ◌∙◌}
 use native.Mathlib.Decide.{ℕ_discrete}
 use native.Mathlib.Omega.{arith}
 use lib.Seq.{get_or-set_other}
-use borrow.Author.Rules.{rules}
 use Rattle.finding.specs.Padded.{cleared-zero}
 use Rattle.finding.proofs.sources.clear_moved.Goals as goal
 
@@ -22,10 +21,9 @@ zero_more l i h t b = go (ℕ_discrete t i)
 
 pub returns-then-count-gt16 : goal.returns-then-count-gt16
 returns-then-count-gt16 c =
-    let start = c in
     λ t h.
-    ap (λ l. get_or l t 0) (c.clear_words.ensures.enough (omega (arith, start.requires, c.clear_words-arg-1.given)))
-    ∙ cleared-zero start.args.count t _ h
+    ap (λ l. get_or l t 0) (c.clear_words.ensures.enough (omega arith))
+    ∙ cleared-zero c.args.count t _ h
 
 pub loop-i-init : goal.loop-i-init
 loop-i-init c = (omega arith, λ t h. absurd (omega arith))

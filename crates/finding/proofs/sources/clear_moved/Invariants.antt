@@ -1,11 +1,5 @@
 -- The loop's invariant: the first i words are zeros.
-use Rattle.std.specs.Prelude.{◌≡◌, ℕ, zero, suc, ◌+◌, ◌-◌, ◌<◌, ◌≤◌, List, [], ◌∷◌, get_or, set}
-use mathlib.Core.Path.{refl, ap, ◌∙◌}
-use native.Mathlib.Decide.{ℕ_discrete}
-use native.Mathlib.Omega.{arith}
-use lib.Seq.{get_or-set_other}
-use borrow.Author.Rules.{rules}
-use Rattle.finding.specs.Padded.{cleared-zero}
+use Rattle.std.specs.Prelude.{◌≡◌, ℕ, ◌-◌, ◌<◌, ◌≤◌, get_or}
 use Rattle.finding.proofs.sources.clear_moved.Given as goal
 
 abbrev pub invariant-loop-i : goal.invariant-loop-i

@@ -1,26 +1,24 @@
-use Rattle.std.specs.Prelude.{◌≡◌, ℕ, ◌^◌, ◌<◌, List, length, set}
+use Rattle.std.specs.Prelude.{ℕ, List, length, set}
 use mathlib.Core.Path.{refl, sym, ap, ◌∙◌, subst}
 use lib.Count.{count_trailing_zeros, trailing_le}
 use lib.ListN.{length-set}
 use Rattle.places.specs.Followed.{least-small}
 use Rattle.finding.specs.ImageSearch.{tables}
-use Rattle.finding.specs.Sources.{sources, left, Searching}
+use Rattle.finding.specs.Sources.{sources, Searching}
 use Rattle.finding.specs.SourcesSearch.{searching-first, searching-turn, searching-less, taken-below, taken-standings, none-pending, searched}
 use native.Mathlib.Omega.{arith}
-use borrow.Author.Rules.{rules}
 use Rattle.finding.proofs.sources.find_sources.Goals as goal
 
 pub loop-waiting-init : goal.loop-waiting-init
 loop-waiting-init c =
-    let start = c in
-    let x = start.args in
+    let x = c.args in
     let D = tables x.moves.now x.count x.labels x.follow.now x.enter.now in
     let b = c.begin in (
       omega arith,
-      length-set x.pending.now 0 _ ∙ ap length start.requires.3,
+      length-set x.pending.now 0 _ ∙ ap length c.requires.3,
       refl,
-      subst (λ (z : List ℕ). Searching D (length x.follow.now) (sources b.new.from (set z 0 b.result) 1)) (sym start.requires.3)
-          (searching-first D (length x.follow.now) 64 _ b.result start.requires.1 (omega arith) b.ensures),
+      subst (λ (z : List ℕ). Searching D (length x.follow.now) (sources b.new.from (set z 0 b.result) 1)) (sym c.requires.3)
+          (searching-first D (length x.follow.now) 64 _ b.result c.requires.1 (omega arith) b.ensures),
     )
 
 pub overflow_cast-p : goal.overflow_cast-p
@@ -42,15 +40,14 @@ bounds-pending-p c = let l = c.loop-waiting in least-small l.waiting c.loop-wait
 
 pub follow_labels-waiting-requires : goal.follow_labels-waiting-requires
 follow_labels-waiting-requires c =
-    let start = c in
     let l = c.loop-waiting in
-    let x = start.args in
+    let x = c.args in
     let D = tables x.moves.now x.count x.labels x.follow.now x.enter.now in
     let X = sources l.from l.pending l.waiting in (
-      start.requires.0,
+      c.requires.0,
       taken-below D (length x.follow.now) X c.loop-waiting-test.true l.invariant.0 l.invariant.3,
       taken-standings D (length x.follow.now) X l.invariant.3 (count_trailing_zeros 64 l.waiting),
-      omega (arith, l.invariant.2, c.begin.auto.from, start.requires.2),
+      omega (arith, l.invariant.2, c.begin.auto.from, c.requires.2),
     )
 
 pub loop-waiting-smaller : goal.loop-waiting-smaller
@@ -80,8 +77,11 @@ loop-waiting-preserved c =
 
 pub returns : goal.returns
 returns c =
-    let start = c in
     let l = c.loop-waiting in
-    let x = start.args in
+    let x = c.args in
     let D = tables x.moves.now x.count x.labels x.follow.now x.enter.now in
-    let X = sources l.from l.pending l.waiting in record { searched = searched D (length x.follow.now) X start.requires.1 c.loop-waiting-test.false l.invariant.3; cleared = none-pending D (length x.follow.now) 64 X l.invariant.1 c.loop-waiting-test.false l.invariant.3 }
+    let X = sources l.from l.pending l.waiting in
+    record {
+      searched = searched D (length x.follow.now) X c.requires.1 c.loop-waiting-test.false l.invariant.3;
+      cleared = none-pending D (length x.follow.now) 64 X l.invariant.1 c.loop-waiting-test.false l.invariant.3;
+    }

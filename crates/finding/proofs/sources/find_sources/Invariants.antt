@@ -1,15 +1,8 @@
 -- The loop's invariant: what is found is reached, and all labels of what is found and not pending are followed (Sources, Searching). A turn
 -- takes a waiting place, and a place comes to wait only where a source is added.
-use Rattle.std.specs.Prelude.{◌≡◌, ℕ, ◌^◌, ◌<◌, List, length, set}
-use mathlib.Core.Path.{refl, sym, ap, ◌∙◌, subst}
-use lib.Count.{count_trailing_zeros, trailing_le}
-use lib.ListN.{length-set}
-use Rattle.places.specs.Followed.{least-small}
+use Rattle.std.specs.Prelude.{◌≡◌, ◌^◌, ◌<◌, length}
 use Rattle.finding.specs.ImageSearch.{tables}
 use Rattle.finding.specs.Sources.{sources, left, Searching}
-use Rattle.finding.specs.SourcesSearch.{searching-first, searching-turn, searching-less, taken-below, taken-standings, none-pending, searched}
-use native.Mathlib.Omega.{arith}
-use borrow.Author.Rules.{rules}
 use Rattle.finding.proofs.sources.find_sources.Given as goal
 
 abbrev pub invariant-loop-waiting : goal.invariant-loop-waiting

@@ -1,10 +1,9 @@
-use Rattle.std.specs.Prelude.{◌≡◌, ℕ, ◌-◌, ◌≤◌, length}
+use Rattle.std.specs.Prelude.{◌≡◌, ℕ, length}
 use mathlib.Core.Path.{subst}
 use Rattle.theory.specs.Places.{Member}
 use Rattle.finding.specs.Sources.{sources, Followed, Labelled}
 use Rattle.finding.specs.SourcesLaws.{followed-none, followed_then, label-next}
 use native.Mathlib.Omega.{arith}
-use borrow.Author.Rules.{rules}
 use Rattle.finding.proofs.sources.follow_labels.Goals as goal
 
 pub loop-a-init : goal.loop-a-init

@@ -1,11 +1,7 @@
 -- The loop's invariant: the labels passed are followed.
-use Rattle.std.specs.Prelude.{◌≡◌, ℕ, ◌-◌, ◌≤◌, length}
-use mathlib.Core.Path.{subst}
+use Rattle.std.specs.Prelude.{◌-◌, ◌≤◌, length}
 use Rattle.theory.specs.Places.{Member}
 use Rattle.finding.specs.Sources.{sources, Followed, Labelled}
-use Rattle.finding.specs.SourcesLaws.{followed-none, followed_then, label-next}
-use native.Mathlib.Omega.{arith}
-use borrow.Author.Rules.{rules}
 use Rattle.finding.proofs.sources.follow_labels.Given as goal
 
 abbrev pub invariant-loop-a : goal.invariant-loop-a

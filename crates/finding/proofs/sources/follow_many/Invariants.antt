@@ -1,16 +1,9 @@
 -- The loop's invariant: the places passed have got what the label brings. The measure is the places left.
-use Rattle.std.specs.Prelude.{ℕ, ◌-◌, ◌^◌, ◌<◌}
-use mathlib.Core.Logic.{⊎_elim}
-use lib.Bits.{and_le_r}
-use lib.Count.{trailing_le}
+use Rattle.std.specs.Prelude.{ℕ, ◌^◌, ◌<◌}
 use Rattle.theory.specs.Places.{Member}
-use Rattle.places.specs.Followed.{Passed, passed_none, passed-all, rest-within, least-small}
-use Rattle.finding.specs.MoveTable.{row_within}
+use Rattle.places.specs.Followed.{Passed}
 use Rattle.finding.specs.Sources.{sources, Gained}
-use Rattle.finding.specs.SourcesLaws.{sources-as, gained-start, followed_same}
-use Rattle.finding.specs.SourcesBrought.{Given, followed-given, place_in, place_out}
-use native.Mathlib.Omega.{arith}
-use borrow.Author.Rules.{rules}
+use Rattle.finding.specs.SourcesBrought.{Given}
 use Rattle.finding.proofs.sources.follow_many.Given as goal
 
 abbrev pub invariant-loop-rest : goal.invariant-loop-rest

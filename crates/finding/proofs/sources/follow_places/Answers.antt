@@ -10,7 +10,6 @@ use Rattle.finding.specs.Sources.{sources}
 use Rattle.finding.specs.SourcesLaws.{followed-none, followed_same}
 use Rattle.finding.specs.SourcesBrought.{one_place}
 use native.Mathlib.Omega.{arith}
-use borrow.Author.Rules.{rules}
 use Rattle.finding.proofs.sources.follow_places.Goals as goal
 
 pub returns-then-entered-eq0 : goal.returns-then-entered-eq0
@@ -24,12 +23,11 @@ overflow_cast-next c = omega (arith, trailing_le 64 c.args.entered)
 
 pub follow_standings-requires : goal.follow_standings-requires
 follow_standings-requires c =
-    let start = c in
-    let x = start.args in
-    let p = start.requires in (
+    let x = c.args in
+    let p = c.requires in (
       p.0,
       p.1,
-      least-small x.entered c.if-entered-eq0.false start.ranges.entered.fits,
+      least-small x.entered c.if-entered-eq0.false c.ranges.entered.fits,
       p.3,
       omega (arith, p.4, row_within x.count x.p x.places p.2),
       omega (arith, p.4, row_within x.count _ x.places c.if-next-places.true),
@@ -37,9 +35,8 @@ follow_standings-requires c =
 
 pub returns-then-next-places : goal.returns-then-next-places
 returns-then-next-places c =
-    let start = c in
-    let x = start.args in
-    let alone = one_place x.entered c.if-entered-eq0.false start.ranges.entered.fits
+    let x = c.args in
+    let alone = one_place x.entered c.if-entered-eq0.false c.ranges.entered.fits
     c.if-entered-ne0.false in
     let low = c.if-next-places.true in
     followed_same c.follow_standings.ensures (λ u v. (
@@ -49,8 +46,7 @@ returns-then-next-places c =
 
 pub returns : goal.returns
 returns c =
-    let start = c in
-    let x = start.args in
-    let alone = one_place x.entered c.if-entered-eq0.false start.ranges.entered.fits c.if-entered-ne0.false in
+    let x = c.args in
+    let alone = one_place x.entered c.if-entered-eq0.false c.ranges.entered.fits c.if-entered-ne0.false in
     followed-none (sources x.from.now x.pending.now x.waiting)
     (λ u v m. omega (arith, c.if-next-places.false, (alone v.1).0 m.2.0, m.2.1))

@@ -1,16 +1,14 @@
-use Rattle.std.specs.Prelude.{◌≡◌, ℕ, ◌-◌, ◌*◌, ◌%◌, ◌^◌, ◌<◌, length}
-use mathlib.Core.Logic.{⊎_elim}
+use Rattle.std.specs.Prelude.{◌≡◌, ◌-◌, ◌*◌, ◌%◌, ◌^◌, length}
 use mathlib.Core.Path.{refl, sym, ap, ◌∙◌, subst}
 use lib.Bits.{and_le_r}
 use lib.Count.{trailing_le}
-use Rattle.theory.specs.Places.{Member, union}
+use Rattle.theory.specs.Places.{union}
 use Rattle.places.specs.NextPlace.{trailing-here}
-use Rattle.places.specs.Followed.{Passed, passed_none, passed-all, rest-within, least-small}
-use Rattle.finding.specs.Sources.{sources, gain_of, gathered, Followed, Moved}
+use Rattle.places.specs.Followed.{passed_none, passed-all, rest-within, least-small}
+use Rattle.finding.specs.Sources.{sources, gain_of, Followed}
 use Rattle.finding.specs.SourcesLaws.{followed-none, followed_same, followed_then, sources-as, standing-in, standing-out}
 use Rattle.finding.specs.SourcesGathered.{gain-up, gathered_none, gathered-as}
 use native.Mathlib.Omega.{arith}
-use borrow.Author.Rules.{rules}
 use Rattle.finding.proofs.sources.follow_standings.Goals as goal
 use Rattle.finding.proofs.sources.follow_standings.Goals.{else-to-count, then-to-count}
 
@@ -58,20 +56,25 @@ loop-rest-smaller c =
 pub loop-rest-preserved : goal.loop-rest-preserved
 loop-rest-preserved c =
     let l = c.loop-rest in
-    let start = c in
-    let x = start.args in
+    let x = c.args in
     let d = c.loop-rest-test.true in
     let to = c.wide-to in (
       omega (arith, l.invariant.0, and_le_r l.rest (l.rest - 1)),
       rest-within x.taken l.rest l.invariant.1 d l.invariant.0,
-      (elim c.if-to-count.branch [ then-to-count w ↦ omega (arith, ap length w.from-is, w.from-1.given, l.invariant.2) | else-to-count w ↦ ap length w.from-is ∙ l.invariant.2 ]),
-      λ slots. (elim c.if-to-count.branch [ then-to-count w ↦ gathered-as (Followed _ _ _) x.pending.now x.waiting x.next w.from-is w.added-is
-          (followed_then (l.invariant.3 slots) (w.pass_on-added.ensures x.pending.now x.waiting slots start.ranges.waiting.fits)
-          (standing-in x.moves.now x.count x.a x.p x.next x.taken l.rest l.invariant.1 d l.invariant.0 to.result
-          to.ensures.0 w.if-to-count.true)) | else-to-count w ↦ gathered-as (Followed _ _ _) x.pending.now x.waiting x.next w.from-is w.added-is
-          (followed_same (l.invariant.3 slots)
-          (standing-out x.moves.now x.count x.a x.p x.next x.taken l.rest l.invariant.1 d l.invariant.0
-          (omega (arith, w.if-to-count.false, to.ensures.0)))) ]),
+      (elim c.if-to-count.branch [
+        | then-to-count w ↦ omega (arith, ap length w.from-is, l.invariant.2)
+        | else-to-count w ↦ ap length w.from-is ∙ l.invariant.2
+      ]),
+      λ slots. (elim c.if-to-count.branch [
+        | then-to-count w ↦ gathered-as (Followed _ _ _) x.pending.now x.waiting x.next w.from-is w.added-is
+            (followed_then (l.invariant.3 slots) (w.pass_on-added.ensures x.pending.now x.waiting slots c.ranges.waiting.fits)
+            (standing-in x.moves.now x.count x.a x.p x.next x.taken l.rest l.invariant.1 d l.invariant.0 to.result
+            to.ensures.0 w.if-to-count.true))
+        | else-to-count w ↦ gathered-as (Followed _ _ _) x.pending.now x.waiting x.next w.from-is w.added-is
+            (followed_same (l.invariant.3 slots)
+            (standing-out x.moves.now x.count x.a x.p x.next x.taken l.rest l.invariant.1 d l.invariant.0
+            (omega (arith, w.if-to-count.false, to.ensures.0))))
+      ]),
     )
 
 pub returns : goal.returns
@@ -81,7 +84,7 @@ returns c =
     let e : c.gain.result * 2 ^ x.next % 2 ^ 64 ≡ gain_of 0 l.added * 2 ^ x.next =
     ap (λ g. g * 2 ^ x.next % 2 ^ 64) c.gain.ensures ∙ gain-up 0 l.added x.next (omega arith) in
     sources-as (Followed _ _ _) refl refl (ap (union x.waiting) e)
-    (followed_same (l.invariant.3 (omega (arith, c.held-2-1.given))) (λ u v. (
+    (followed_same (l.invariant.3 (omega arith)) (λ u v. (
       λ (e, t, n, m, b). (e, (passed-all x.taken l.rest c.loop-rest-test.false u.0).1 t, n, m, b),
       λ (e, t, n, m, b). (e, (passed-all x.taken l.rest c.loop-rest-test.false u.0).0 t, n, m, b),
     )))

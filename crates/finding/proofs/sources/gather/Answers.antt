@@ -1,13 +1,12 @@
-use Rattle.std.specs.Prelude.{◌≡◌, ℕ, ◌-◌, ◌*◌, ◌%◌, ◌^◌, ◌<◌}
-use mathlib.Core.Logic.{⊎_elim}
+use Rattle.std.specs.Prelude.{◌≡◌, ◌-◌, ◌*◌, ◌%◌, ◌^◌, ◌<◌}
 use mathlib.Core.Path.{ap, ◌∙◌}
 use lib.Bits.{and_le_r}
 use lib.Count.{count_trailing_zeros, trailing_le}
 use lib.Dec.{lit<}
 use lib.Pow.{shl_exact}
-use Rattle.theory.specs.Places.{Member, one, union}
-use Rattle.places.specs.Followed.{Passed, passed_none, passed-turn, passed-all, rest-within, least-small}
-use Rattle.finding.specs.SourcesBrought.{Brought, brought-none, brought-same, brought-as, brought-out, brought-more, least-standing}
+use Rattle.theory.specs.Places.{one, union}
+use Rattle.places.specs.Followed.{passed_none, passed-turn, passed-all, rest-within, least-small}
+use Rattle.finding.specs.SourcesBrought.{brought-none, brought-same, brought-as, brought-out, brought-more, least-standing}
 use native.Mathlib.Omega.{arith}
 use borrow.Author.Rules.{rules}
 use Rattle.finding.proofs.sources.gather.Goals as goal
@@ -37,35 +36,27 @@ bounds-moves-s c =
 
 pub bounds-held-to : goal.bounds-held-to
 bounds-held-to c =
-    omega (
-      arith,
-      c.held-then-to-count-1.given,
-      c.if-to-count.true,
-      c.requires.0,
-    )
+    omega arith
 
 pub overflow_add-moved : goal.overflow_add-moved
 overflow_add-moved c =
     let l = c.loop-rest in
-    let start = c in
-    let p = start.requires in
-    let s = least-standing start.args.count start.args.taken l.rest p.2 l.invariant.1 c.loop-rest-test.true l.invariant.0 in
+    let p = c.requires in
+    let s = least-standing c.args.count c.args.taken l.rest p.2 l.invariant.1 c.loop-rest-test.true l.invariant.0 in
     search rules
 
 pub offset_bounds-from-count : goal.offset_bounds-from-count
 offset_bounds-from-count c =
     let l = c.loop-rest in
-    let start = c in
-    let p = start.requires in
-    let s = least-standing start.args.count start.args.taken l.rest p.2 l.invariant.1 c.loop-rest-test.true l.invariant.0 in
+    let p = c.requires in
+    let s = least-standing c.args.count c.args.taken l.rest p.2 l.invariant.1 c.loop-rest-test.true l.invariant.0 in
     search rules
 
 pub bounds-from-count : goal.bounds-from-count
 bounds-from-count c =
     let l = c.loop-rest in
-    let start = c in
-    let p = start.requires in
-    let s = least-standing start.args.count start.args.taken l.rest p.2 l.invariant.1 c.loop-rest-test.true l.invariant.0 in
+    let p = c.requires in
+    let s = least-standing c.args.count c.args.taken l.rest p.2 l.invariant.1 c.loop-rest-test.true l.invariant.0 in
     omega (arith, p.3)
 
 pub bounds-moved-to : goal.bounds-moved-to
@@ -92,9 +83,8 @@ loop-rest-smaller c =
 pub loop-rest-preserved : goal.loop-rest-preserved
 loop-rest-preserved c =
     let l = c.loop-rest in
-    let start = c in
-    let x = start.args in
-    let p = start.requires in
+    let x = c.args in
+    let p = c.requires in
     let d = c.loop-rest-test.true in
     let to = c.wide-to in
     let s = count_trailing_zeros 64 l.rest in
@@ -103,11 +93,14 @@ loop-rest-preserved c =
     λ h. shl_exact {a = 1} 1 to.result 64 (lit< tt) (omega arith) ∙ omega arith in (
       omega (arith, l.invariant.0, and_le_r l.rest (l.rest - 1)),
       rest-within x.taken l.rest l.invariant.1 d l.invariant.0,
-      (elim c.if-to-count.branch [ then-to-count w ↦ brought-as w.moved-is (w.met-is ∙ ap (union l.met) (bit (omega (arith, w.if-to-count.true, p.0))))
-          (brought-more x.moves.now x.count x.a x.p x.from.now s turn l.moved l.met l.invariant.2 to.result
-          to.ensures.0 w.if-to-count.true (omega (arith, w.if-to-count.true, p.0, w.held-then-to-count-1.given))) | else-to-count w ↦ brought-as w.moved-is w.met-is
-          (brought-out x.moves.now x.count x.a x.p x.from.now s turn l.moved l.met l.invariant.2
-          (omega (arith, w.if-to-count.false, to.ensures.0))) ]),
+      (elim c.if-to-count.branch [
+        | then-to-count w ↦ brought-as w.moved-is (w.met-is ∙ ap (union l.met) (bit (omega (arith, w.if-to-count.true, p.0))))
+            (brought-more x.moves.now x.count x.a x.p x.from.now s turn l.moved l.met l.invariant.2 to.result
+            to.ensures.0 w.if-to-count.true (omega (arith, w.if-to-count.true, p.0)))
+        | else-to-count w ↦ brought-as w.moved-is w.met-is
+            (brought-out x.moves.now x.count x.a x.p x.from.now s turn l.moved l.met l.invariant.2
+            (omega (arith, w.if-to-count.false, to.ensures.0)))
+      ]),
     )
 
 pub returns : goal.returns

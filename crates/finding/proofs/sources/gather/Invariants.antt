@@ -1,17 +1,9 @@
 -- The loop's invariant: `moved` and `met` have what the label brings from the standings passed. The measure is the standings left. That
 -- `moved` has 64 words is known where it is lent whole.
-use Rattle.std.specs.Prelude.{◌≡◌, ℕ, ◌-◌, ◌*◌, ◌%◌, ◌^◌, ◌<◌}
-use mathlib.Core.Logic.{⊎_elim}
-use mathlib.Core.Path.{ap, ◌∙◌}
-use lib.Bits.{and_le_r}
-use lib.Count.{count_trailing_zeros, trailing_le}
-use lib.Dec.{lit<}
-use lib.Pow.{shl_exact}
-use Rattle.theory.specs.Places.{Member, one, union}
-use Rattle.places.specs.Followed.{Passed, passed_none, passed-turn, passed-all, rest-within, least-small}
-use Rattle.finding.specs.SourcesBrought.{Brought, brought-none, brought-same, brought-as, brought-out, brought-more, least-standing}
-use native.Mathlib.Omega.{arith}
-use borrow.Author.Rules.{rules}
+use Rattle.std.specs.Prelude.{ℕ, ◌^◌, ◌<◌}
+use Rattle.theory.specs.Places.{Member}
+use Rattle.places.specs.Followed.{Passed}
+use Rattle.finding.specs.SourcesBrought.{Brought}
 use Rattle.finding.proofs.sources.gather.Given as goal
 
 abbrev pub invariant-loop-rest : goal.invariant-loop-rest

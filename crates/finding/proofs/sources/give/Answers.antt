@@ -1,14 +1,14 @@
-use Rattle.std.specs.Prelude.{◌≡◌, ℕ, ◌+◌, ◌-◌, ◌*◌, ◌%◌, ◌^◌, ◌<◌, length, get_or}
+use Rattle.std.specs.Prelude.{◌≡◌, ◌+◌, ◌-◌, ◌*◌, ◌%◌, ◌^◌, get_or}
 use mathlib.Core.Path.{refl, sym, ap, ◌∙◌, subst}
 use lib.Bits.{and_le_r}
 use lib.Count.{count_trailing_zeros, trailing_le}
 use lib.ListN.{length-set}
-use Rattle.theory.specs.Places.{Member, union}
-use Rattle.places.specs.Followed.{Passed, passed_none, passed-all, rest-within, least-small}
-use Rattle.finding.specs.Sources.{sources, gain_of, gathered, Gained}
+use Rattle.theory.specs.Places.{union}
+use Rattle.places.specs.Followed.{passed_none, passed-all, rest-within, least-small}
+use Rattle.finding.specs.Sources.{sources, gain_of, Gained}
 use Rattle.finding.specs.SourcesLaws.{sources-as, gained-start, gained-same, gained-then}
 use Rattle.finding.specs.SourcesGathered.{gain-up, gathered_none, gathered-as, gathered-more}
-use Rattle.finding.specs.SourcesBrought.{Given, least-standing, standing-given}
+use Rattle.finding.specs.SourcesBrought.{least-standing, standing-given}
 use native.Mathlib.Omega.{arith}
 use borrow.Author.Rules.{rules}
 use Rattle.finding.proofs.sources.give.Goals as goal
@@ -29,25 +29,22 @@ overflow_cast-to c = omega (arith, trailing_le 64 c.loop-rest.rest)
 pub overflow_add-old : goal.overflow_add-old
 overflow_add-old c =
     let l = c.loop-rest in
-    let start = c in
-    let p = start.requires in
-    let to = least-standing start.args.count start.args.met l.rest p.2 l.invariant.1 c.loop-rest-test.true l.invariant.0 in
+    let p = c.requires in
+    let to = least-standing c.args.count c.args.met l.rest p.2 l.invariant.1 c.loop-rest-test.true l.invariant.0 in
     search rules
 
 pub offset_bounds-from-count : goal.offset_bounds-from-count
 offset_bounds-from-count c =
     let l = c.loop-rest in
-    let start = c in
-    let p = start.requires in
-    let to = least-standing start.args.count start.args.met l.rest p.2 l.invariant.1 c.loop-rest-test.true l.invariant.0 in
+    let p = c.requires in
+    let to = least-standing c.args.count c.args.met l.rest p.2 l.invariant.1 c.loop-rest-test.true l.invariant.0 in
     search rules
 
 pub bounds-from-count : goal.bounds-from-count
 bounds-from-count c =
     let l = c.loop-rest in
-    let start = c in
-    let p = start.requires in
-    let to = least-standing start.args.count start.args.met l.rest p.2 l.invariant.1 c.loop-rest-test.true l.invariant.0 in
+    let p = c.requires in
+    let to = least-standing c.args.count c.args.met l.rest p.2 l.invariant.1 c.loop-rest-test.true l.invariant.0 in
     omega (arith, l.invariant.2, p.3)
 
 pub offset_bounds-moved-to : goal.offset_bounds-moved-to
@@ -61,25 +58,22 @@ bounds-moved-to c =
 pub overflow_add-from : goal.overflow_add-from
 overflow_add-from c =
     let l = c.loop-rest in
-    let start = c in
-    let p = start.requires in
-    let to = least-standing start.args.count start.args.met l.rest p.2 l.invariant.1 c.loop-rest-test.true l.invariant.0 in
+    let p = c.requires in
+    let to = least-standing c.args.count c.args.met l.rest p.2 l.invariant.1 c.loop-rest-test.true l.invariant.0 in
     search rules
 
 pub offset_bounds-from-count-in-loop-rest : goal.offset_bounds-from-count-in-loop-rest
 offset_bounds-from-count-in-loop-rest c =
     let l = c.loop-rest in
-    let start = c in
-    let p = start.requires in
-    let to = least-standing start.args.count start.args.met l.rest p.2 l.invariant.1 c.loop-rest-test.true l.invariant.0 in
+    let p = c.requires in
+    let to = least-standing c.args.count c.args.met l.rest p.2 l.invariant.1 c.loop-rest-test.true l.invariant.0 in
     search rules
 
 pub bounds-from-count-in-loop-rest : goal.bounds-from-count-in-loop-rest
 bounds-from-count-in-loop-rest c =
     let l = c.loop-rest in
-    let start = c in
-    let p = start.requires in
-    let to = least-standing start.args.count start.args.met l.rest p.2 l.invariant.1 c.loop-rest-test.true l.invariant.0 in
+    let p = c.requires in
+    let to = least-standing c.args.count c.args.met l.rest p.2 l.invariant.1 c.loop-rest-test.true l.invariant.0 in
     omega (arith, l.invariant.2, p.3)
 
 pub overflow_shl-added : goal.overflow_shl-added
@@ -95,9 +89,8 @@ loop-rest-smaller c =
 pub loop-rest-preserved : goal.loop-rest-preserved
 loop-rest-preserved c =
     let l = c.loop-rest in
-    let start = c in
-    let x = start.args in
-    let p = start.requires in
+    let x = c.args in
+    let p = c.requires in
     let d = c.loop-rest-test.true in
     let to = count_trailing_zeros 64 l.rest in
     let below = least-standing x.count x.met l.rest p.2 l.invariant.1 d l.invariant.0 in
@@ -112,8 +105,8 @@ loop-rest-preserved c =
       λ slots. gathered-as (Gained _ _ _) x.pending.now x.waiting x.next refl (ap (union l.added) e)
           (gained-then (l.invariant.3 slots)
           (gathered-more x.count x.next to (get_or x.moved.now to 0) l.from x.pending.now x.waiting l.added below
-          (omega (arith, c.slice_known-in-loop-rest-1.given k)) (omega (arith, below, l.invariant.2, p.3)) (omega (arith, p.1, slots)) p.1
-          start.ranges.waiting.fits)
+          (omega arith) (omega (arith, below, l.invariant.2, p.3)) (omega (arith, p.1, slots)) p.1
+          c.ranges.waiting.fits)
           (standing-given x.met l.rest l.invariant.1 d l.invariant.0 x.moved.now x.next)),
     )
 
@@ -125,7 +118,7 @@ returns c =
     let e : c.gain-2.result * 2 ^ x.next % 2 ^ 64 ≡ gain_of 0 l.added * 2 ^ x.next =
     ap (λ g. g * 2 ^ x.next % 2 ^ 64) c.gain-2.ensures ∙ gain-up 0 l.added x.next (omega arith) in
     sources-as (Gained _ _ _) refl refl (ap (union x.waiting) e)
-    (gained-same (l.invariant.3 (omega (arith, c.held-2-1.given))) (λ v i. (
+    (gained-same (l.invariant.3 (omega arith)) (λ v i. (
       λ (n, t, m). (n, (passed-all x.met l.rest left v.0).1 t, m),
       λ (n, t, m). (n, (passed-all x.met l.rest left v.0).0 t, m),
     )))

@@ -6,14 +6,12 @@ use Rattle.finding.specs.Sources.{gain_of, gathered, Followed, Only}
 use Rattle.finding.specs.SourcesLaws.{followed-only}
 use Rattle.finding.specs.SourcesGathered.{gain-up, gathered-more}
 use native.Mathlib.Omega.{arith}
-use borrow.Author.Rules.{rules}
 use Rattle.finding.proofs.sources.pass_on.Goals as goal
 
 pub returns : goal.returns
 returns c pending waiting slots few =
-    let start = c in
-    let x = start.args in
-    let p = start.requires in
+    let x = c.args in
+    let p = c.requires in
     let k = x.count * x.next + x.to in
     let old = get_or x.from.now k 0 in
     let all = union old (get_or x.from.now (x.count * x.p + x.s) 0) in
@@ -25,4 +23,4 @@ returns c pending waiting slots few =
     (sym e)
     (followed-only p.2
     (gathered-more x.count x.next x.to (get_or x.from.now (x.count * x.p + x.s) 0) x.from.now pending waiting x.added p.3
-    (omega (arith, c.slice_known-2-1.given k)) (omega (arith, p.3, p.5)) (omega (arith, p.1, slots)) p.1 few))
+    (omega arith) (omega (arith, p.3, p.5)) (omega (arith, p.1, slots)) p.1 few))

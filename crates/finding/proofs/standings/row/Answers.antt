@@ -1,26 +1,23 @@
-use Rattle.std.specs.Prelude.{◌≡◌, ◌-◌, get_or, take}
-use mathlib.Core.Logic.{⊎_elim, inl, inr}
+use Rattle.std.specs.Prelude.{get_or, take}
+use mathlib.Core.Logic.{inl, inr}
 use mathlib.Core.Path.{ap}
 use lib.Seq.{length-take-le}
 use Rattle.theory.specs.Places.{intersection}
-use Rattle.theory.specs.Automaton.{nexts as reached, step}
+use Rattle.theory.specs.Automaton.{step}
 use Rattle.finding.specs.PlaceOfLaws.{place-within}
-use Rattle.finding.specs.NumberIndex.{Indexed}
 use Rattle.finding.specs.NumberIndexLaws.{indexed-more, indexed-as, indexed-all, indexed-over}
-use Rattle.finding.specs.StandingsExploring.{standing_task, RowLoop, row-begins, row_ends, loop-turn, loop-over}
+use Rattle.finding.specs.StandingsExploring.{row-begins, row_ends, loop-turn, loop-over}
 use native.Mathlib.Omega.{arith}
-use borrow.Author.Rules.{rules}
 use Rattle.finding.proofs.standings.row.Goals as goal
 use Rattle.finding.proofs.standings.row.Goals.{else-to-m, then-to-m+else-m-limit}
 
 pub loop-a-init : goal.loop-a-init
-loop-a-init c = let s = c in (c.follows-after.ensures, row-begins s.requires.0.within, s.requires.1)
+loop-a-init c = (c.follows-after.ensures, row-begins c.requires.0.within, c.requires.1)
 
 pub find_place-to-requires : goal.find_place-to-requires
 find_place-to-requires c =
-    let head = c in
-    let l = head.loop-a in
-    let p = head.requires.0 in (
+    let l = c.loop-a in
+    let p = c.requires.0 in (
       omega (arith, l.invariant.1.within, l.invariant.1.room, p.numbers),
       omega (arith, l.invariant.1.within, p.most),
       c.bucket-at.ensures,
@@ -29,44 +26,50 @@ find_place-to-requires c =
 
 pub overflow_cast-moves : goal.overflow_cast-moves
 overflow_cast-moves c =
-    let head = c in
-    let l = head.loop-a in
-    let entered = get_or head.args.enter.now l.a 0 in
-    let next = intersection head.follows-after.result.0 entered in
+    let l = c.loop-a in
+    let entered = get_or c.args.enter.now l.a 0 in
+    let next = intersection c.follows-after.result.0 entered in
     omega (arith, c.find_place-to.ensures, place-within next (take l.m l.found), length-take-le l.m l.found (omega arith))
 
 pub returns-then-m-limit : goal.returns-then-m-limit
 unfolding step
 returns-then-m-limit c =
-    let head = c in
-    let start = head in
-    let l = head.loop-a in
-    let p = start.requires.0 in
+    let l = c.loop-a in
+    let p = c.requires.0 in
     let more = c.loop-a-test.true in
-    let entered = get_or start.args.enter.now l.a 0 in
-    let f = c.find_place-to in record { row_told = loop-over l.invariant.1 more p.inside p.numbers p.row (omega (arith, more, p.inside, p.within, p.row, p.rows))
-          (intersection head.follows-after.result.0 entered) f.result
-          (ap (λ y. intersection y entered) l.invariant.0) f.ensures c.if-to-m.true (omega arith); indexed = indexed-over }
+    let entered = get_or c.args.enter.now l.a 0 in
+    let f = c.find_place-to in
+    record {
+      row_told = loop-over l.invariant.1 more p.inside p.numbers p.row (omega (arith, more, p.inside, p.within, p.row, p.rows))
+          (intersection c.follows-after.result.0 entered) f.result
+          (ap (λ y. intersection y entered) l.invariant.0) f.ensures c.if-to-m.true (omega arith);
+      indexed = indexed-over;
+    }
 
 pub loop-a-preserved : goal.loop-a-preserved
 unfolding step
 loop-a-preserved c =
-    let head = c in
-    let start = head in
-    let l = head.loop-a in
-    let p = start.requires.0 in
+    let l = c.loop-a in
+    let p = c.requires.0 in
     let more = c.loop-a-test.true in
-    let entered = get_or start.args.enter.now l.a 0 in
-    let next = intersection head.follows-after.result.0 entered in
+    let entered = get_or c.args.enter.now l.a 0 in
+    let next = intersection c.follows-after.result.0 entered in
     let f = c.find_place-to in (
       l.invariant.0,
       loop-turn l.invariant.1 more p.inside p.numbers p.row (omega (arith, more, p.inside, p.within, p.row, p.rows))
           next f.result (ap (λ y. intersection y entered) l.invariant.0) f.ensures c.if-to-m.m c.if-to-m.found
-          ((elim c.if-to-m.branch [ then-to-m+else-m-limit w ↦ inl (w.if-to-m.true, omega arith, w.found-is, w.m-is) | else-to-m w ↦ inr (w.if-to-m.false, w.found-is, w.m-is) ])),
-      (elim c.if-to-m.branch [ then-to-m+else-m-limit w ↦ indexed-as w.found-is w.heads-is w.nexts-is w.m-is
-          (indexed-more l.found l.m next _ _ _ _ _ c.bucket-at.ensures
-          (omega (arith, p.most, l.invariant.1.within)) (omega arith) (omega (arith, f.ensures, w.if-to-m.true)) l.invariant.2 w.note.ensures) | else-to-m w ↦ indexed-as w.found-is w.heads-is w.nexts-is w.m-is l.invariant.2 ]),
+          (elim c.if-to-m.branch [
+            | then-to-m+else-m-limit w ↦ inl (w.if-to-m.true, omega arith, w.found-is, w.m-is)
+            | else-to-m w ↦ inr (w.if-to-m.false, w.found-is, w.m-is)
+          ]),
+      (elim c.if-to-m.branch [
+        | then-to-m+else-m-limit w ↦ indexed-as w.found-is w.heads-is w.nexts-is w.m-is
+            (indexed-more l.found l.m next _ _ _ _ _ c.bucket-at.ensures
+            (omega (arith, p.most, l.invariant.1.within)) (omega arith) (omega (arith, f.ensures, w.if-to-m.true)) l.invariant.2 w.note.ensures)
+        | else-to-m w ↦ indexed-as w.found-is w.heads-is w.nexts-is w.m-is l.invariant.2
+      ]),
     )
 
 pub returns : goal.returns
-returns c = let l = c.loop-a in record { row_told = row_ends l.invariant.1 c.loop-a-test.false; indexed = indexed-all l.invariant.2 }
+returns c = let l = c.loop-a in
+    record { row_told = row_ends l.invariant.1 c.loop-a-test.false; indexed = indexed-all l.invariant.2 }

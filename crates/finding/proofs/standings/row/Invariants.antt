@@ -1,16 +1,8 @@
 -- The loop's invariant: the row from the label a on tells what the whole row tells (StandingsExploring, RowLoop).
-use Rattle.std.specs.Prelude.{◌≡◌, ◌-◌, get_or, take}
-use mathlib.Core.Logic.{⊎_elim, inl, inr}
-use mathlib.Core.Path.{ap}
-use lib.Seq.{length-take-le}
-use Rattle.theory.specs.Places.{intersection}
-use Rattle.theory.specs.Automaton.{nexts as reached, step}
-use Rattle.finding.specs.PlaceOfLaws.{place-within}
+use Rattle.std.specs.Prelude.{◌≡◌, ◌-◌, get_or}
+use Rattle.theory.specs.Automaton.{nexts as reached}
 use Rattle.finding.specs.NumberIndex.{Indexed}
-use Rattle.finding.specs.NumberIndexLaws.{indexed-more, indexed-as, indexed-all, indexed-over}
-use Rattle.finding.specs.StandingsExploring.{standing_task, RowLoop, row-begins, row_ends, loop-turn, loop-over}
-use native.Mathlib.Omega.{arith}
-use borrow.Author.Rules.{rules}
+use Rattle.finding.specs.StandingsExploring.{standing_task, RowLoop}
 use Rattle.finding.proofs.standings.row.Given as goal
 
 abbrev pub invariant-loop-a : goal.invariant-loop-a

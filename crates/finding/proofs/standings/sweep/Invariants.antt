@@ -1,13 +1,8 @@
 -- The loop's invariant: the sweep from the standing i on tells what the whole exploration tells (Exploring, SweepLeft).
-use Rattle.std.specs.Prelude.{◌≡◌, ◌-◌, ◌≤◌, length, set}
-use mathlib.Core.Path.{refl, ◌∙◌}
-use lib.ListN.{length-set}
+use Rattle.std.specs.Prelude.{◌≡◌, ◌-◌, ◌≤◌, length}
 use Rattle.finding.specs.NumberIndex.{Indexed}
-use Rattle.finding.specs.NumberIndexLaws.{indexed-first}
-use Rattle.finding.specs.Exploring.{SweepLeft, sweep-start, sweep-more, sweep-exceeds, all_found, outcome-all, outcome-over}
+use Rattle.finding.specs.Exploring.{SweepLeft}
 use Rattle.finding.specs.StandingsExploring.{standing_task, Alone}
-use native.Mathlib.Omega.{arith}
-use borrow.Author.Rules.{rules}
 use Rattle.finding.proofs.standings.sweep.Given as goal
 
 abbrev pub invariant-loop-i : goal.invariant-loop-i

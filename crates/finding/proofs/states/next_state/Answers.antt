@@ -3,7 +3,6 @@ use Rattle.std.specs.Prelude.{◌*◌, take, drop}
 use mathlib.Core.Path.{ap, ◌∙◌}
 use Rattle.theory.specs.Automaton.{nexts}
 use native.Mathlib.Nat.{add-sub_cancel_left}
-use borrow.Author.Rules.{rules}
 use Rattle.finding.proofs.states.next_state.Goals as goal
 
 pub returns : goal.returns

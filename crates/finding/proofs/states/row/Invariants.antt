@@ -1,11 +1,7 @@
 -- The loop's invariant: what is left of the row and of the sweep tells what the exploration tells, and the states found are indexed.
 use Rattle.std.specs.Prelude.{◌-◌}
-use mathlib.Core.Path.{◌∙◌}
-use native.Mathlib.Omega.{arith}
-use Rattle.finding.specs.StatesExploring.{memory, InRow, in-row-start, in-row-more, in-row-over, in-row-end}
+use Rattle.finding.specs.StatesExploring.{memory, InRow}
 use Rattle.finding.specs.NumberIndex.{Indexed}
-use Rattle.finding.specs.NumberIndexLaws.{indexed-all, indexed-over}
-use borrow.Author.Rules.{rules}
 use Rattle.finding.proofs.states.row.Given as goal
 
 abbrev pub invariant-loop-list : goal.invariant-loop-list

@@ -2,7 +2,6 @@
 use mathlib.Core.Path.{refl}
 use native.Mathlib.Omega.{arith}
 use Rattle.finding.specs.StatesTold.{states-told, states-none}
-use borrow.Author.Rules.{rules}
 use Rattle.finding.proofs.states.states.Goals as goal
 
 pub returns-then-limit-eq0 : goal.returns-then-limit-eq0
@@ -31,7 +30,7 @@ pub returns : goal.returns
 returns c =
     let a = c.args in
     let e = c.sweep in
-    let last = e.new.1.1.1.1 in
+    let last = e.new in
     λ h k i l m.
-    states-told a.images.now a.count a.lists a.limit a.table.now last.0 last.1.0 last.1.1.0 last.1.1.1.0
+    states-told a.images.now a.count a.lists a.limit a.table.now last.found last.parents last.symbols last.table
     e.result e.ensures

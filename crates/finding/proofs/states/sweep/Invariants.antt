@@ -1,12 +1,7 @@
 -- The loop's invariant: what is left of the sweep tells what the exploration tells, and the states found are indexed.
-use Rattle.std.specs.Prelude.{◌-◌, set}
-use mathlib.Core.Path.{◌∙◌}
-use native.Mathlib.Omega.{arith}
-use lib.ListN.{length-set}
-use Rattle.finding.specs.StatesExploring.{memory, InSweep, in-sweep-start, in-sweep-more, in-sweep-over, in-sweep-end}
+use Rattle.std.specs.Prelude.{◌-◌}
+use Rattle.finding.specs.StatesExploring.{memory, InSweep}
 use Rattle.finding.specs.NumberIndex.{Indexed}
-use Rattle.finding.specs.NumberIndexLaws.{indexed-first}
-use borrow.Author.Rules.{rules}
 use Rattle.finding.proofs.states.sweep.Given as goal
 
 abbrev pub invariant-loop-s : goal.invariant-loop-s

@@ -6,7 +6,6 @@ use native.Mathlib.Omega.{arith}
 use lib.Bits.{bit_and, and_mask}
 use lib.Pow.{shl_exact, pow_pos}
 use Rattle.theory.specs.PlacesLaws.{wider}
-use borrow.Author.Rules.{rules}
 use Rattle.finding.proofs.step.below.Goals as goal
 
 pub returns-then-n-ge64 : goal.returns-then-n-ge64

@@ -8,7 +8,6 @@ use Rattle.theory.specs.PlacesShift.{member-cut}
 use Rattle.places.specs.Followed.{nexts-over-word}
 use Rattle.places.specs.Joined.{over-same}
 use Rattle.finding.specs.StandingBelow.{nexts-below}
-use borrow.Author.Rules.{rules}
 use Rattle.finding.proofs.step.follows.Goals as goal
 
 pub join-requires : goal.join-requires

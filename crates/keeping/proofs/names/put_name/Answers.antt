@@ -1,6 +1,5 @@
 -- `put_name` meets its contract: its length is put, and then its bytes.
 use Rattle.output.specs.Put.{puts}
-use borrow.Author.Rules.{rules}
 use Rattle.keeping.proofs.names.put_name.Goals as goal
 
 pub returns : goal.returns

@@ -1,11 +1,7 @@
-use Rattle.std.specs.Prelude.{◌≡◌, ◌-◌, ◌*◌, ◌≤◌, drop}
 use mathlib.Core.Path.{refl, ◌∙◌}
 use native.Mathlib.Omega.{arith}
-use Rattle.syntax.specs.Resolve.{names_at}
 use Rattle.keeping.specs.KeptLaws.{puts-name, names-end}
-use Rattle.output.specs.Put.{writing, puts, puts_none, puts-length}
-use Rattle.keeping.specs.Write.{name_bytes}
-use borrow.Author.Rules.{rules}
+use Rattle.output.specs.Put.{writing, puts_none, puts-length}
 use Rattle.keeping.proofs.names.put_names.Goals as goal
 
 pub loop-i-init : goal.loop-i-init
@@ -13,11 +9,10 @@ loop-i-init c = (omega arith, refl)
 
 pub loop-i-preserved : goal.loop-i-preserved
 loop-i-preserved c =
-    let wrote = c in
-    let l = wrote.loop-i in
-    let a = wrote.args in
-    let step = puts-name a.text.now a.names.now l.i (writing l.out l.next) (omega arith) wrote.part.ensures
-    wrote.put_name-next.ensures in
+    let l = c.loop-i in
+    let a = c.args in
+    let step = puts-name a.text.now a.names.now l.i (writing l.out l.next) (omega arith) c.part.ensures
+    c.put_name-next.ensures in
     (omega arith, step ∙ l.invariant.1)
 
 pub shape_of-out : goal.shape_of-out

@@ -1,12 +1,8 @@
 -- `put_names` meets its contract. The loop's invariant: to put the names that are left comes to what to put all of them comes to.
 use Rattle.std.specs.Prelude.{◌≡◌, ◌-◌, ◌*◌, ◌≤◌, drop}
-use mathlib.Core.Path.{refl, ◌∙◌}
-use native.Mathlib.Omega.{arith}
 use Rattle.syntax.specs.Resolve.{names_at}
-use Rattle.keeping.specs.KeptLaws.{puts-name, names-end}
-use Rattle.output.specs.Put.{writing, puts, puts_none, puts-length}
+use Rattle.output.specs.Put.{writing, puts}
 use Rattle.keeping.specs.Write.{name_bytes}
-use borrow.Author.Rules.{rules}
 use Rattle.keeping.proofs.names.put_names.Given as goal
 
 abbrev pub invariant-loop-i : goal.invariant-loop-i

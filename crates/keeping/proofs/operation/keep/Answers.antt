@@ -12,32 +12,23 @@ returns-then-out-lt8728 c =
 
 pub keep_job-requires : goal.keep_job-requires
 keep_job-requires c =
-    let matched = c in
-    let loaded = matched in
-    let measured = loaded in
-    let a = measured.args in
-    let l = loaded.load-told in (
-      measured.if-out-lt8728.false,
+    let a = c.args in
+    let l = c.load-told in (
+      c.if-out-lt8728.false,
       subst (λ b. Loaded a.text.now b
           (tables l.new.names l.new.follow l.new.enter l.new.sizes l.new.accepting))
-          matched.in-Job.is l.ensures,
+          c.in-Job.is l.ensures,
     )
 
 pub returns-in-Refused : goal.returns-in-Refused
 returns-in-Refused c =
-    let loaded = c in
-    let measured = loaded in
-    let a = measured.args in
-    let l = loaded.load-told in
-    text-refused a.text.now a.out.now measured.if-out-lt8728.false l.result
+    let a = c.args in
+    let l = c.load-told in
+    text-refused a.text.now a.out.now c.if-out-lt8728.false l.result
     (tables l.new.names l.new.follow l.new.enter l.new.sizes l.new.accepting)
     l.ensures _ _ c.in-Refused.is
 
 pub returns-in-Job : goal.returns-in-Job
 returns-in-Job c =
-    let kept = c in
-    let matched = kept in
-    let loaded = matched in
-    let measured = loaded in
-    let a = measured.args in
-    kept.keep_job.ensures ∙ sym (out-long a.text.now a.out.now measured.if-out-lt8728.false)
+    let a = c.args in
+    c.keep_job.ensures ∙ sym (out-long a.text.now a.out.now c.if-out-lt8728.false)

@@ -1,5 +1,4 @@
 -- `put16` meets its contract: the high byte is put, and then the low one.
-use borrow.Author.Rules.{rules}
 use Rattle.output.specs.Put.{puts}
 use Rattle.keeping.proofs.put.put16.Goals as goal
 

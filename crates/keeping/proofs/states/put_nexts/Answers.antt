@@ -1,11 +1,8 @@
-use Rattle.std.specs.Prelude.{◌≡◌, ◌-◌, ◌≤◌}
 use mathlib.Core.Path.{◌∙◌}
 use native.Mathlib.Nat.{sub-zero}
 use native.Mathlib.Omega.{arith}
-use Rattle.keeping.specs.Kept.{kept_nexts}
 use Rattle.keeping.specs.KeptLaws.{puts-next, nexts-end}
-use Rattle.output.specs.Put.{writing, puts, puts_none, puts-length}
-use borrow.Author.Rules.{rules}
+use Rattle.output.specs.Put.{writing, puts_none, puts-length}
 use Rattle.keeping.proofs.states.put_nexts.Goals as goal
 
 pub loop-list-init : goal.loop-list-init

@@ -1,12 +1,7 @@
 -- `put_nexts` meets its contract. The loop's invariant: to put the next states that are left comes to what to put all of them comes to.
 use Rattle.std.specs.Prelude.{◌≡◌, ◌-◌, ◌≤◌}
-use mathlib.Core.Path.{◌∙◌}
-use native.Mathlib.Nat.{sub-zero}
-use native.Mathlib.Omega.{arith}
 use Rattle.keeping.specs.Kept.{kept_nexts}
-use Rattle.keeping.specs.KeptLaws.{puts-next, nexts-end}
-use Rattle.output.specs.Put.{writing, puts, puts_none, puts-length}
-use borrow.Author.Rules.{rules}
+use Rattle.output.specs.Put.{writing, puts}
 use Rattle.keeping.proofs.states.put_nexts.Given as goal
 
 abbrev pub invariant-loop-list : goal.invariant-loop-list

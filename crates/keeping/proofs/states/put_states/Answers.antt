@@ -1,12 +1,9 @@
-use Rattle.std.specs.Prelude.{◌≡◌, ◌-◌, ◌≤◌}
 use mathlib.Core.Path.{◌∙◌}
 use native.Mathlib.Nat.{sub-zero}
 use native.Mathlib.Omega.{arith}
-use Rattle.keeping.specs.Kept.{kept_states}
 use Rattle.keeping.specs.KeptLaws.{puts-state, states-end}
-use Rattle.output.specs.Put.{writing, puts, puts_none, puts-length}
+use Rattle.output.specs.Put.{writing, puts_none, puts-length}
 use Rattle.keeping.specs.Write.{lent}
-use borrow.Author.Rules.{rules}
 use Rattle.keeping.proofs.states.put_states.Goals as goal
 
 pub loop-state-init : goal.loop-state-init
@@ -14,13 +11,11 @@ loop-state-init c = (omega arith, rw sub-zero)
 
 pub loop-state-preserved : goal.loop-state-preserved
 loop-state-preserved c =
-    let wrote = c in
-    let flagged = wrote in
-    let l = flagged.loop-state in
-    let a = flagged.args in
+    let l = c.loop-state in
+    let a = c.args in
     let R = lent a.states a.table.now a.flags.now in
-    let step = puts-state R a.lists a.states l.state (writing l.out l.next) (omega arith) flagged.flag.ensures
-    flagged.put-flagged.ensures wrote.put_nexts-next.ensures in
+    let step = puts-state R a.lists a.states l.state (writing l.out l.next) (omega arith) c.flag.ensures
+    c.put-flagged.ensures c.put_nexts-next.ensures in
     (omega arith, step ∙ l.invariant.1)
 
 pub shape_of-out : goal.shape_of-out

@@ -1,13 +1,8 @@
 -- `put_states` meets its contract. The loop's invariant: to put the states that are left comes to what to put all of them comes to.
 use Rattle.std.specs.Prelude.{◌≡◌, ◌-◌, ◌≤◌}
-use mathlib.Core.Path.{◌∙◌}
-use native.Mathlib.Nat.{sub-zero}
-use native.Mathlib.Omega.{arith}
 use Rattle.keeping.specs.Kept.{kept_states}
-use Rattle.keeping.specs.KeptLaws.{puts-state, states-end}
-use Rattle.output.specs.Put.{writing, puts, puts_none, puts-length}
+use Rattle.output.specs.Put.{writing, puts}
 use Rattle.keeping.specs.Write.{lent}
-use borrow.Author.Rules.{rules}
 use Rattle.keeping.proofs.states.put_states.Given as goal
 
 abbrev pub invariant-loop-state : goal.invariant-loop-state

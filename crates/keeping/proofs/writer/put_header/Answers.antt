@@ -1,6 +1,5 @@
 -- `put_header` meets its contract: its four pieces are put one after another.
 use Rattle.output.specs.Put.{puts}
-use borrow.Author.Rules.{rules}
 use Rattle.keeping.proofs.writer.put_header.Goals as goal
 
 pub returns : goal.returns

@@ -4,7 +4,6 @@ use mathlib.Core.Path.{sym, ap}
 use native.Mathlib.Omega.{arith}
 use Rattle.keeping.specs.Kept.{kept_length}
 use Rattle.output.specs.Put.{writing, puts}
-use borrow.Author.Rules.{rules}
 use Rattle.keeping.proofs.writer.put_rest.Goals as goal
 
 pub returns-else-at-lt-LENGTH : goal.returns-else-at-lt-LENGTH
