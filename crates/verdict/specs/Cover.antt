@@ -1,7 +1,7 @@
 -- Cover places (document 01): a state alone, or a state with one label occurrence of one list. A place is the number width × state + offset,
 -- where the width is 1 + all occurrences in all lists; offset 0 is the state alone, and the occurrences of the lists come after it, list by
 -- list. A set of cover places is a number, as every set of places.
-use Rattle.std.specs.Prelude.{ℕ, zero, suc, pred, ◌+◌, ◌-◌, ◌*◌, ◌/◌, ◌%◌, ◌^◌, Bool, true, false, List, [], ◌∷◌, length, ◌==◌, nat_le, slice_index}
+use Rattle.std.specs.Prelude.{ℕ, zero, suc, pred, ◌+◌, ◌-◌, ◌*◌, ◌/◌, ◌%◌, ◌^◌, true, false, List, [], ◌∷◌, length, ◌==◌, nat_le, slice_index}
 use Rattle.theory.specs.Places.{member, none, one, union, intersection, when, union_over}
 use Rattle.theory.specs.Automaton.{Automaton}
 use Rattle.theory.specs.Closure.{closure}

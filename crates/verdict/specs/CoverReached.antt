@@ -178,11 +178,11 @@ module _ (J : Job) (R : Rewritten) (decides : Decides J R) where
         moves-back J.lists a q v x z l f d,
       ))
 
-  reading-member : {s x y : ℕ} {r : Path} (q v : ℕ) → Settled J R s → v < length J.lists → Member (numbered J.lists q v x) s
+  reading-member : (q v : ℕ) {s x y : ℕ} {r : Path} → Settled J R s → v < length J.lists → Member (numbered J.lists q v x) s
       → StandsAt (list_at J.lists v) x r y → Member (numbered J.lists q v y) (after (cover_step R (automata J)) s r)
   reading-member q v set l m S.done = m
-  reading-member {s = s} q v set l m (S.next {x = x} {z = z} {a = a} f d t) =
-      reading-member q v (step-settled s a) l (step-member q v x z a set l m f d) t
+  reading-member q v {s = s} set l m (S.next {x = x} {z = z} {a = a} f d t) =
+      reading-member q v {s = cover_step R (automata J) s a} (step-settled s a) l (step-member q v x z a set l m f d) t
 
   word-member : {s : ℕ} {w : Word} {r : Path} (q : ℕ) → Settled J R s → Member (offsets J.lists * q) s → SpelledBy J w r
       → Member (offsets J.lists * followed R.table q w) (after (cover_step R (automata J)) s r)
@@ -193,7 +193,7 @@ module _ (J : Job) (R : Rewritten) (decides : Decides J R) where
       let start : Member (numbered J.lists q v 0) s = rw (add-zero (offsets J.lists * q)) m in
       let k = after-settled s u set in
       let end = k.closed _ _ (reading-member q v set l start g) (ends-back J.lists R q v y l f) in
-      let on = word-member (next_state R q v) k end t in
+      let on = word-member {s = after (cover_step R (automata J)) s u} (next_state R q v) k end t in
       subst (Member (offsets J.lists * followed R.table (next_state R q v) w))
       (sym (ap (after (cover_step R (automata J)) s) e ∙ after-append (cover_step R (automata J)) s u r)) on
 

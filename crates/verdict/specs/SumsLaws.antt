@@ -1,5 +1,5 @@
 -- The loops that put down the sums and that join them (Sums): what they keep, turn by turn.
-use Rattle.std.specs.Prelude.{◌≡◌, ℕ, ◌+◌, ◌-◌, ◌*◌, ◌/◌, ◌%◌, ◌^◌, ◌<◌, ◌≤◌, ◌≢◌, ◌⊎◌, List, length, set, bit_and, slice_index, slice_index_or, slice_set}
+use Rattle.std.specs.Prelude.{◌≡◌, ℕ, ◌+◌, ◌-◌, ◌*◌, ◌/◌, ◌%◌, ◌^◌, ◌<◌, ◌≤◌, ◌≢◌, ◌⊎◌, List, length, bit_and, slice_index, slice_index_or, slice_set}
 use Rattle.std.proofs.Common.{inl, inr, sym, ap, ◌∙◌, subst, div-one, mul-le-mul_left, mul-suc, arith, length-set, shr-shr, get_or-set_same, get_or-set_other}
 use Rattle.std.specs.Prelude.{refl}
 use Rattle.std.proofs.Math.Decide.{ℕ_discrete, dec_lt}

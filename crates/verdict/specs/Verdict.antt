@@ -1,9 +1,9 @@
 -- What Verdict gives (document 01): complete, or the first missed path, with the number of distinct pairs; or refusal 12 or 13.
-use Rattle.std.specs.Prelude.{ℕ, Bool, true, false, List, length, nat_le}
-use Rattle.std.proofs.Math.Option.{Option, some, none}
+use Rattle.std.specs.Prelude.{ℕ, true, false, List, length, nat_le}
+use Rattle.std.proofs.Math.Option.{some, none}
 use Rattle.theory.specs.Path.{Path}
 use Rattle.theory.specs.Automaton.{Automaton}
-use Rattle.theory.specs.Exploration.{Exploration, all, over}
+use Rattle.theory.specs.Exploration.{all, over}
 use Rattle.syntax.specs.declared.refusal.Refusal.{Refusal}
 use Rattle.syntax.specs.declared.refusal.Refusal.TheVariants.{TooManyPlaces, TooManyPairs}
 use Rattle.finding.specs.Rewritten.{Rewritten}

@@ -336,7 +336,7 @@ pub preparing-turn : (v base : ℕ) (follow enter sizes accepting rows rows' row
     → ListEnters v 32 (slice_index sizes (v + 1)) base enter rows' rows''
     → Gained (320 + 2 * v) (OccursAt (slice_index sizes (v + 1)) base (slice_index accepting (v + 1))) rows'' rows'''
     → Preparing v follow enter sizes accepting rows → Preparing (v + 1) follow enter sizes accepting rows'''
-preparing-turn v base follow enter sizes accepting rows rows' rows'' rows''' e inside ls le g l =
+preparing-turn v _ follow enter sizes accepting rows rows' rows'' rows''' e inside ls le g l =
     turned v follow enter sizes accepting rows rows' rows'' rows''' inside
     (subst (λ z. ListSteps v (slice_index sizes (v + 1) + 1) (slice_index sizes (v + 1)) z follow rows rows') e ls)
     (subst (λ z. ListEnters v 32 (slice_index sizes (v + 1)) z enter rows' rows'') e le)

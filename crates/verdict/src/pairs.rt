@@ -14,6 +14,9 @@ use crate::next_cover::{first_cover, lay, next_cover, used_words};
 use finding::step::follows;
 use places::Places;
 
+// Words of a label's sets have this many labels at most.
+const MOST_LABELS: u64 = 32;
+
 #[derive(Clone, Copy)]
 pub enum Explored {
     // All pairs are found: how many.
@@ -247,7 +250,7 @@ pub fn pairs(
     if limit > 4096 {
         return Explored::Over;
     }
-    if labels > 32 {
+    if labels > MOST_LABELS {
         return Explored::Over;
     }
     if workspace.len() < 18 * limit {

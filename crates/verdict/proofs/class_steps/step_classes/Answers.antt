@@ -1,5 +1,4 @@
-use Rattle.std.specs.Prelude.{◌≡◌, ℕ, ◌-◌, ◌*◌, ◌^◌, ◌<◌, ◌≤◌, List, length}
-use mathlib.Core.Logic.{⊎_elim}
+use Rattle.std.specs.Prelude.{ℕ, ◌-◌, ◌*◌, ◌^◌, ◌<◌, ◌≤◌, List, length}
 use mathlib.Core.Path.{refl, sym, ap, ◌∙◌, subst}
 use native.Mathlib.Omega.{arith}
 use lib.Bits.{bit_and, and_le_r}
@@ -125,17 +124,20 @@ loop-rest-preserved c =
     let Left : List ℕ → ℕ → Type 0 =
     λ words alone. ClassesLeft a.n a.a a.k a.merged.now a.ended.now a.columns.now (column_in a.n words) alone less in (
       omega (arith, l.invariant.0, and_le_r l.rest (l.rest - 1)),
-      (elim c.if-states-ne0.branch [ then-states-ne0 w ↦ ap length w.words-is ∙ w.put_at.kept.0 ∙ l.invariant.1 | else-states-ne0 w ↦ ap length w.words-is ∙ l.invariant.1 ]),
-      (elim c.if-states-ne0.branch [ then-states-ne0 w ↦ subst (λ z. Left z c.if-states-ne0.alone) (sym w.words-is)
-          (subst (Left w.put_at.last.0) (sym w.alone-is)
-          (classes-turn a.n a.a a.k a.merged.now a.ended.now a.columns.now s.requires.8 s.requires.9 few
-          s.requires.4 s.requires.10 (column_in a.n l.words) (column_in a.n w.put_at.last.0) l.alone l.rest join.result
-          w.ended_class-alone.result l.invariant.2 d l.invariant.0 join.ensures w.ended_class-alone.ensures
-          (put-column a.n (a.n * o) o join.result l.words w.put_at.last.0 refl small room w.put_at.ensures))) | else-states-ne0 w ↦ subst (λ z. Left z c.if-states-ne0.alone) (sym w.words-is)
-          (subst (Left l.words) (sym w.alone-is)
-          (classes-pass a.n a.a a.k a.merged.now a.ended.now a.columns.now s.requires.8 s.requires.9 few
-          s.requires.4 s.requires.10 (column_in a.n l.words) l.alone l.rest l.invariant.2 d l.invariant.0
-          (sym w.if-states-ne0.false ∙ join.ensures))) ]),
+      (elim c.if-states-ne0.branch [ then-states-ne0 w ↦ ap length w.words-is ∙ w.put_at.auto.words ∙ l.invariant.1 | else-states-ne0 w ↦ ap length w.words-is ∙ l.invariant.1 ]),
+      (elim c.if-states-ne0.branch [
+        | then-states-ne0 w ↦ subst (λ z. Left z c.if-states-ne0.alone) (sym w.words-is)
+            (subst (Left w.put_at.new.words) (sym w.alone-is)
+            (classes-turn a.n a.a a.k a.merged.now a.ended.now a.columns.now s.requires.8 s.requires.9 few
+            s.requires.4 s.requires.10 (column_in a.n l.words) (column_in a.n w.put_at.new.words) l.alone l.rest join.result
+            w.ended_class-alone.result l.invariant.2 d l.invariant.0 join.ensures w.ended_class-alone.ensures
+            (put-column a.n (a.n * o) o join.result l.words w.put_at.new.words refl small room w.put_at.ensures)))
+        | else-states-ne0 w ↦ subst (λ z. Left z c.if-states-ne0.alone) (sym w.words-is)
+            (subst (Left l.words) (sym w.alone-is)
+            (classes-pass a.n a.a a.k a.merged.now a.ended.now a.columns.now s.requires.8 s.requires.9 few
+            s.requires.4 s.requires.10 (column_in a.n l.words) l.alone l.rest l.invariant.2 d l.invariant.0
+            (sym w.if-states-ne0.false ∙ join.ensures)))
+      ]),
     )
 
 pub put_at-requires-2 : goal.put_at-requires-2

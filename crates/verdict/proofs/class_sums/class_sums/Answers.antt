@@ -1,6 +1,5 @@
-use Rattle.std.specs.Prelude.{◌≡◌, ℕ, ◌+◌, ◌-◌, ◌≤◌, List, length, get_or, set}
+use Rattle.std.specs.Prelude.{◌≡◌, ℕ, ◌+◌, List, length, get_or, set}
 use mathlib.Core.Bool.{false≢true}
-use mathlib.Core.Logic.{⊎_elim}
 use mathlib.Core.Path.{refl, sym, ap, ◌∙◌, subst}
 use lib.ListN.{length-set}
 use Rattle.verdict.specs.ClassSumsTurns.{reached_by, SumsPut, put-start, put-none, put-turn, put_all}
@@ -103,14 +102,17 @@ loop-c-preserved c =
     let test = c.loop-c-test.true in
     let word : ℕ → ℕ → ℕ = λ d. reached_by a.passes.now a.table.now (get_or a.ends.now d 0) in (
       omega (arith, test, s.requires.3),
-      (elim c.if-set-ne0.branch [ then-set-ne0+else-ended-at w ↦ ap length w.ended-is ∙ length-set w.sum_list.last.0 _ _ ∙ w.sum_list.kept.0 ∙ w.class_words.kept.1.1.1.1.0 ∙ l.invariant.1 | else-set-ne0 w ↦ ap length w.ended-is ∙ l.invariant.1 ]),
-      (elim c.if-set-ne0.branch [ then-set-ne0+else-ended-at w ↦ subst (λ z. SumsPut a.states word a.ends.now z (l.c + 1) c.if-set-ne0.at) (sym w.ended-is)
-          (subst (λ z. SumsPut a.states word a.ends.now (set w.sum_list.last.0 l.c l.at) (l.c + 1) z) (sym w.at-is)
-          (put-turn a.states word a.ends.now l.ended w.class_words.last.1.1.1.1.0 w.sum_list.last.0 l.c l.at s.requires.1
-          (omega (arith, test, s.requires.3)) w.if-set-ne0.true (omega (arith, w.if-ended-at.false)) (w.sum_list.kept.0 ∙ w.class_words.kept.1.1.1.1.0)
-          w.class_words.ensures w.sum_list.ensures l.invariant.2)) | else-set-ne0 w ↦ subst (λ z. SumsPut a.states word a.ends.now z (l.c + 1) c.if-set-ne0.at) (sym w.ended-is)
-          (subst (λ z. SumsPut a.states word a.ends.now l.ended (l.c + 1) z) (sym w.at-is)
-          (put-none a.states word a.ends.now l.ended l.c l.at (omega (arith, test, s.requires.3)) w.if-set-ne0.false l.invariant.2)) ]),
+      (elim c.if-set-ne0.branch [ then-set-ne0+else-ended-at w ↦ ap length w.ended-is ∙ length-set w.sum_list.new.ended _ _ ∙ w.sum_list.auto.ended ∙ w.class_words.auto.ended ∙ l.invariant.1 | else-set-ne0 w ↦ ap length w.ended-is ∙ l.invariant.1 ]),
+      (elim c.if-set-ne0.branch [
+        | then-set-ne0+else-ended-at w ↦ subst (λ z. SumsPut a.states word a.ends.now z (l.c + 1) c.if-set-ne0.at) (sym w.ended-is)
+            (subst (λ z. SumsPut a.states word a.ends.now (set w.sum_list.new.ended l.c l.at) (l.c + 1) z) (sym w.at-is)
+            (put-turn a.states word a.ends.now l.ended w.class_words.new.ended w.sum_list.new.ended l.c l.at s.requires.1
+            (omega (arith, test, s.requires.3)) w.if-set-ne0.true (omega (arith, w.if-ended-at.false)) (w.sum_list.auto.ended ∙ w.class_words.auto.ended)
+            w.class_words.ensures w.sum_list.ensures l.invariant.2))
+        | else-set-ne0 w ↦ subst (λ z. SumsPut a.states word a.ends.now z (l.c + 1) c.if-set-ne0.at) (sym w.ended-is)
+            (subst (λ z. SumsPut a.states word a.ends.now l.ended (l.c + 1) z) (sym w.at-is)
+            (put-none a.states word a.ends.now l.ended l.c l.at (omega (arith, test, s.requires.3)) w.if-set-ne0.false l.invariant.2))
+      ]),
     )
 
 pub shape_of-ended : goal.shape_of-ended
@@ -124,4 +126,4 @@ returns c =
     λ e sizes accepting classes ending p.
     put_all a.states a.lists a.k accepting a.table.now a.passes.now a.ends.now l.ended l.c l.at s.requires.1
     (omega (arith, c.loop-c-test.false)) s.requires.3 (omega (arith, l.invariant.2.begins, l.invariant.2.fits))
-    (λ i. omega (arith, c.shared_slice_known-1.given i)) s.requires.7 s.requires.8 s.requires.2 l.invariant.2 p sizes classes ending
+    (λ i. search rules) s.requires.7 s.requires.8 s.requires.2 l.invariant.2 p sizes classes ending

@@ -1,13 +1,6 @@
 -- The loop's invariant: the sums of the classes before c are put down (SumsPut). The measure is the number of classes left.
-use Rattle.std.specs.Prelude.{◌≡◌, ℕ, ◌+◌, ◌-◌, ◌≤◌, List, length, get_or, set}
-use mathlib.Core.Bool.{false≢true}
-use mathlib.Core.Logic.{⊎_elim}
-use mathlib.Core.Path.{refl, sym, ap, ◌∙◌, subst}
-use lib.ListN.{length-set}
-use Rattle.verdict.specs.ClassSumsTurns.{reached_by, SumsPut, put-start, put-none, put-turn, put_all}
-use Rattle.verdict.specs.WordBits.{cleared-zero}
-use native.Mathlib.Omega.{arith}
-use borrow.Author.Rules.{rules}
+use Rattle.std.specs.Prelude.{◌≡◌, ◌-◌, ◌≤◌, length, get_or}
+use Rattle.verdict.specs.ClassSumsTurns.{reached_by, SumsPut}
 use Rattle.verdict.proofs.class_sums.class_sums.Given as goal
 
 abbrev pub invariant-loop-c : goal.invariant-loop-c

@@ -1,9 +1,8 @@
-use Rattle.std.specs.Prelude.{◌≡◌, ◌-◌, ◌≤◌, length}
+use Rattle.std.specs.Prelude.{◌≡◌}
 use mathlib.Core.Path.{refl, ◌∙◌, subst}
 use lib.ListN.{length-set}
 use Rattle.verdict.specs.ClassSumsTurns.{reached_by, WordsBefore, words-start, words-turn}
 use native.Mathlib.Omega.{arith}
-use borrow.Author.Rules.{rules}
 use Rattle.verdict.proofs.class_sums.class_words.Goals as goal
 
 pub loop-q-init : goal.loop-q-init

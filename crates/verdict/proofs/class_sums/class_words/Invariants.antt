@@ -1,10 +1,6 @@
 -- The loop's invariant: the words of the states before q are put down (WordsBefore). The measure is the number of states left.
 use Rattle.std.specs.Prelude.{◌≡◌, ◌-◌, ◌≤◌, length}
-use mathlib.Core.Path.{refl, ◌∙◌, subst}
-use lib.ListN.{length-set}
-use Rattle.verdict.specs.ClassSumsTurns.{reached_by, WordsBefore, words-start, words-turn}
-use native.Mathlib.Omega.{arith}
-use borrow.Author.Rules.{rules}
+use Rattle.verdict.specs.ClassSumsTurns.{reached_by, WordsBefore}
 use Rattle.verdict.proofs.class_sums.class_words.Given as goal
 
 abbrev pub invariant-loop-q : goal.invariant-loop-q

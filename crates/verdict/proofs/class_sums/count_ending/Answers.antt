@@ -1,7 +1,4 @@
-use Rattle.std.specs.Prelude.{◌-◌, ◌≤◌}
-use mathlib.Core.Logic.{⊎_elim}
 use native.Mathlib.Omega.{arith}
-use borrow.Author.Rules.{rules}
 use Rattle.verdict.proofs.class_sums.count_ending.Goals as goal
 use Rattle.verdict.proofs.class_sums.count_ending.Goals.{else-ends-c-ne0, then-ends-c-ne0}
 

@@ -1,8 +1,5 @@
 -- The loop's invariant: no more are counted than classes are passed. The measure is the number of classes left.
 use Rattle.std.specs.Prelude.{◌-◌, ◌≤◌}
-use mathlib.Core.Logic.{⊎_elim}
-use native.Mathlib.Omega.{arith}
-use borrow.Author.Rules.{rules}
 use Rattle.verdict.proofs.class_sums.count_ending.Given as goal
 
 abbrev pub invariant-loop-c : goal.invariant-loop-c

@@ -1,12 +1,11 @@
-use Rattle.std.specs.Prelude.{◌≡◌, ◌-◌, ◌^◌, ◌<◌, length}
+use Rattle.std.specs.Prelude.{◌-◌}
 use mathlib.Core.Path.{◌∙◌}
 use lib.Bits.{and_le_r}
 use lib.Count.{trailing_le, count_trailing_zeros}
 use lib.ListN.{length-set}
 use Rattle.places.specs.NextPlace.{trailing-here}
-use Rattle.verdict.specs.ClassSumsTurns.{EndsLeft, ends-start, ends-turn, ends-end}
+use Rattle.verdict.specs.ClassSumsTurns.{ends-start, ends-turn, ends-end}
 use native.Mathlib.Omega.{arith}
-use borrow.Author.Rules.{rules}
 use Rattle.verdict.proofs.class_sums.end_list.Goals as goal
 
 pub loop-rest-init : goal.loop-rest-init

@@ -1,13 +1,6 @@
 -- The loop's invariant: the classes of the occurrences that are not left gained the list (EndsLeft). The measure is the occurrences left.
-use Rattle.std.specs.Prelude.{◌≡◌, ◌-◌, ◌^◌, ◌<◌, length}
-use mathlib.Core.Path.{◌∙◌}
-use lib.Bits.{and_le_r}
-use lib.Count.{trailing_le, count_trailing_zeros}
-use lib.ListN.{length-set}
-use Rattle.places.specs.NextPlace.{trailing-here}
-use Rattle.verdict.specs.ClassSumsTurns.{EndsLeft, ends-start, ends-turn, ends-end}
-use native.Mathlib.Omega.{arith}
-use borrow.Author.Rules.{rules}
+use Rattle.std.specs.Prelude.{◌≡◌, ◌^◌, ◌<◌, length}
+use Rattle.verdict.specs.ClassSumsTurns.{EndsLeft}
 use Rattle.verdict.proofs.class_sums.end_list.Given as goal
 
 abbrev pub invariant-loop-rest : goal.invariant-loop-rest

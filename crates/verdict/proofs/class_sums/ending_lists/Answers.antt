@@ -1,4 +1,4 @@
-use Rattle.std.specs.Prelude.{◌≡◌, ◌+◌, ◌-◌, ◌/◌, ◌≤◌, get_or}
+use Rattle.std.specs.Prelude.{◌≡◌, ◌+◌, ◌/◌, ◌≤◌, get_or}
 use mathlib.Core.Path.{refl, subst}
 use Rattle.theory.specs.Places.{Member}
 use Rattle.theory.specs.PlacesShift.{member-cut}

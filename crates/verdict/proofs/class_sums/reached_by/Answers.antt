@@ -1,12 +1,10 @@
-use Rattle.std.specs.Prelude.{ℕ, ◌+◌, ◌-◌, ◌*◌, ◌^◌, ◌<◌, get_or}
+use Rattle.std.specs.Prelude.{◌+◌, ◌-◌, ◌*◌, get_or}
 use lib.Bits.{and_le_r}
 use lib.Count.{trailing_le, count_trailing_zeros}
-use Rattle.theory.specs.Places.{Member}
 use Rattle.places.specs.NextPlace.{trailing-here}
-use Rattle.places.specs.Followed.{FollowedLeft, followed-start, followed-turn, followed-end, rest-within}
+use Rattle.places.specs.Followed.{followed-start, followed-turn, followed-end, rest-within}
 use Rattle.verdict.specs.ClassSumsTurns.{reached_by}
 use native.Mathlib.Omega.{arith}
-use borrow.Author.Rules.{rules}
 use Rattle.verdict.proofs.class_sums.reached_by.Goals as goal
 
 pub loop-rest-init : goal.loop-rest-init

@@ -1,13 +1,7 @@
 -- The loop's invariant: what is joined, with what the lists left give, is what the set gives (FollowedLeft). The measure is the lists left.
-use Rattle.std.specs.Prelude.{ℕ, ◌+◌, ◌-◌, ◌*◌, ◌^◌, ◌<◌, get_or}
-use lib.Bits.{and_le_r}
-use lib.Count.{trailing_le, count_trailing_zeros}
+use Rattle.std.specs.Prelude.{ℕ, ◌+◌, ◌*◌, ◌^◌, ◌<◌, get_or}
 use Rattle.theory.specs.Places.{Member}
-use Rattle.places.specs.NextPlace.{trailing-here}
-use Rattle.places.specs.Followed.{FollowedLeft, followed-start, followed-turn, followed-end, rest-within}
-use Rattle.verdict.specs.ClassSumsTurns.{reached_by}
-use native.Mathlib.Omega.{arith}
-use borrow.Author.Rules.{rules}
+use Rattle.places.specs.Followed.{FollowedLeft}
 use Rattle.verdict.proofs.class_sums.reached_by.Given as goal
 
 abbrev pub invariant-loop-rest : goal.invariant-loop-rest

@@ -1,9 +1,7 @@
-use Rattle.std.specs.Prelude.{◌≡◌, ◌-◌, ◌<◌, ◌≤◌, length}
 use mathlib.Core.Path.{refl, ◌∙◌}
 use lib.ListN.{length-set}
-use Rattle.verdict.specs.ClassesTurns.{NumberedBefore, numbered-start, numbered-turn, numbered-end}
+use Rattle.verdict.specs.ClassesTurns.{numbered-start, numbered-turn, numbered-end}
 use native.Mathlib.Omega.{arith}
-use borrow.Author.Rules.{rules}
 use Rattle.verdict.proofs.classes.apart.Goals as goal
 
 pub loop-o-init : goal.loop-o-init

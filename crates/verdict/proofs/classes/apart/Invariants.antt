@@ -1,10 +1,6 @@
 -- The loop's invariant: the offsets before o have classes of their own (NumberedBefore). The measure is the number of offsets left.
 use Rattle.std.specs.Prelude.{◌≡◌, ◌-◌, ◌<◌, ◌≤◌, length}
-use mathlib.Core.Path.{refl, ◌∙◌}
-use lib.ListN.{length-set}
-use Rattle.verdict.specs.ClassesTurns.{NumberedBefore, numbered-start, numbered-turn, numbered-end}
-use native.Mathlib.Omega.{arith}
-use borrow.Author.Rules.{rules}
+use Rattle.verdict.specs.ClassesTurns.{NumberedBefore}
 use Rattle.verdict.proofs.classes.apart.Given as goal
 
 abbrev pub invariant-loop-o : goal.invariant-loop-o

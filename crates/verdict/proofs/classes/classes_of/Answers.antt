@@ -1,10 +1,9 @@
-use Rattle.std.specs.Prelude.{◌-◌, ◌^◌, ◌<◌}
+use Rattle.std.specs.Prelude.{◌-◌}
 use lib.Bits.{and_mask, and_le_r}
 use lib.Count.{count_trailing_zeros, trailing_le}
 use Rattle.places.specs.NextPlace.{trailing-here}
-use Rattle.verdict.specs.ClassesTurns.{ClassesLeft, classes-start, classes-turn, classes-end}
+use Rattle.verdict.specs.ClassesTurns.{classes-start, classes-turn, classes-end}
 use native.Mathlib.Omega.{arith}
-use borrow.Author.Rules.{rules}
 use Rattle.verdict.proofs.classes.classes_of.Goals as goal
 
 pub overflow_sub-rest : goal.overflow_sub-rest

@@ -1,11 +1,6 @@
 -- The loop's invariant: the classes found, with those of the places left, are those of the set (ClassesLeft). The measure is the places left.
-use Rattle.std.specs.Prelude.{◌-◌, ◌^◌, ◌<◌}
-use lib.Bits.{and_mask, and_le_r}
-use lib.Count.{count_trailing_zeros, trailing_le}
-use Rattle.places.specs.NextPlace.{trailing-here}
-use Rattle.verdict.specs.ClassesTurns.{ClassesLeft, classes-start, classes-turn, classes-end}
-use native.Mathlib.Omega.{arith}
-use borrow.Author.Rules.{rules}
+use Rattle.std.specs.Prelude.{◌^◌, ◌<◌}
+use Rattle.verdict.specs.ClassesTurns.{ClassesLeft}
 use Rattle.verdict.proofs.classes.classes_of.Given as goal
 
 abbrev pub invariant-loop-rest : goal.invariant-loop-rest

@@ -1,10 +1,7 @@
-use Rattle.std.specs.Prelude.{◌≡◌, ◌-◌, ◌≤◌, length}
 use mathlib.Core.Path.{refl, ◌∙◌}
-use Rattle.verdict.specs.Tables.{occupied}
 use Rattle.verdict.specs.TablesLaws.{occupied-none, occupied-more, occupied-few}
 use Rattle.verdict.specs.ColumnOffsets.{occupied-room}
 use native.Mathlib.Omega.{arith}
-use borrow.Author.Rules.{rules}
 use Rattle.verdict.proofs.classes.depths.Goals as goal
 
 pub loop-v-init : goal.loop-v-init

@@ -1,11 +1,6 @@
 -- The loop's invariant: the entries keep their number, and those of the list v come after `base`. The measure is the number of lists left.
 use Rattle.std.specs.Prelude.{◌≡◌, ◌-◌, ◌≤◌, length}
-use mathlib.Core.Path.{refl, ◌∙◌}
 use Rattle.verdict.specs.Tables.{occupied}
-use Rattle.verdict.specs.TablesLaws.{occupied-none, occupied-more, occupied-few}
-use Rattle.verdict.specs.ColumnOffsets.{occupied-room}
-use native.Mathlib.Omega.{arith}
-use borrow.Author.Rules.{rules}
 use Rattle.verdict.proofs.classes.depths.Given as goal
 
 abbrev pub invariant-loop-v : goal.invariant-loop-v

@@ -1,6 +1,5 @@
 -- The loop's invariant bounds the place. The measure is the number of places left.
 use Rattle.std.specs.Prelude.{◌-◌, ◌<◌, ◌≤◌}
-use borrow.Author.Rules.{rules}
 use Rattle.verdict.proofs.classes.find_key.Given as goal
 
 abbrev pub invariant-loop-c : goal.invariant-loop-c

@@ -1,11 +1,10 @@
-use Rattle.std.specs.Prelude.{◌≡◌, ◌-◌, ◌^◌, ◌<◌, length}
+use Rattle.std.specs.Prelude.{◌-◌}
 use mathlib.Core.Path.{◌∙◌}
 use lib.Bits.{and_le_r}
 use lib.Count.{trailing_le}
 use lib.ListN.{length-set}
 use Rattle.places.specs.Followed.{least-small}
 use native.Mathlib.Omega.{arith}
-use borrow.Author.Rules.{rules}
 use Rattle.verdict.proofs.classes.level_next.Goals as goal
 
 pub overflow_cast-p : goal.overflow_cast-p

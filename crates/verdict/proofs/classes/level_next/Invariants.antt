@@ -1,12 +1,5 @@
 -- The loop's invariant: the entries keep their number. The measure is the places left.
-use Rattle.std.specs.Prelude.{◌≡◌, ◌-◌, ◌^◌, ◌<◌, length}
-use mathlib.Core.Path.{◌∙◌}
-use lib.Bits.{and_le_r}
-use lib.Count.{trailing_le}
-use lib.ListN.{length-set}
-use Rattle.places.specs.Followed.{least-small}
-use native.Mathlib.Omega.{arith}
-use borrow.Author.Rules.{rules}
+use Rattle.std.specs.Prelude.{◌≡◌, ◌^◌, ◌<◌, length}
 use Rattle.verdict.proofs.classes.level_next.Given as goal
 
 abbrev pub invariant-loop-rest : goal.invariant-loop-rest

@@ -1,8 +1,5 @@
 -- The loop's invariant: the entries keep their number. The measure is the number of levels left.
 use Rattle.std.specs.Prelude.{◌≡◌, ◌-◌, ◌<◌, ◌≤◌, length}
-use mathlib.Core.Path.{refl}
-use native.Mathlib.Omega.{arith}
-use borrow.Author.Rules.{rules}
 use Rattle.verdict.proofs.classes.list_depths.Given as goal
 
 abbrev pub invariant-loop-depth : goal.invariant-loop-depth

@@ -1,10 +1,8 @@
-use Rattle.std.specs.Prelude.{◌≡◌, ◌+◌, ◌-◌, ◌<◌, ◌≤◌, length}
-use mathlib.Core.Logic.{⊎_elim}
+use Rattle.std.specs.Prelude.{◌+◌, ◌<◌, ◌≤◌}
 use mathlib.Core.Path.{◌∙◌}
 use lib.ListN.{length-set}
-use Rattle.verdict.specs.ClassesTurns.{NumberedBefore, numbered-turn, numbered-end}
+use Rattle.verdict.specs.ClassesTurns.{numbered-turn, numbered-end}
 use native.Mathlib.Omega.{arith}
-use borrow.Author.Rules.{rules}
 use Rattle.verdict.proofs.classes.number.Goals as goal
 use Rattle.verdict.proofs.classes.number.Goals.{else-c-count, then-c-count+else-count-eq63}
 
@@ -15,17 +13,20 @@ loop-o-preserved c =
     let f = c.find_key-c in
     let more = c.if-c-count.count in
     let counts : (f.result < more) × (l.count ≤ more) × (more ≤ 63) × (more ≤ l.count + 1) =
-    (elim c.if-c-count.branch [ then-c-count+else-count-eq63 w ↦ (
-      omega (arith, w.count-is, w.if-c-count.true),
-      omega (arith, w.count-is),
-      omega (arith, w.count-is, w.if-count-eq63.false, l.invariant.3),
-      omega (arith, w.count-is),
-    ) | else-c-count w ↦ (
-      omega (arith, w.count-is, w.if-c-count.false, f.ensures.1),
-      omega (arith, w.count-is),
-      omega (arith, w.count-is, l.invariant.3),
-      omega (arith, w.count-is),
-    ) ]) in (
+    (elim c.if-c-count.branch [
+      | then-c-count+else-count-eq63 w ↦ (
+        omega (arith, w.count-is, w.if-c-count.true),
+        omega (arith, w.count-is),
+        omega (arith, w.count-is, w.if-count-eq63.false, l.invariant.3),
+        omega (arith, w.count-is),
+      )
+      | else-c-count w ↦ (
+        omega (arith, w.count-is, w.if-c-count.false, f.ensures.1),
+        omega (arith, w.count-is),
+        omega (arith, w.count-is, l.invariant.3),
+        omega (arith, w.count-is),
+      )
+    ]) in (
       omega arith,
       omega (arith, c.loop-o-test.true),
       omega (arith, counts.1, l.invariant.2),

@@ -1,11 +1,6 @@
 -- The loop's invariant: the offsets before o have classes below `count` (NumberedBefore). The measure is the number of offsets left.
-use Rattle.std.specs.Prelude.{◌≡◌, ◌+◌, ◌-◌, ◌<◌, ◌≤◌, length}
-use mathlib.Core.Logic.{⊎_elim}
-use mathlib.Core.Path.{◌∙◌}
-use lib.ListN.{length-set}
-use Rattle.verdict.specs.ClassesTurns.{NumberedBefore, numbered-turn, numbered-end}
-use native.Mathlib.Omega.{arith}
-use borrow.Author.Rules.{rules}
+use Rattle.std.specs.Prelude.{◌≡◌, ◌-◌, ◌<◌, ◌≤◌, length}
+use Rattle.verdict.specs.ClassesTurns.{NumberedBefore}
 use Rattle.verdict.proofs.classes.number.Given as goal
 
 abbrev pub invariant-loop-o : goal.invariant-loop-o

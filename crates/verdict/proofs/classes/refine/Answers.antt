@@ -1,8 +1,7 @@
-use Rattle.std.specs.Prelude.{◌≡◌, ℕ, ◌-◌, ◌<◌, ◌≤◌, length, get_or}
+use Rattle.std.specs.Prelude.{ℕ}
 use mathlib.Core.Path.{refl, ◌∙◌, subst}
 use Rattle.verdict.specs.Classes.{Numbered}
 use native.Mathlib.Omega.{arith}
-use borrow.Author.Rules.{rules}
 use Rattle.verdict.proofs.classes.refine.Goals as goal
 
 pub kinds_of-requires : goal.kinds_of-requires

@@ -1,9 +1,6 @@
 -- The loop's invariant: the classes are numbered below `count` (Numbered), or there are none. The measure is the number of rounds left.
-use Rattle.std.specs.Prelude.{◌≡◌, ℕ, ◌-◌, ◌<◌, ◌≤◌, length, get_or}
-use mathlib.Core.Path.{refl, ◌∙◌, subst}
+use Rattle.std.specs.Prelude.{◌≡◌, ◌-◌, ◌<◌, ◌≤◌, length, get_or}
 use Rattle.verdict.specs.Classes.{Numbered}
-use native.Mathlib.Omega.{arith}
-use borrow.Author.Rules.{rules}
 use Rattle.verdict.proofs.classes.refine.Given as goal
 
 abbrev pub invariant-loop-rounds : goal.invariant-loop-rounds

@@ -1,7 +1,6 @@
 -- The test of the place.
 use mathlib.Core.Path.{sym}
 use Rattle.verdict.specs.ColumnLists.{when-has, when-lacks, tested, not_tested}
-use borrow.Author.Rules.{rules}
 use Rattle.verdict.proofs.column_steps.ending.Goals as goal
 
 pub returns-then-accepting-p-eq1 : goal.returns-then-accepting-p-eq1

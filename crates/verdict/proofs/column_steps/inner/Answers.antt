@@ -3,7 +3,6 @@ use lib.Pow.{pow_pos}
 use Rattle.verdict.specs.WordBits.{one_bit}
 use Rattle.verdict.specs.ColumnLists.{inner-exactly}
 use native.Mathlib.Omega.{arith}
-use borrow.Author.Rules.{rules}
 use Rattle.verdict.proofs.column_steps.inner.Goals as goal
 
 pub overflow_sub-result : goal.overflow_sub-result

@@ -1,5 +1,4 @@
-use Rattle.std.specs.Prelude.{◌≡◌, ◌+◌, ◌-◌, ◌*◌, ◌^◌, ◌<◌, length}
-use mathlib.Core.Logic.{⊎_elim}
+use Rattle.std.specs.Prelude.{◌+◌, ◌-◌, ◌*◌, ◌^◌, length}
 use mathlib.Core.Path.{refl, sym, ap, ◌∙◌}
 use native.Mathlib.Nat.{zero-mul}
 use lib.Count.{count_trailing_zeros, trailing_le}
@@ -7,7 +6,7 @@ use lib.Bits.{and_le_r}
 use Rattle.places.specs.Words.{number_of}
 use Rattle.verdict.specs.CoverTold.{Gains}
 use Rattle.verdict.specs.CoverLoops.{gains-none}
-use Rattle.verdict.specs.ColumnLists.{ColumnsLeft, columns-start, least-inside, columns-turn, columns-end, column-within}
+use Rattle.verdict.specs.ColumnLists.{columns-start, least-inside, columns-turn, columns-end, column-within}
 use Rattle.verdict.specs.TurnedColumns.{column_in, put-column}
 use Rattle.verdict.specs.TurnedTurns.{column-room}
 use native.Mathlib.Omega.{arith}
@@ -22,7 +21,7 @@ loop-rest-init c =
     let s = c in (
       omega arith,
       s.requires.4,
-      columns-start s.args.v s.args.size s.args.base s.args.entered s.args.accepting s.args.now
+      columns-start s.args.v s.args.size s.args.base s.args.entered s.args.accepting s.args.before.now
           s.args.columns.now (column_in s.args.n s.args.words.now) c.inner-rest.result c.inner-rest.ensures,
     )
 
@@ -83,7 +82,7 @@ put_at-requires c =
     let l = c.loop-rest in
     let h = least-inside _ _ _ _ _ _ _ _ _ _ l.rest c.loop-rest-test.true l.invariant.0 l.invariant.2 in (
       l.invariant.1,
-      column-within s.args.n s.args.v s.args.size s.args.base s.args.now s.args.columns.now s.requires.1
+      column-within s.args.n s.args.v s.args.size s.args.base s.args.before.now s.args.columns.now s.requires.1
           s.requires.3 s.requires.8 _ c.joined-states.result h c.joined-states.ensures,
       s.requires.5,
       s.requires.6,
@@ -110,13 +109,13 @@ loop-rest-preserved c =
     let at = s.args.n * o in
     let room = column-room (s.args.base + s.args.size + 1) s.args.n at o (omega (arith, h)) s.requires.7 refl in
     let small =
-    column-within s.args.n s.args.v s.args.size s.args.base s.args.now s.args.columns.now s.requires.1
+    column-within s.args.n s.args.v s.args.size s.args.base s.args.before.now s.args.columns.now s.requires.1
     s.requires.3 s.requires.8 _ joined.result h joined.ensures in
     let gains : Gains l.words (joined.result * 2 ^ at) c.if-states-ne0.words =
     (elim c.if-states-ne0.branch [ then-states-ne0 w ↦ ap number_of w.words-is ∙ w.put_at.ensures | else-states-ne0 w ↦ ap number_of w.words-is ∙ gains-none l.words _ (ap (λ z. z * 2 ^ at) w.if-states-ne0.false ∙ zero-mul (2 ^ at)) ]) in (
       omega (arith, l.invariant.0, and_le_r l.rest (l.rest - 1)),
-      (elim c.if-states-ne0.branch [ then-states-ne0 w ↦ ap length w.words-is ∙ w.put_at.kept.0 ∙ l.invariant.1 | else-states-ne0 w ↦ ap length w.words-is ∙ l.invariant.1 ]),
-      columns-turn s.args.v s.args.size s.args.base s.args.entered s.args.accepting s.args.now
+      (elim c.if-states-ne0.branch [ then-states-ne0 w ↦ ap length w.words-is ∙ w.put_at.auto.words ∙ l.invariant.1 | else-states-ne0 w ↦ ap length w.words-is ∙ l.invariant.1 ]),
+      columns-turn s.args.v s.args.size s.args.base s.args.entered s.args.accepting s.args.before.now
           s.args.columns.now _ (column_in s.args.n l.words) (column_in s.args.n c.if-states-ne0.words) l.ends l.rest
           joined.result c.ending-over.result d l.invariant.0 joined.ensures c.ending-over.ensures
           (put-column s.args.n at o joined.result l.words c.if-states-ne0.words refl small room gains) l.invariant.2,

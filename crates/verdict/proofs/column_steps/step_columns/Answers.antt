@@ -1,8 +1,8 @@
-use Rattle.std.specs.Prelude.{◌≡◌, ◌+◌, ◌-◌, ◌*◌, ◌^◌, ◌<◌, ◌≤◌, length, get_or}
+use Rattle.std.specs.Prelude.{◌+◌, ◌*◌, ◌^◌, ◌<◌, ◌≤◌, get_or}
 use mathlib.Core.Path.{sym, ◌∙◌, subst}
 use native.Mathlib.Nat.{mul-add, mul-le-mul_left}
 use Rattle.theory.specs.PlacesLaws.{member_below}
-use Rattle.verdict.specs.ColumnTurns.{ListsLeft, lists-start, lists-room, lists-turn, alone-within, ends-below}
+use Rattle.verdict.specs.ColumnTurns.{lists-start, lists-room, lists-turn, alone-within, ends-below}
 use Rattle.verdict.specs.ColumnTurns.{lists-empty, lists-end}
 use Rattle.verdict.specs.Sums.{quarters, SummedBy}
 use Rattle.verdict.specs.SumsLaws.{next-list, list-sums, quarters-below}
@@ -133,7 +133,7 @@ loop-v-preserved c =
     ends-below _ _ _ _ _ _ _ _ s.args.w s.args.n _ _ l.base l.alone l.v list.result h l.invariant.1 s.requires.0 s.requires.4
     s.requires.5 s.requires.11 list.ensures in (
       list.auto.words ∙ l.invariant.0,
-      lists-turn s.args.lists s.args.a s.args.enter.now s.args.sizes.now s.args.accepting.now s.args.now
+      lists-turn s.args.lists s.args.a s.args.enter.now s.args.sizes.now s.args.accepting.now s.args.before.now
           s.args.ended.now s.args.columns.now (column_in s.args.n l.words) _ l.base l.alone l.v list.result h
           l.invariant.1 (omega (arith, list.type_inv)) list.ensures (s.requires.0.small l.v h) c.ended_of-alone.result
           (c.ended_of-alone.ensures.exact (λ q. get_or s.args.ended.now (64 * l.v + q) 0) (quarters s.args.n) (omega arith)

@@ -1,11 +1,9 @@
-use Rattle.std.specs.Prelude.{◌≡◌, ◌-◌, ◌*◌, ◌≤◌, length}
 use mathlib.Core.Path.{refl, ◌∙◌}
 use lib.ListN.{length-set}
 use Rattle.places.specs.Words.{number_of}
 use Rattle.verdict.specs.CoverBounds.{few-columns}
-use Rattle.verdict.specs.TurnedTurns.{column-room, next-column, Unstacked, unstacked-start, unstacked-turn, unstacked-end}
+use Rattle.verdict.specs.TurnedTurns.{column-room, next-column, unstacked-start, unstacked-turn, unstacked-end}
 use native.Mathlib.Omega.{arith}
-use borrow.Author.Rules.{rules}
 use Rattle.verdict.proofs.columns.columns_at.Goals as goal
 
 pub loop-o-init : goal.loop-o-init

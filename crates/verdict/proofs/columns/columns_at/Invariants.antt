@@ -1,12 +1,7 @@
 -- The loop's invariant: the columns before o stand, and the next is that at n × o (Unstacked). The measure is the number of columns left.
 use Rattle.std.specs.Prelude.{◌≡◌, ◌-◌, ◌*◌, ◌≤◌, length}
-use mathlib.Core.Path.{refl, ◌∙◌}
-use lib.ListN.{length-set}
 use Rattle.places.specs.Words.{number_of}
-use Rattle.verdict.specs.CoverBounds.{few-columns}
-use Rattle.verdict.specs.TurnedTurns.{column-room, next-column, Unstacked, unstacked-start, unstacked-turn, unstacked-end}
-use native.Mathlib.Omega.{arith}
-use borrow.Author.Rules.{rules}
+use Rattle.verdict.specs.TurnedTurns.{Unstacked}
 use Rattle.verdict.proofs.columns.columns_at.Given as goal
 
 abbrev pub invariant-loop-o : goal.invariant-loop-o

@@ -7,7 +7,6 @@ use Rattle.places.specs.Words.{number_of}
 use Rattle.places.specs.WordsShift.{shifted-odd}
 use Rattle.verdict.specs.TurnedTurns.{column-inside}
 use native.Mathlib.Omega.{arith}
-use borrow.Author.Rules.{rules}
 use Rattle.verdict.proofs.columns.put_at.Goals as goal
 
 pub returns-then-bits-n-gt64 : goal.returns-then-bits-n-gt64

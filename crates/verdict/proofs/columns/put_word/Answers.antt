@@ -10,6 +10,6 @@ use Rattle.verdict.proofs.columns.put_word.Goals as goal
 pub returns : goal.returns
 returns c =
     let s = c in
-    number-add s.args.words.now (λ i. omega (arith, c.slice_known-1.given i)) s.args.index s.args.word
+    number-add s.args.words.now (λ i. search rules) s.args.index s.args.word
     (omega (arith, s.requires.0, s.requires.1)) (omega arith)
     ∙ ap (union (number_of s.args.words.now)) (sym (word-inside 16 s.args.index s.args.word s.requires.1 (omega arith)))

@@ -4,7 +4,6 @@ use Rattle.std.specs.Prelude.{replicate}
 use Rattle.verdict.specs.CoverTold.{ReadyTold}
 use Rattle.verdict.specs.CoverStepped.{start-unready, start-told, ready-ending}
 use native.Mathlib.Omega.{arith}
-use borrow.Author.Rules.{rules}
 use Rattle.verdict.proofs.cover.cover_start.Goals as goal
 
 pub returns-then-w-eq0 : goal.returns-then-w-eq0

@@ -4,7 +4,6 @@ use Rattle.std.specs.Prelude.{replicate}
 use Rattle.verdict.specs.CoverTold.{ReadyTold}
 use Rattle.verdict.specs.CoverStepped.{step-unready, step-outside, step-told, ready-moving, ready-ending}
 use native.Mathlib.Omega.{arith}
-use borrow.Author.Rules.{rules}
 use Rattle.verdict.proofs.cover.cover_step.Goals as goal
 
 pub returns-then-w-eq0 : goal.returns-then-w-eq0

@@ -6,17 +6,13 @@ use Rattle.theory.specs.Places.{one, union, when}
 use Rattle.places.specs.Words.{number_of}
 use Rattle.verdict.specs.CoverLoops.{end_at, gains-none}
 use native.Mathlib.Omega.{arith}
-use borrow.Author.Rules.{rules}
 use Rattle.verdict.proofs.cover.ended.Goals as goal
-
-pub overflow_cast-table : goal.overflow_cast-table
-overflow_cast-table c = omega (arith, c.shared_slice_known-then-has-1.given (16 * c.args.q + c.args.v))
 
 pub overflow_mul-w : goal.overflow_mul-w
 overflow_mul-w c =
     let s = c in
     let t = get_or s.args.table.now (16 * s.args.q + s.args.v) 0 in
-    let h : t ≤ 65535 = omega (arith, c.shared_slice_known-then-has-1.given (16 * s.args.q + s.args.v)) in
+    let h : t ≤ 65535 = omega arith in
     omega (arith, mul-le-mul s.requires.4 h)
 
 pub add_shifted-requires : goal.add_shifted-requires

@@ -6,7 +6,6 @@ use Rattle.places.specs.Words.{number_of}
 use Rattle.verdict.specs.Tables.{automata_of, rewritten}
 use Rattle.verdict.specs.CoverBounds.{ends-alone, ends-inside, ending-width, few-offsets, state-of-place, few-states}
 use native.Mathlib.Omega.{arith}
-use borrow.Author.Rules.{rules}
 use Rattle.verdict.proofs.cover.ends.Goals as goal
 
 pub passed-requires : goal.passed-requires

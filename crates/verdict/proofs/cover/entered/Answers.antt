@@ -1,10 +1,9 @@
-use Rattle.std.specs.Prelude.{◌≡◌, ◌+◌, ◌-◌, ◌*◌, ◌%◌, ◌^◌, length}
+use Rattle.std.specs.Prelude.{◌+◌, ◌*◌, ◌%◌, ◌^◌}
 use mathlib.Core.Path.{sym, ap, ◌∙◌}
 use Rattle.theory.specs.Places.{union}
 use Rattle.places.specs.Words.{number_of}
-use Rattle.verdict.specs.CoverLoops.{EnteredLeft, entered-start, entered-turn, entered-end}
+use Rattle.verdict.specs.CoverLoops.{entered-start, entered-turn, entered-end}
 use native.Mathlib.Omega.{arith}
-use borrow.Author.Rules.{rules}
 use Rattle.verdict.proofs.cover.entered.Goals as goal
 
 pub loop-v-init : goal.loop-v-init

@@ -1,11 +1,6 @@
 -- The loop's invariant: what is added so far, with what the lists that are left add, is what all lists add.
-use Rattle.std.specs.Prelude.{◌≡◌, ◌+◌, ◌-◌, ◌*◌, ◌%◌, ◌^◌, length}
-use mathlib.Core.Path.{sym, ap, ◌∙◌}
-use Rattle.theory.specs.Places.{union}
-use Rattle.places.specs.Words.{number_of}
-use Rattle.verdict.specs.CoverLoops.{EnteredLeft, entered-start, entered-turn, entered-end}
-use native.Mathlib.Omega.{arith}
-use borrow.Author.Rules.{rules}
+use Rattle.std.specs.Prelude.{◌≡◌, ◌-◌, length}
+use Rattle.verdict.specs.CoverLoops.{EnteredLeft}
 use Rattle.verdict.proofs.cover.entered.Given as goal
 
 abbrev pub invariant-loop-v : goal.invariant-loop-v

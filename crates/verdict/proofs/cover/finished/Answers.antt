@@ -1,11 +1,10 @@
-use Rattle.std.specs.Prelude.{◌≡◌, ◌-◌, ◌%◌, ◌^◌, length}
+use Rattle.std.specs.Prelude.{◌%◌, ◌^◌, length}
 use mathlib.Core.Path.{refl, sym, ap, ◌∙◌, subst}
 use Rattle.theory.specs.Places.{union}
 use Rattle.places.specs.Words.{number_of}
 use Rattle.verdict.specs.CoverTold.{Finished}
-use Rattle.verdict.specs.CoverLoops.{end_at, FinishedLeft, finished-start, finished-turn, finished-at, finished-end}
+use Rattle.verdict.specs.CoverLoops.{end_at, finished-start, finished-turn, finished-at, finished-end}
 use native.Mathlib.Omega.{arith}
-use borrow.Author.Rules.{rules}
 use Rattle.verdict.proofs.cover.finished.Goals as goal
 
 pub loop-v-init : goal.loop-v-init

@@ -1,13 +1,12 @@
-use Rattle.std.specs.Prelude.{◌≡◌, ℕ, ◌-◌, ◌≤◌, List, length, replicate}
+use Rattle.std.specs.Prelude.{replicate}
 use mathlib.Core.Path.{refl, ◌∙◌}
 use lib.Bits.{or_zero_l}
 use Rattle.places.specs.Words.{number_of}
 use Rattle.places.proofs.Held.{array_count}
 use Rattle.verdict.specs.Cover.{moves as moves_of}
 use Rattle.verdict.specs.Tables.{automata_of}
-use Rattle.verdict.specs.CoverWalk.{Walk, walk_start, walk_turn, walk_end}
+use Rattle.verdict.specs.CoverWalk.{walk_start, walk_turn, walk_end}
 use native.Mathlib.Omega.{arith}
-use borrow.Author.Rules.{rules}
 use Rattle.verdict.proofs.cover.moved.Goals as goal
 
 pub next_place-p-requires : goal.next_place-p-requires

@@ -1,14 +1,9 @@
 -- The loop's invariant: the words hold what the places of the set before p lead to. The measure is the number of places left.
-use Rattle.std.specs.Prelude.{◌≡◌, ℕ, ◌-◌, ◌≤◌, List, length, replicate}
-use mathlib.Core.Path.{refl, ◌∙◌}
-use lib.Bits.{or_zero_l}
+use Rattle.std.specs.Prelude.{◌≡◌, ℕ, ◌-◌, ◌≤◌, List, length}
 use Rattle.places.specs.Words.{number_of}
-use Rattle.places.proofs.Held.{array_count}
 use Rattle.verdict.specs.Cover.{moves as moves_of}
 use Rattle.verdict.specs.Tables.{automata_of}
-use Rattle.verdict.specs.CoverWalk.{Walk, walk_start, walk_turn, walk_end}
-use native.Mathlib.Omega.{arith}
-use borrow.Author.Rules.{rules}
+use Rattle.verdict.specs.CoverWalk.{Walk}
 use Rattle.verdict.proofs.cover.moved.Given as goal
 
 abbrev pub invariant-loop-p : goal.invariant-loop-p

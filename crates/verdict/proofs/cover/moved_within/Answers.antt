@@ -1,11 +1,10 @@
-use Rattle.std.specs.Prelude.{◌≡◌, ◌+◌, ◌-◌, ◌*◌, ◌%◌, ◌^◌, length}
+use Rattle.std.specs.Prelude.{◌+◌, ◌*◌, ◌%◌, ◌^◌, length}
 use mathlib.Core.Path.{refl, sym, ap, ap₂, ◌∙◌, subst}
 use Rattle.theory.specs.Places.{union}
 use Rattle.places.specs.Words.{number_of}
 use Rattle.verdict.specs.CoverTold.{MovedWithin}
-use Rattle.verdict.specs.CoverLoops.{WithinLeft, within-start, within-turn, within-here, within_end}
+use Rattle.verdict.specs.CoverLoops.{within-start, within-turn, within-here, within_end}
 use native.Mathlib.Omega.{arith}
-use borrow.Author.Rules.{rules}
 use Rattle.verdict.proofs.cover.moved_within.Goals as goal
 
 pub loop-v-init : goal.loop-v-init

@@ -1,12 +1,6 @@
 -- The loop's invariant: the occurrence is in the lists that are left, at the offset that is left.
-use Rattle.std.specs.Prelude.{◌≡◌, ◌+◌, ◌-◌, ◌*◌, ◌%◌, ◌^◌, length}
-use mathlib.Core.Path.{refl, sym, ap, ap₂, ◌∙◌, subst}
-use Rattle.theory.specs.Places.{union}
-use Rattle.places.specs.Words.{number_of}
-use Rattle.verdict.specs.CoverTold.{MovedWithin}
-use Rattle.verdict.specs.CoverLoops.{WithinLeft, within-start, within-turn, within-here, within_end}
-use native.Mathlib.Omega.{arith}
-use borrow.Author.Rules.{rules}
+use Rattle.std.specs.Prelude.{◌≡◌, ◌-◌}
+use Rattle.verdict.specs.CoverLoops.{WithinLeft}
 use Rattle.verdict.proofs.cover.moved_within.Given as goal
 
 abbrev pub invariant-loop-v : goal.invariant-loop-v

@@ -7,7 +7,6 @@ use Rattle.places.specs.Words.{number_of}
 use Rattle.verdict.specs.Tables.{automata_of, rewritten}
 use Rattle.verdict.specs.CoverBounds.{moves-alone, moves-inside, moving-width}
 use native.Mathlib.Omega.{arith}
-use borrow.Author.Rules.{rules}
 use Rattle.verdict.proofs.cover.moves.Goals as goal
 
 pub overflow_mul-from : goal.overflow_mul-from

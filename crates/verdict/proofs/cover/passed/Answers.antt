@@ -1,8 +1,6 @@
-use Rattle.std.specs.Prelude.{◌≡◌, ◌-◌, length}
 use mathlib.Core.Path.{sym, ◌∙◌}
-use Rattle.verdict.specs.CoverLoops.{PassedLeft, passed_start, passed-turn, passed-end}
+use Rattle.verdict.specs.CoverLoops.{passed_start, passed-turn, passed-end}
 use native.Mathlib.Omega.{arith}
-use borrow.Author.Rules.{rules}
 use Rattle.verdict.proofs.cover.passed.Goals as goal
 
 pub loop-v-init : goal.loop-v-init

@@ -1,9 +1,6 @@
 -- The loop's invariant: what is added so far, with what the lists that are left add, is what all lists add.
 use Rattle.std.specs.Prelude.{◌≡◌, ◌-◌, length}
-use mathlib.Core.Path.{sym, ◌∙◌}
-use Rattle.verdict.specs.CoverLoops.{PassedLeft, passed_start, passed-turn, passed-end}
-use native.Mathlib.Omega.{arith}
-use borrow.Author.Rules.{rules}
+use Rattle.verdict.specs.CoverLoops.{PassedLeft}
 use Rattle.verdict.proofs.cover.passed.Given as goal
 
 abbrev pub invariant-loop-v : goal.invariant-loop-v

@@ -6,7 +6,6 @@ use Rattle.verdict.specs.TablesLaws.{occupied-few}
 use Rattle.verdict.specs.CoverBounds.{few-states}
 use Rattle.verdict.specs.CoverStepped.{not-ready}
 use native.Mathlib.Omega.{arith}
-use borrow.Author.Rules.{rules}
 use Rattle.verdict.proofs.cover.ready.Goals as goal
 
 pub returns-then-w-eq0 : goal.returns-then-w-eq0

@@ -1,12 +1,11 @@
-use Rattle.std.specs.Prelude.{◌≡◌, ℕ, ◌+◌, ◌-◌, ◌*◌, ◌≤◌, List, length}
+use Rattle.std.specs.Prelude.{◌*◌}
 use mathlib.Core.Path.{refl, ◌∙◌}
 use Rattle.places.specs.Words.{number_of}
 use Rattle.places.proofs.Held.{array_count}
 use Rattle.verdict.specs.Cover.{ends as ends_of}
 use Rattle.verdict.specs.Tables.{automata_of, rewritten}
-use Rattle.verdict.specs.CoverWalk.{Walk, walk_start, walk_turn, walk_end}
+use Rattle.verdict.specs.CoverWalk.{walk_start, walk_turn, walk_end}
 use native.Mathlib.Omega.{arith}
-use borrow.Author.Rules.{rules}
 use Rattle.verdict.proofs.cover.round.Goals as goal
 
 pub overflow_mul-count : goal.overflow_mul-count

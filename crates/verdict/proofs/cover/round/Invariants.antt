@@ -1,13 +1,9 @@
 -- The loop's invariant: the words hold the set, with what the places of `fresh` before p reach. The measure is the number of places left.
 use Rattle.std.specs.Prelude.{◌≡◌, ℕ, ◌+◌, ◌-◌, ◌*◌, ◌≤◌, List, length}
-use mathlib.Core.Path.{refl, ◌∙◌}
 use Rattle.places.specs.Words.{number_of}
-use Rattle.places.proofs.Held.{array_count}
 use Rattle.verdict.specs.Cover.{ends as ends_of}
 use Rattle.verdict.specs.Tables.{automata_of, rewritten}
-use Rattle.verdict.specs.CoverWalk.{Walk, walk_start, walk_turn, walk_end}
-use native.Mathlib.Omega.{arith}
-use borrow.Author.Rules.{rules}
+use Rattle.verdict.specs.CoverWalk.{Walk}
 use Rattle.verdict.proofs.cover.round.Given as goal
 
 abbrev pub invariant-loop-p : goal.invariant-loop-p

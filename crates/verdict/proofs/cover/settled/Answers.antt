@@ -1,9 +1,7 @@
-use Rattle.std.specs.Prelude.{◌≡◌, ◌-◌, ◌*◌}
 use mathlib.Core.Path.{refl, sym, ◌∙◌}
 use borrow.Author.Tests.{eqb-true, eqb-false}
-use Rattle.verdict.specs.CoverRounds.{RoundsLeft, rounds-start, rounds-same, rounds-turn, rounds-end}
+use Rattle.verdict.specs.CoverRounds.{rounds-start, rounds-same, rounds-turn, rounds-end}
 use native.Mathlib.Omega.{arith}
-use borrow.Author.Rules.{rules}
 use Rattle.verdict.proofs.cover.settled.Goals as goal
 
 pub overflow_mul-count : goal.overflow_mul-count

@@ -1,10 +1,6 @@
 -- The loop's invariant: the rounds that are left give what all rounds give. The measure is the number of rounds left.
 use Rattle.std.specs.Prelude.{◌≡◌, ◌-◌, ◌*◌}
-use mathlib.Core.Path.{refl, sym, ◌∙◌}
-use borrow.Author.Tests.{eqb-true, eqb-false}
-use Rattle.verdict.specs.CoverRounds.{RoundsLeft, rounds-start, rounds-same, rounds-turn, rounds-end}
-use native.Mathlib.Omega.{arith}
-use borrow.Author.Rules.{rules}
+use Rattle.verdict.specs.CoverRounds.{RoundsLeft}
 use Rattle.verdict.proofs.cover.settled.Given as goal
 
 abbrev pub invariant-loop-rounds : goal.invariant-loop-rounds

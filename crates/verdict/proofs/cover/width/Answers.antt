@@ -1,7 +1,5 @@
-use Rattle.std.specs.Prelude.{◌-◌}
-use Rattle.verdict.specs.CoverLoops.{WidthLeft, width-start, width-turn, width-end, width-none}
+use Rattle.verdict.specs.CoverLoops.{width-start, width-turn, width-end, width-none}
 use native.Mathlib.Omega.{arith}
-use borrow.Author.Rules.{rules}
 use Rattle.verdict.proofs.cover.width.Goals as goal
 
 pub returns-then-lists-gt16 : goal.returns-then-lists-gt16

@@ -1,6 +1,5 @@
 -- The first two tests say that there are states, at most 64, wherever the answer can be true.
 use mathlib.Core.Bool.{false≢true}
-use borrow.Author.Rules.{rules}
 use Rattle.verdict.proofs.explore.by_classes.Goals as goal
 
 pub returns-then-states-eq0 : goal.returns-then-states-eq0

@@ -1,7 +1,6 @@
 -- By rows as they were prepared, else by columns, for which nothing is changed.
 use mathlib.Core.Path.{refl}
 use native.Mathlib.Omega.{arith}
-use borrow.Author.Rules.{rules}
 use Rattle.verdict.proofs.explore.chosen_way.Goals as goal
 
 pub returns-then-lists-gt4 : goal.returns-then-lists-gt4

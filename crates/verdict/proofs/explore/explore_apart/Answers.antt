@@ -4,7 +4,6 @@ use native.Mathlib.Nat.{mul-le-mul_left}
 use Rattle.verdict.specs.Sums.{quarters}
 use Rattle.verdict.specs.TablesLaws.{occupied-few}
 use native.Mathlib.Omega.{arith}
-use borrow.Author.Rules.{rules}
 use Rattle.verdict.proofs.explore.explore_apart.Goals as goal
 
 pub explore_in-requires : goal.explore_in-requires

@@ -2,7 +2,6 @@
 use mathlib.Core.Path.{refl}
 use Rattle.verdict.specs.TablesLaws.{occupied-few}
 use native.Mathlib.Omega.{arith}
-use borrow.Author.Rules.{rules}
 use Rattle.verdict.proofs.explore.explore_classes.Goals as goal
 
 pub explore_with-requires : goal.explore_with-requires

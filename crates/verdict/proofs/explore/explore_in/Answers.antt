@@ -1,11 +1,9 @@
 -- The columns have room where sets stand turned: then there are as many as the width, one more than the occurrences.
 use Rattle.std.specs.Prelude.{◌≡◌, ℕ, zero, suc, ◌<◌, ◌≤◌, false}
-use mathlib.Core.Bool.{false≢true}
 use mathlib.Core.Path.{◌∙◌}
 use Rattle.verdict.specs.Prepared.{columns-chosen, rows-chosen}
 use Rattle.verdict.specs.Searches.{told-search}
 use native.Mathlib.Omega.{arith}
-use borrow.Author.Rules.{rules}
 use Rattle.verdict.proofs.explore.explore_in.Goals as goal
 
 turned-fits : (turned occurrences room : ℕ) → (0 < turned → turned ≡ suc occurrences) → occurrences < room → turned ≤ room
@@ -30,7 +28,7 @@ pairs-found-requires c =
     let p = c.prepared-width in
     let way = c.chosen_way-chosen in
     let by-columns = columns-chosen (λ h. (p.ensures h).0) way.ensures in (
-      record { apart = λ h e. by-columns h; classed = λ h e. absurd (false≢true e) },
+      record { apart = λ h e. by-columns h; classed = λ h e. cc },
       λ h. (p.ensures (omega (arith, (way.ensures.by-columns h).0))).1,
       turned-fits _ _ _ (λ h. (by-columns h).ready.wide) s.requires.2,
       rows-chosen (λ h. (p.ensures h).0) way.ensures

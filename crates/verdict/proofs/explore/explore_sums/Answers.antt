@@ -1,8 +1,6 @@
 -- The sums are put down, so that steps by classes are ready; where they have no room, nothing is done.
 use Rattle.std.specs.Prelude.{◌≡◌, true, length}
-use mathlib.Core.Bool.{false≢true}
-use mathlib.Core.Path.{refl, sym}
-use borrow.Author.Tests.{not-false}
+use mathlib.Core.Path.{refl}
 use Rattle.verdict.specs.Searches.{told-search}
 use native.Mathlib.Omega.{arith}
 use borrow.Author.Rules.{rules}
@@ -32,10 +30,10 @@ pub pairs-found-requires : goal.pairs-found-requires
 pairs-found-requires c =
     let s = c in
     let m = s.requires.0 in
-    let p = c.prepare_classes.ensures (not-false _ c.if-not-prepare_classes.false-raw) in
+    let p = c.prepare_classes.ensures c.if-not-prepare_classes.false in
     let room : length s.args.merged.now ≡ 128 = search rules in (
       record {
-        apart = λ h e. absurd (false≢true (sym e));
+        apart = λ h e. cc;
         classed = λ h e. record {
           ready = m.ready;
           some = s.requires.1;
@@ -44,7 +42,7 @@ pairs-found-requires c =
           few-classes = m.few-classes;
           few-places = m.few-places;
           few-labels = m.few-labels;
-          before = m;
+          before = m.before;
           leading = m.leading;
           stable = m.stable;
           merged-room = omega (arith, room);
@@ -53,7 +51,7 @@ pairs-found-requires c =
       },
       λ h. p.1,
       s.requires.4,
-      λ h. absurd (omega arith),
+      λ h. elim h [ ],
     )
 
 pub shape_of-ended : goal.shape_of-ended

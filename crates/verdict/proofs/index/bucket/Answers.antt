@@ -3,7 +3,6 @@ use Rattle.std.specs.Prelude.{◌*◌}
 use Rattle.theory.specs.PlacesLaws.{wider}
 use Rattle.places.specs.Words.{number_of}
 use native.Mathlib.Omega.{arith}
-use borrow.Author.Rules.{rules}
 use Rattle.verdict.proofs.index.bucket.Goals as goal
 
 pub remainder-requires : goal.remainder-requires

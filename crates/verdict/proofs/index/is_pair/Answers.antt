@@ -1,4 +1,4 @@
-use Rattle.std.specs.Prelude.{◌≡◌, ◌+◌, ◌-◌, ◌*◌, ◌≤◌, get_or}
+use Rattle.std.specs.Prelude.{◌≡◌, ◌+◌, ◌*◌, get_or}
 use mathlib.Core.Bool.{true≢false, false≢true}
 use mathlib.Core.Path.{refl, sym, ap, ◌∙◌, subst}
 use Rattle.verdict.specs.Workspace.{Words, words-start, words_same, pair_same, standing-differs, word-differs}
@@ -17,7 +17,7 @@ returns-then-workspace-i c =
 pub loop-j-init : goal.loop-j-init
 loop-j-init c =
     let s = c in
-    (refl, omega arith, words-start s.args.workspace.now (18 * s.args.i + 1) s.args.cover.now c.words-1.given.0)
+    (refl, omega arith, words-start s.args.workspace.now (18 * s.args.i + 1) s.args.cover.now (omega arith))
 
 pub returns-then-workspace-from : goal.returns-then-workspace-from
 returns-then-workspace-from c =
@@ -26,8 +26,8 @@ returns-then-workspace-from c =
     record {
       same = λ q. absurd (false≢true q);
       differs = λ q. word-differs s.args.workspace.now s.args.i s.args.standing l.j s.args.cover.now
-          (λ k. omega (arith, c.shared_slice_known-1.given k))
-          (λ k. omega (arith, c.shared_slice_known-in-loop-j-2-1.given k)) l.invariant.2.size (omega (arith, c.loop-j-test.true, s.requires.1))
+          (λ k. search rules)
+          (λ k. search rules) l.invariant.2.size (omega (arith, c.loop-j-test.true, s.requires.1))
           (λ e. c.if-workspace-from.true (ap (λ x. get_or s.args.workspace.now (x + l.j) 0) l.invariant.0 ∙ e));
     }
 

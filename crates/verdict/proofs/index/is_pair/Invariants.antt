@@ -1,10 +1,6 @@
 -- The loop's invariant: the standings and the first j words of the cover sets are equal. The words from `used` on are zero.
-use Rattle.std.specs.Prelude.{◌≡◌, ◌+◌, ◌-◌, ◌*◌, ◌≤◌, get_or}
-use mathlib.Core.Bool.{true≢false, false≢true}
-use mathlib.Core.Path.{refl, sym, ap, ◌∙◌, subst}
-use Rattle.verdict.specs.Workspace.{Words, words-start, words_same, pair_same, standing-differs, word-differs}
-use native.Mathlib.Omega.{arith}
-use borrow.Author.Rules.{rules}
+use Rattle.std.specs.Prelude.{◌≡◌, ◌+◌, ◌-◌, ◌*◌, ◌≤◌}
+use Rattle.verdict.specs.Workspace.{Words}
 use Rattle.verdict.proofs.index.is_pair.Given as goal
 
 abbrev pub invariant-loop-j : goal.invariant-loop-j

@@ -1,11 +1,8 @@
-use Rattle.std.specs.Prelude.{◌≡◌, ◌-◌, ◌%◌, ◌<◌, ◌≤◌, get_or, drop}
+use Rattle.std.specs.Prelude.{◌-◌, ◌%◌, ◌<◌, get_or}
 use mathlib.Core.Path.{ap, ◌∙◌}
 use lib.Bits.{bit_xor}
-use Rattle.places.specs.Words.{number_of}
-use Rattle.verdict.specs.PairIndex.{mix_of}
 use Rattle.verdict.specs.PairIndexLaws.{mixed-start, mixed-turn, mixed-end}
 use native.Mathlib.Omega.{arith}
-use borrow.Author.Rules.{rules}
 use Rattle.verdict.proofs.index.remainder.Goals as goal
 
 pub loop-j-init : goal.loop-j-init
@@ -21,7 +18,7 @@ loop-j-preserved c =
       omega (arith, l.invariant.0),
       ap (λ z. bit_xor z (get_or s.args.cover.now (l.j - 1) 0)) c.rotate.ensures
           ∙ mixed-turn s.args.cover.now l.j l.mix entered (omega (arith, l.invariant.0, s.requires.0))
-          (omega (arith, c.shared_slice_known-1.given (l.j - 1))) l.invariant.1,
+          (omega arith) l.invariant.1,
     )
 
 pub returns : goal.returns

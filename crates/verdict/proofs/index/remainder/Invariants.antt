@@ -1,12 +1,7 @@
 -- The loop's invariant: the words from j on are mixed. The measure is the number of words left.
-use Rattle.std.specs.Prelude.{◌≡◌, ◌-◌, ◌%◌, ◌<◌, ◌≤◌, get_or, drop}
-use mathlib.Core.Path.{ap, ◌∙◌}
-use lib.Bits.{bit_xor}
+use Rattle.std.specs.Prelude.{◌≡◌, ◌-◌, ◌≤◌, drop}
 use Rattle.places.specs.Words.{number_of}
 use Rattle.verdict.specs.PairIndex.{mix_of}
-use Rattle.verdict.specs.PairIndexLaws.{mixed-start, mixed-turn, mixed-end}
-use native.Mathlib.Omega.{arith}
-use borrow.Author.Rules.{rules}
 use Rattle.verdict.proofs.index.remainder.Given as goal
 
 abbrev pub invariant-loop-j : goal.invariant-loop-j

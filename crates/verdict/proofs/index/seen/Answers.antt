@@ -1,12 +1,10 @@
 use Rattle.std.specs.Prelude.{◌-◌}
-use Rattle.finding.specs.Buckets.{Walk}
 use Rattle.finding.specs.BucketsLaws.{walk_start, walk_turn, walk-less}
 use Rattle.verdict.specs.PairTable.{pair_at}
 use Rattle.verdict.specs.Workspace.{pair}
 use Rattle.verdict.specs.PairIndex.{bucket_of}
 use Rattle.verdict.specs.PairIndexLaws.{bucket-below, walk-found, walk_end}
 use native.Mathlib.Omega.{arith}
-use borrow.Author.Rules.{rules}
 use Rattle.verdict.proofs.index.seen.Goals as goal
 
 pub offset_bounds-heads-at : goal.offset_bounds-heads-at

@@ -1,13 +1,8 @@
 -- The loop's invariant: `next` stands for a pair of the bucket, and the pairs from there on are others (finding: Buckets, Walk).
-use Rattle.std.specs.Prelude.{◌-◌}
 use Rattle.finding.specs.Buckets.{Walk}
-use Rattle.finding.specs.BucketsLaws.{walk_start, walk_turn, walk-less}
 use Rattle.verdict.specs.PairTable.{pair_at}
 use Rattle.verdict.specs.Workspace.{pair}
 use Rattle.verdict.specs.PairIndex.{bucket_of}
-use Rattle.verdict.specs.PairIndexLaws.{bucket-below, walk-found, walk_end}
-use native.Mathlib.Omega.{arith}
-use borrow.Author.Rules.{rules}
 use Rattle.verdict.proofs.index.seen.Given as goal
 
 abbrev pub invariant-loop-next : goal.invariant-loop-next

@@ -1,12 +1,10 @@
-use Rattle.std.specs.Prelude.{◌≡◌, ℕ, ◌-◌, ◌≤◌, List, length, get_or}
+use Rattle.std.specs.Prelude.{◌≡◌, ℕ, List, length, get_or}
 use mathlib.Core.Path.{refl, sym, ◌∙◌, subst}
-use Rattle.verdict.specs.Tables.{occupied}
 use Rattle.verdict.specs.TablesLaws.{occupied-none, occupied-more, occupied-few}
 use Rattle.verdict.specs.ColumnOffsets.{occupied-room}
 use Rattle.verdict.specs.WordBits.{cleared-zero}
-use Rattle.verdict.specs.KindsTurns.{KindsLeft, lists-start, lists-turn, lists-end}
+use Rattle.verdict.specs.KindsTurns.{lists-start, lists-turn, lists-end}
 use native.Mathlib.Omega.{arith}
-use borrow.Author.Rules.{rules}
 use Rattle.verdict.proofs.kinds.kinds_of.Goals as goal
 
 pub loop-v-init : goal.loop-v-init

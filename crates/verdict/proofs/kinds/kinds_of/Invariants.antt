@@ -1,14 +1,8 @@
 -- The loop's invariant: the entries of the lists before v are filled, and those of the others are empty (KindsLeft). The measure is the
 -- number of lists left.
-use Rattle.std.specs.Prelude.{◌≡◌, ℕ, ◌-◌, ◌≤◌, List, length, get_or}
-use mathlib.Core.Path.{refl, sym, ◌∙◌, subst}
+use Rattle.std.specs.Prelude.{◌≡◌, ◌-◌, ◌≤◌, length}
 use Rattle.verdict.specs.Tables.{occupied}
-use Rattle.verdict.specs.TablesLaws.{occupied-none, occupied-more, occupied-few}
-use Rattle.verdict.specs.ColumnOffsets.{occupied-room}
-use Rattle.verdict.specs.WordBits.{cleared-zero}
-use Rattle.verdict.specs.KindsTurns.{KindsLeft, lists-start, lists-turn, lists-end}
-use native.Mathlib.Omega.{arith}
-use borrow.Author.Rules.{rules}
+use Rattle.verdict.specs.KindsTurns.{KindsLeft}
 use Rattle.verdict.proofs.kinds.kinds_of.Given as goal
 
 abbrev pub invariant-loop-v : goal.invariant-loop-v

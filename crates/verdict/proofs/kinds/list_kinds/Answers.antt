@@ -1,8 +1,7 @@
-use Rattle.std.specs.Prelude.{◌≡◌, ℕ, ◌-◌, ◌≤◌, length}
+use Rattle.std.specs.Prelude.{◌≡◌, ℕ}
 use mathlib.Core.Path.{refl, ◌∙◌, subst}
 use Rattle.verdict.specs.KindsTurns.{ListKinds, kinds-start, kinds-turn}
 use native.Mathlib.Omega.{arith}
-use borrow.Author.Rules.{rules}
 use Rattle.verdict.proofs.kinds.list_kinds.Goals as goal
 
 pub loop-a-init : goal.loop-a-init

@@ -1,9 +1,6 @@
 -- The loop's invariant: the occurrences have gained the labels before a (ListKinds). The measure is the number of labels left.
-use Rattle.std.specs.Prelude.{◌≡◌, ℕ, ◌-◌, ◌≤◌, length}
-use mathlib.Core.Path.{refl, ◌∙◌, subst}
-use Rattle.verdict.specs.KindsTurns.{ListKinds, kinds-start, kinds-turn}
-use native.Mathlib.Omega.{arith}
-use borrow.Author.Rules.{rules}
+use Rattle.std.specs.Prelude.{◌≡◌, ◌-◌, ◌≤◌, length}
+use Rattle.verdict.specs.KindsTurns.{ListKinds}
 use Rattle.verdict.proofs.kinds.list_kinds.Given as goal
 
 abbrev pub invariant-loop-a : goal.invariant-loop-a

@@ -1,12 +1,11 @@
-use Rattle.std.specs.Prelude.{◌≡◌, ◌-◌, ◌^◌, ◌<◌, length}
+use Rattle.std.specs.Prelude.{◌-◌}
 use mathlib.Core.Path.{refl, ◌∙◌}
 use lib.Bits.{and_le_r}
 use lib.Count.{trailing_le}
 use lib.ListN.{length-set}
-use Rattle.verdict.specs.LeadingTurns.{LedLeft, led-start, led-turn, led-end}
+use Rattle.verdict.specs.LeadingTurns.{led-start, led-turn, led-end}
 use Rattle.places.specs.Followed.{least-small}
 use native.Mathlib.Omega.{arith}
-use borrow.Author.Rules.{rules}
 use Rattle.verdict.proofs.leading.lead_from.Goals as goal
 
 pub loop-rest-init : goal.loop-rest-init
@@ -48,8 +47,8 @@ loop-rest-preserved c =
     let l = c.loop-rest in
     let s = c in (
       omega (arith, l.invariant.0, and_le_r l.rest (l.rest - 1)),
-      length-set l _ _ ∙ l.invariant.1,
-      led-turn s.args.base s.args.o s.args.set s.args.now l l.rest c.loop-rest-test.true
+      length-set l.before _ _ ∙ l.invariant.1,
+      led-turn s.args.base s.args.o s.args.set s.args.before.now l.before l.rest c.loop-rest-test.true
           l.invariant.0 s.requires.1
           (omega (arith, s.requires.0, l.invariant.1)) l.invariant.2,
     )
@@ -58,4 +57,4 @@ pub returns : goal.returns
 returns c =
     let l = c.loop-rest in
     let s = c in
-    led-end s.args.base s.args.o s.args.set s.args.now l l.rest c.loop-rest-test.false l.invariant.2
+    led-end s.args.base s.args.o s.args.set s.args.before.now l.before l.rest c.loop-rest-test.false l.invariant.2

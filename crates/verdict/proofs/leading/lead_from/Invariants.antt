@@ -1,14 +1,7 @@
 -- The loop's invariant: what the entries gained, with what they gain for the places left, is what they gain for the set (LedLeft).
 -- The measure is the places left.
-use Rattle.std.specs.Prelude.{◌≡◌, ◌-◌, ◌^◌, ◌<◌, length}
-use mathlib.Core.Path.{refl, ◌∙◌}
-use lib.Bits.{and_le_r}
-use lib.Count.{trailing_le}
-use lib.ListN.{length-set}
-use Rattle.verdict.specs.LeadingTurns.{LedLeft, led-start, led-turn, led-end}
-use Rattle.places.specs.Followed.{least-small}
-use native.Mathlib.Omega.{arith}
-use borrow.Author.Rules.{rules}
+use Rattle.std.specs.Prelude.{◌≡◌, ◌^◌, ◌<◌, length}
+use Rattle.verdict.specs.LeadingTurns.{LedLeft}
 use Rattle.verdict.proofs.leading.lead_from.Given as goal
 
 abbrev pub invariant-loop-rest : goal.invariant-loop-rest

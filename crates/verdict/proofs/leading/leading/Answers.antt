@@ -1,11 +1,9 @@
-use Rattle.std.specs.Prelude.{◌≡◌, ℕ, ◌-◌, ◌*◌, ◌≤◌, List, length, get_or}
+use Rattle.std.specs.Prelude.{◌≡◌, ℕ, ◌*◌, List, get_or}
 use mathlib.Core.Bool.{false≢true}
 use mathlib.Core.Path.{refl, sym, ◌∙◌, subst}
-use borrow.Author.Tests.{not-false}
-use Rattle.verdict.specs.LeadingTurns.{ListsLed, lists-start, lists-turn, lists-end}
+use Rattle.verdict.specs.LeadingTurns.{lists-start, lists-turn, lists-end}
 use Rattle.verdict.specs.WordBits.{cleared-zero}
 use native.Mathlib.Omega.{arith}
-use borrow.Author.Rules.{rules}
 use Rattle.verdict.proofs.leading.leading.Goals as goal
 
 pub overflow_mul-lists : goal.overflow_mul-lists
@@ -17,7 +15,7 @@ loop-v-init c =
       omega arith,
       lists-start s.args.lists s.args.follow.now s.args.sizes.now c.clear_words.new.words
           (λ i h. subst (λ (z : List ℕ). get_or z i 0 ≡ 0) (sym (c.clear_words.ensures.enough s.requires.2))
-          (cleared-zero (64 * s.args.lists) s.args.now i h)),
+          (cleared-zero (64 * s.args.lists) s.args.before.now i h)),
       refl,
     )
 
@@ -40,8 +38,8 @@ loop-v-preserved c =
     let s = c in
     let below = c.loop-v-test.true in (
       omega (arith, below),
-      lists-turn s.args.lists l.v s.args.follow.now s.args.sizes.now l c.list_leading.new.before below
-          (c.list_leading.ensures (not-false _ c.if-not-list_leading.false-raw)) l.invariant.1,
+      lists-turn s.args.lists l.v s.args.follow.now s.args.sizes.now l.before c.list_leading.new.before below
+          (c.list_leading.ensures c.if-not-list_leading.false) l.invariant.1,
       c.list_leading.auto.before ∙ l.invariant.2,
     )
 
@@ -52,5 +50,5 @@ pub returns : goal.returns
 returns c =
     let l = c.loop-v in
     let s = c in
-    λ e. lists-end s.args.lists l.v s.args.follow.now s.args.sizes.now l
+    λ e. lists-end s.args.lists l.v s.args.follow.now s.args.sizes.now l.before
     (omega (arith, l.invariant.0, c.loop-v-test.false)) l.invariant.1

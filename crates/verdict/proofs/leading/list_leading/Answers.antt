@@ -1,10 +1,9 @@
-use Rattle.std.specs.Prelude.{◌≡◌, ℕ, ◌+◌, ◌-◌, ◌*◌, ◌≤◌, length, get_or}
+use Rattle.std.specs.Prelude.{◌≡◌, ℕ, ◌+◌, ◌*◌, get_or}
 use mathlib.Core.Bool.{false≢true}
 use mathlib.Core.Path.{refl, ap, ◌∙◌, subst}
 use Rattle.verdict.specs.LeadingTurns.{ListBefore, list-start, list-turn}
 use Rattle.verdict.specs.WordBits.{first-none}
 use native.Mathlib.Omega.{arith}
-use borrow.Author.Rules.{rules}
 use Rattle.verdict.proofs.leading.list_leading.Goals as goal
 
 pub loop-o-init : goal.loop-o-init
@@ -27,7 +26,7 @@ loop-o-preserved c =
     let s = c in
     let e : 64 * s.args.v + 64 + l.o ≡ 64 * (s.args.v + 1) + l.o = omega arith in (
       omega (arith, c.loop-o-test.true),
-      list-turn s.args.v l.o s.args.follow.now s.args.now l c.lead_from.new.before _
+      list-turn s.args.v l.o s.args.follow.now s.args.before.now l.before c.lead_from.new.before _
           (ap (λ (z : ℕ). get_or s.args.follow.now z 0) e) (first-none _ c.if-set-eq1.false) c.lead_from.ensures
           l.invariant.1,
       c.lead_from.auto.before ∙ l.invariant.2,
@@ -41,4 +40,4 @@ returns c =
     let l = c.loop-o in
     let s = c in
     let e : l.o ≡ s.args.size + 1 = omega (arith, l.invariant.0, c.loop-o-test.false) in
-    λ t. subst (λ (z : ℕ). ListBefore s.args.v z s.args.follow.now s.args.now l) e l.invariant.1
+    λ t. subst (λ (z : ℕ). ListBefore s.args.v z s.args.follow.now s.args.before.now l.before) e l.invariant.1

@@ -1,11 +1,6 @@
 -- The loop's invariant: the entries have gained the places before o (ListBefore). The measure is the number of places left.
-use Rattle.std.specs.Prelude.{◌≡◌, ℕ, ◌+◌, ◌-◌, ◌*◌, ◌≤◌, length, get_or}
-use mathlib.Core.Bool.{false≢true}
-use mathlib.Core.Path.{refl, ap, ◌∙◌, subst}
-use Rattle.verdict.specs.LeadingTurns.{ListBefore, list-start, list-turn}
-use Rattle.verdict.specs.WordBits.{first-none}
-use native.Mathlib.Omega.{arith}
-use borrow.Author.Rules.{rules}
+use Rattle.std.specs.Prelude.{◌≡◌, ◌+◌, ◌-◌, ◌≤◌, length}
+use Rattle.verdict.specs.LeadingTurns.{ListBefore}
 use Rattle.verdict.proofs.leading.list_leading.Given as goal
 
 abbrev pub invariant-loop-o : goal.invariant-loop-o

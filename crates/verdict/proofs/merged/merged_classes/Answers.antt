@@ -2,7 +2,6 @@
 use Rattle.std.specs.Prelude.{◌≡◌, ℕ, ◌+◌}
 use mathlib.Core.Path.{◌∙◌, subst}
 use native.Mathlib.Nat.{mul-le-mul_left}
-use borrow.Author.Tests.{not-false}
 use Rattle.verdict.specs.Tables.{occupied}
 use Rattle.verdict.specs.TablesLaws.{ready-width}
 use Rattle.verdict.specs.Classes.{Numbered}
@@ -34,7 +33,7 @@ classify-k-requires c =
       r.follow-room,
       r.enter-room,
       omega (arith, s.requires.1, c.leading.auto.before),
-      (c.leading.ensures (not-false _ c.if-not-leading.false-raw)).within,
+      (c.leading.ensures c.if-not-leading.false).within,
       omega (arith, r.wide),
       omega (arith, r.wide, s.requires.2),
       omega (arith, r.wide, s.requires.3),
@@ -53,7 +52,7 @@ merge-requires c =
       omega (arith, c.if-labels-gt32.false),
       r.enter-room,
       omega (arith, s.requires.1, c.leading.auto.before),
-      (c.leading.ensures (not-false _ c.if-not-leading.false-raw)).within,
+      (c.leading.ensures c.if-not-leading.false).within,
       omega (arith, s.requires.2, f.auto.keys),
       subst (λ (z : ℕ). Numbered z f.result f.new.classes) wide (f.ensures.0 (omega (arith, c.if-k-eq0.false))),
       omega (arith, s.requires.3, f.auto.classes),
@@ -92,8 +91,8 @@ returns c =
         few-places = omega (arith, r.few-places, mul-le-mul_left s.args.states numbered.narrow);
         few-labels = omega (arith, c.if-labels-gt32.false);
         before = c.leading.new.before;
-        leading = c.leading.ensures (not-false _ c.if-not-leading.false-raw);
-        stable = c.merge.ensures (not-false _ c.if-not-merge.false-raw);
+        leading = c.leading.ensures c.if-not-leading.false;
+        stable = c.merge.ensures c.if-not-merge.false;
         ending = c.ending_lists.ensures;
       },
     )

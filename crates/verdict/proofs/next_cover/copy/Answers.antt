@@ -1,10 +1,8 @@
-use Rattle.std.specs.Prelude.{◌-◌, ◌≤◌}
 use mathlib.Core.Path.{refl, sym, ◌∙◌}
 use lib.Seq.{ext_get_or}
-use Rattle.places.specs.WordsLaws.{Joined, joined-none, joined-next, joined-all}
+use Rattle.places.specs.WordsLaws.{joined-none, joined-next, joined-all}
 use Rattle.places.proofs.Held.{array_count}
 use native.Mathlib.Omega.{arith}
-use borrow.Author.Rules.{rules}
 use Rattle.verdict.proofs.next_cover.copy.Goals as goal
 
 pub loop-j-init : goal.loop-j-init

@@ -1,11 +1,6 @@
 -- The loop's invariant: the first j words are copied.
 use Rattle.std.specs.Prelude.{◌-◌, ◌≤◌}
-use mathlib.Core.Path.{refl, sym, ◌∙◌}
-use lib.Seq.{ext_get_or}
-use Rattle.places.specs.WordsLaws.{Joined, joined-none, joined-next, joined-all}
-use Rattle.places.proofs.Held.{array_count}
-use native.Mathlib.Omega.{arith}
-use borrow.Author.Rules.{rules}
+use Rattle.places.specs.WordsLaws.{Joined}
 use Rattle.verdict.proofs.next_cover.copy.Given as goal
 
 abbrev pub invariant-loop-j : goal.invariant-loop-j

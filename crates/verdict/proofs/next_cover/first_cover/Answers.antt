@@ -5,7 +5,6 @@ use Rattle.places.specs.Words.{number_of}
 use Rattle.places.specs.WordsLaws.{number-below}
 use Rattle.places.proofs.Held.{array_count, array-words}
 use native.Mathlib.Omega.{arith}
-use borrow.Author.Rules.{rules}
 use Rattle.verdict.proofs.next_cover.first_cover.Goals as goal
 
 pub returns-then-w-eq0 : goal.returns-then-w-eq0

@@ -6,7 +6,6 @@ use Rattle.verdict.specs.PairTableLaws.{set-part}
 use Rattle.verdict.specs.Turned.{Stacked}
 use Rattle.verdict.specs.WideRows.{RowsLaid}
 use native.Mathlib.Omega.{arith}
-use borrow.Author.Rules.{rules}
 use Rattle.verdict.proofs.next_cover.lay.Goals as goal
 
 pub lay_rows-requires : goal.lay_rows-requires
@@ -23,7 +22,7 @@ returns-then-rows-gt0 c =
     let s = c in
     let laid = c.lay_rows.new.laid in (
       λ e w few. absurd (omega (arith, c.if-rows-gt0.true)),
-      λ h. subst (λ l. RowsLaid s.args.rows s.args.states s.args.now (number_of l) laid)
+      λ h. subst (λ l. RowsLaid s.args.rows s.args.states s.args.before.now (number_of l) laid)
           (set-part s.args.workspace.now s.args.i s.requires.1) c.lay_rows.ensures,
     )
 

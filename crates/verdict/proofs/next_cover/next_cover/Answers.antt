@@ -14,15 +14,13 @@ use Rattle.verdict.specs.PairTableLaws.{set-part}
 use Rattle.verdict.specs.Ranges.{RangesStepped}
 use Rattle.verdict.specs.WordBits.{number-cleared}
 use native.Mathlib.Omega.{arith}
-use borrow.Author.Rules.{rules}
 use Rattle.verdict.proofs.next_cover.next_cover.Goals as goal
 
 pub step_rows-requires : goal.step_rows-requires
 step_rows-requires c =
     let s = c in
     let h = c.if-rows-gt0.true in
-    let p = s.requires.0.by_rows h in
-    let words = c.clear_words-arg-1.given.0.1 in (
+    let p = s.requires.0.by_rows h in (
       p.before-room,
       p.ready.counted.few,
       p.ended-room,
@@ -34,9 +32,9 @@ step_rows-requires c =
       p.ready.few-places,
       p.laid-room,
       rows-within p (words_at s.args.workspace.now (18 * s.args.i + 1) 16) (s.requires.0.rows-laid h),
-      c.step_rows-arg-1.given.0.1,
-      ap number_of (c.clear_words.ensures.enough (omega (arith, words)))
-          ∙ number-cleared 16 s.args.cover.now (omega (arith, words)),
+      (omega arith),
+      ap number_of (c.clear_words.ensures.enough (omega arith))
+          ∙ number-cleared 16 s.args.cover.now (omega arith),
     )
 
 pub returns-then-rows-gt0 : goal.returns-then-rows-gt0
@@ -49,11 +47,8 @@ returns-then-rows-gt0 c =
     let r = c.step_rows.new.words in (
       rows-stand p set laid s.args.classed s.args.classes.now r c.step_rows.ensures.0,
       λ used u. subst (λ k. number_of r < 2 ^ (64 * k)) (sym (u.plain p.plain)) (wider (s.args.states * s.args.rows) (64 * 16) (number_of r) p.ready.few-places c.step_rows.ensures.1),
-      c.step_rows.auto.words ∙ c.step_rows-arg-1.given.0.1,
+      c.step_rows.auto.words ∙ (omega arith),
     )
-
-pub copy-requires : goal.copy-requires
-copy-requires c = c.copy-arg-1.given.0.1
 
 pub returns-then-w-eq0 : goal.returns-then-w-eq0
 returns-then-w-eq0 c =
@@ -72,8 +67,7 @@ pub step_classes-requires : goal.step_classes-requires
 step_classes-requires c =
     let s = c in
     let w : 0 < s.args.w = omega (arith, c.if-w-eq0.false) in
-    let p = s.requires.0.ready.classed w c.if-classed.true in
-    let words = c.clear_words-arg-then-classed-1.given.0.1 in (
+    let p = s.requires.0.ready.classed w c.if-classed.true in (
       omega (arith, s.requires.1),
       w,
       p.few-classes,
@@ -85,9 +79,9 @@ step_classes-requires c =
       merged-within p s.requires.0.label,
       (s.requires.0.stacked (omega (arith, c.if-rows-gt0.false)) w p.few).within,
       p.sums.within,
-      c.step_classes-arg-1.given.0.1,
-      ap number_of (c.clear_words-then-classed.ensures.enough (omega (arith, words)))
-          ∙ number-cleared 16 s.args.cover.now (omega (arith, words)),
+      (omega arith),
+      ap number_of (c.clear_words-then-classed.ensures.enough (omega arith))
+          ∙ number-cleared 16 s.args.cover.now (omega arith),
     )
 
 pub returns-then-classed : goal.returns-then-classed
@@ -102,21 +96,20 @@ returns-then-classed c =
           (classes-stand p (words_at s.args.workspace.now (18 * s.args.i + 1) 16) (s.requires.0.stacked (omega (arith, c.if-rows-gt0.false)) w p.few) s.requires.0.label r told.0
           told.1),
       λ used u. omega (arith, told.1, pow_mono (u.turned w)),
-      c.step_classes.auto.words ∙ c.step_classes-arg-1.given.0.1,
+      c.step_classes.auto.words ∙ (omega arith),
     )
 
 pub step_ranges-requires : goal.step_ranges-requires
 step_ranges-requires c =
     let s = c in
     let w : 0 < s.args.w = omega (arith, c.if-w-eq0.false) in
-    let p = s.requires.0.ready.apart w c.if-classed.false in
-    let words = c.clear_words-arg-then-states-gt64-1.given.0.1 in (
+    let p = s.requires.0.ready.apart w c.if-classed.false in (
       ranges-asked p c.if-states-gt64.true,
       s.requires.1,
       simp (length-take, length-drop) (omega (arith, s.requires.2)),
-      c.step_ranges-arg-then-states-gt64-1.given.0.1,
-      ap number_of (c.clear_words-then-states-gt64.ensures.enough (omega (arith, words)))
-          ∙ number-cleared 16 s.args.cover.now (omega (arith, words)),
+      (omega arith),
+      ap number_of (c.clear_words-then-states-gt64.ensures.enough (omega arith))
+          ∙ number-cleared 16 s.args.cover.now (omega arith),
     )
 
 pub returns-then-states-gt64 : goal.returns-then-states-gt64
@@ -130,10 +123,10 @@ returns-then-states-gt64 c =
       in-apart s.args.w s.args.classed s.args.classes.now w by
           (ranges-stand p many (words_at s.args.workspace.now (18 * s.args.i + 1) 16) r
           (subst (λ l. RangesStepped s.args.states s.args.lists s.args.a s.args.enter.now s.args.sizes.now s.args.accepting.now
-          s.args.now s.args.ended.now s.args.table.now (number_of l) (number_of r))
+          s.args.before.now s.args.ended.now s.args.table.now (number_of l) (number_of r))
           (set-part s.args.workspace.now s.args.i s.requires.2) c.step_ranges.ensures)),
       λ used u. omega (arith, ranges-within p many c.step_ranges.ensures, pow_mono (u.turned w)),
-      c.step_ranges.auto.words ∙ c.step_ranges-arg-then-states-gt64-1.given.0.1,
+      c.step_ranges.auto.words ∙ (omega arith),
     )
 
 pub step_turned-requires : goal.step_turned-requires

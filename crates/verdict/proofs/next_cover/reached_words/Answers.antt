@@ -1,4 +1,4 @@
-use Rattle.std.specs.Prelude.{◌≡◌, ℕ, zero, suc, ◌-◌, ◌*◌, ◌^◌, ◌<◌, ◌≤◌, List, [], ◌∷◌, get_or, set, replicate}
+use Rattle.std.specs.Prelude.{◌≡◌, ℕ, zero, suc, ◌*◌, ◌^◌, ◌<◌, ◌≤◌, List, [], ◌∷◌, get_or, set, replicate}
 use mathlib.Core.Path.{refl, sym, ◌∙◌, subst}
 use native.Mathlib.Decide.{dec_lt}
 use lib.ListN.{get_or-eq_default}
@@ -51,11 +51,11 @@ returns-then-used-j c =
 pub loop-j-preserved : goal.loop-j-preserved
 loop-j-preserved c =
     let l = c.loop-j in
-    (omega arith, omega (arith, c.if-used-j.false), words-set l.words l.j _ (omega (arith, c.shared_slice_known-1.given l.j)) l.invariant.2, joined-next _ _ _ l.words l.j (omega (arith, l.invariant.3.size)) l.invariant.3)
+    (omega arith, omega (arith, c.if-used-j.false), words-set l.words l.j _ (search rules) l.invariant.2, joined-next _ _ _ l.words l.j (omega (arith, l.invariant.3.size)) l.invariant.3)
 
 pub returns : goal.returns
 returns c =
     let s = c in
     let l = c.loop-j in
     first-told s.args.first.now l.words l.j s.args.used l.invariant.2 l.invariant.3 l.invariant.1
-    (λ k a b. get_or-eq_default s.args.first.now 0 (omega (arith, c.loop-j-test.false, c.reached-1.given)))
+    (λ k a b. get_or-eq_default s.args.first.now 0 (omega arith))

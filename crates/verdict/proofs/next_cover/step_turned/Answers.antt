@@ -3,22 +3,20 @@ use mathlib.Core.Path.{ap, ◌∙◌}
 use Rattle.places.specs.Words.{number_of}
 use Rattle.verdict.specs.WordBits.{number-cleared}
 use native.Mathlib.Omega.{arith}
-use borrow.Author.Rules.{rules}
 use Rattle.verdict.proofs.next_cover.step_turned.Goals as goal
 
 pub step_columns-requires : goal.step_columns-requires
 step_columns-requires c =
-    let s = c in
-    let words = c.clear_words-arg-1.given.0.1 in (
+    let s = c in (
       s.requires.0,
       s.requires.1,
       s.requires.2,
       s.requires.3,
       s.requires.4,
       s.requires.5,
-      c.step_columns-arg-1.given.0.1,
-      ap number_of (c.clear_words.ensures.enough (omega (arith, words)))
-          ∙ number-cleared 16 s.args.cover.now (omega (arith, words)),
+      (omega arith),
+      ap number_of (c.clear_words.ensures.enough (omega arith))
+          ∙ number-cleared 16 s.args.cover.now (omega arith),
       s.requires.6,
       s.requires.7,
       s.requires.8,
@@ -32,4 +30,4 @@ step_columns-requires c =
 pub returns : goal.returns
 returns c =
     let told = c.step_columns.ensures in
-    (told.0, told.1, c.step_columns.auto.words ∙ c.step_columns-arg-1.given.0.1)
+    (told.0, told.1, c.step_columns.auto.words ∙ (omega arith))

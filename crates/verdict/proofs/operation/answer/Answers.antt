@@ -1,6 +1,5 @@
 -- `answer` meets its contract, in each of the three cases.
 use Rattle.verdict.specs.VerdictOperationLaws.{answered-complete, answered-missed, answered-refused}
-use borrow.Author.Rules.{rules}
 use Rattle.verdict.proofs.operation.answer.Goals as goal
 
 pub returns-in-Complete : goal.returns-in-Complete

@@ -1,7 +1,6 @@
 -- `find_verdict` meets its contract: the verdict runs on the rewriting that Find finds, and where it finds none, its refusal is told.
 use Rattle.verdict.specs.VerdictOperationLaws.{few-states, found-judged, found-refused}
 use native.Mathlib.Omega.{arith}
-use borrow.Author.Rules.{rules}
 use Rattle.verdict.proofs.operation.find_verdict.Goals as goal
 
 pub find_rows-found-requires : goal.find_rows-found-requires

@@ -3,7 +3,6 @@ use mathlib.Core.Path.{sym}
 use lib.Seq.{length-take-le}
 use Rattle.verdict.specs.VerdictOperationLaws.{found-told}
 use native.Mathlib.Omega.{arith}
-use borrow.Author.Rules.{rules}
 use Rattle.verdict.proofs.operation.found_verdict.Goals as goal
 
 pub slice_bounds-verdict-end : goal.slice_bounds-verdict-end

@@ -1,7 +1,6 @@
 -- `job_verdict` meets its contract: the path is cleared before the verdict and the workspace behind it, and the answer is told.
 use Rattle.verdict.specs.VerdictOperationLaws.{job-left}
 use native.Mathlib.Omega.{arith}
-use borrow.Author.Rules.{rules}
 use Rattle.verdict.proofs.operation.job_verdict.Goals as goal
 
 pub find_verdict-told-requires : goal.find_verdict-told-requires

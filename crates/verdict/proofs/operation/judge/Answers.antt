@@ -2,7 +2,6 @@
 use Rattle.verdict.specs.VerdictOperationLaws.{none_allowed, many-allowed, table-short, flags-short, path-short, workspace-short}
 use Rattle.verdict.specs.VerdictOperationLaws.{text-judged}
 use native.Mathlib.Omega.{arith}
-use borrow.Author.Rules.{rules}
 use Rattle.verdict.proofs.operation.judge.Goals as goal
 
 pub returns-then-allowance-eq0 : goal.returns-then-allowance-eq0

@@ -1,7 +1,6 @@
 -- `read_verdict` meets its contract: the text is read into tables of six rows or of 17.
 use Rattle.reading.specs.RowRoom.{enough-rows, all-rows}
 use native.Mathlib.Omega.{arith}
-use borrow.Author.Rules.{rules}
 use Rattle.verdict.proofs.operation.read_verdict.Goals as goal
 
 pub verdict_in-requires : goal.verdict_in-requires

@@ -1,7 +1,6 @@
 -- `verdict_in` meets its contract: the text is refused, or the tables hold its job.
 use Rattle.verdict.specs.VerdictOperationLaws.{some-job, read-judged, read-refused}
 use native.Mathlib.Omega.{arith}
-use borrow.Author.Rules.{rules}
 use Rattle.verdict.proofs.operation.verdict_in.Goals as goal
 
 pub job_verdict-requires : goal.job_verdict-requires

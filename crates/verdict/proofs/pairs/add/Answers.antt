@@ -2,7 +2,6 @@
 use Rattle.verdict.specs.Workspace.{pair}
 use Rattle.verdict.specs.PairIndexLaws.{bucket-below, indexed-more}
 use native.Mathlib.Omega.{arith}
-use borrow.Author.Rules.{rules}
 use Rattle.verdict.proofs.pairs.add.Goals as goal
 
 pub note-requires : goal.note-requires

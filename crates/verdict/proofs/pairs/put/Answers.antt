@@ -1,8 +1,7 @@
-use Rattle.std.specs.Prelude.{◌≡◌, ◌-◌, ◌≤◌}
+use Rattle.std.specs.Prelude.{◌≡◌}
 use mathlib.Core.Path.{subst}
 use Rattle.verdict.specs.Workspace.{Put, put-start, put-turn}
 use native.Mathlib.Omega.{arith}
-use borrow.Author.Rules.{rules}
 use Rattle.verdict.proofs.pairs.put.Goals as goal
 
 pub loop-j-init : goal.loop-j-init

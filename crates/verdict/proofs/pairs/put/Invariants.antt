@@ -1,9 +1,6 @@
 -- The loop's invariant: the first j words are put.
-use Rattle.std.specs.Prelude.{◌≡◌, ◌-◌, ◌≤◌}
-use mathlib.Core.Path.{subst}
-use Rattle.verdict.specs.Workspace.{Put, put-start, put-turn}
-use native.Mathlib.Omega.{arith}
-use borrow.Author.Rules.{rules}
+use Rattle.std.specs.Prelude.{◌-◌, ◌≤◌}
+use Rattle.verdict.specs.Workspace.{Put}
 use Rattle.verdict.proofs.pairs.put.Given as goal
 
 abbrev pub invariant-loop-j : goal.invariant-loop-j

@@ -3,7 +3,6 @@ use Rattle.std.specs.Prelude.{◌+◌, get_or}
 use mathlib.Core.Path.{sym}
 use lib.Seq.{length-take-le}
 use native.Mathlib.Omega.{arith}
-use borrow.Author.Rules.{rules}
 use Rattle.verdict.proofs.pairs.query_follows.Goals as goal
 
 pub slice_bounds-follows-end : goal.slice_bounds-follows-end

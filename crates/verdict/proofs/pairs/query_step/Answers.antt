@@ -3,7 +3,6 @@ use mathlib.Core.Path.{ap, ◌∙◌}
 use Rattle.std.specs.Prelude.{get_or}
 use Rattle.theory.specs.Places.{intersection}
 use Rattle.verdict.specs.TablesLaws.{query-step}
-use borrow.Author.Rules.{rules}
 use Rattle.verdict.proofs.pairs.query_step.Goals as goal
 
 pub returns : goal.returns

@@ -1,12 +1,9 @@
-use Rattle.std.specs.Prelude.{suc, ◌+◌, ◌-◌, ◌*◌, ◌<◌, get_or}
-use mathlib.Core.Logic.{⊎_elim}
+use Rattle.std.specs.Prelude.{suc, ◌+◌, ◌*◌, ◌<◌, get_or}
 use mathlib.Core.Path.{refl, sym, subst, subst₂}
 use Rattle.places.specs.Words.{number_of}
 use Rattle.verdict.specs.Coded.{layout_of}
 use Rattle.verdict.specs.NextCover.{way-places}
-use Rattle.verdict.specs.PairIndex.{Indexed, Short}
 use Rattle.verdict.specs.PairIndexLaws.{indexed-same, indexed-all, indexed-over, short-more, short-same, short-all, short-over}
-use Rattle.verdict.specs.PairRows.{not-true, not-false}
 use Rattle.verdict.specs.PairRows.{RowLoop, Stepped, row-start, row-known, row_new, row-exceeds, row_told}
 use Rattle.verdict.specs.PairTable.{words_at}
 use Rattle.verdict.specs.PairsTold.{lent}
@@ -15,7 +12,6 @@ use Rattle.verdict.specs.Tables.{occupied}
 use Rattle.verdict.specs.Turned.{Stacked}
 use Rattle.verdict.specs.WideRows.{RowsLaid}
 use native.Mathlib.Omega.{arith}
-use borrow.Author.Rules.{rules}
 use Rattle.verdict.proofs.pairs.row.Goals as goal
 use Rattle.verdict.proofs.pairs.row.Goals.{else-not-seen, then-not-seen+else-m-limit}
 
@@ -48,7 +44,7 @@ next_cover-requires c =
         stacked = λ z h few. subst (λ z. Stacked s.args.w s.args.states lay.new.laid (number_of z)) (sym l.invariant.0.words) (lay.ensures.0 z h few);
         room = omega (arith, lay.auto.laid, s.requires.9);
         by_rows = λ h. rows-kept (s.requires.10 h) lay.auto.laid;
-        rows-laid = λ h. subst (λ z. RowsLaid s.args.rows s.args.states s.args.now (number_of z) lay.new.laid) (sym l.invariant.0.words) (lay.ensures.1 h);
+        rows-laid = λ h. subst (λ z. RowsLaid s.args.rows s.args.states s.args.before.now (number_of z) lay.new.laid) (sym l.invariant.0.words) (lay.ensures.1 h);
       },
       omega (arith, in-loop.loop-a-test.true, s.requires.3),
       omega (arith, l.invariant.0.size, s.requires.0, s.requires.1, s.requires.4),
@@ -85,7 +81,8 @@ returns-then-m-limit c =
     let q = c.query_step-standing in
     let in-loop = c in
     let l = in-loop.loop-a in
-    let s = in-loop in record { row_told = row-exceeds _ _ _ _ _ _ l.a l.m _ l.invariant.0 in-loop.loop-a-test.true s.requires.0 q.result _
+    let s = in-loop in record {
+      row_told = row-exceeds _ _ _ _ _ _ l.a l.m _ l.invariant.0 in-loop.loop-a-test.true s.requires.0 q.result _
           (record {
             from = get_or s.args.workspace.now (18 * s.args.i) 0;
             from_at = refl;
@@ -94,7 +91,9 @@ returns-then-m-limit c =
             query = q.ensures _ _ _ in-loop.query_follows-after.ensures;
             covered = cover.ensures.0;
           })
-          seen.seen.result seen.seen.ensures (not-true seen.seen.result c.if-not-seen.true-raw) (omega (arith, c.if-m-limit.true)); indexed = (indexed-over, short-over) }
+          seen.seen.result seen.seen.ensures c.if-not-seen.true (omega (arith, c.if-m-limit.true));
+      indexed = (indexed-over, short-over);
+    }
 
 pub overflow_mul-link : goal.overflow_mul-link
 overflow_mul-link c =
@@ -158,20 +157,23 @@ loop-a-preserved c =
       query = q.ensures _ _ _ in-loop.query_follows-after.ensures;
       covered = next.ensures.0;
     } in
-    (elim c.if-not-seen.branch [ then-not-seen+else-m-limit x ↦ (
-      subst₂ (RowLoop D L s.args.limit s.args.i s.args.n s.args.workspace.now (l.a + 1)) (sym x.m-is) (sym x.workspace-is)
-          (row_new D _ _ _ _ _ l.a l.m _ l.invariant.0 in-loop.loop-a-test.true s.requires.0 q.result cover step
-          seen.seen.result x.add.last.0 seen.seen.ensures (not-true seen.seen.result x.if-not-seen.true)
-          (omega (arith, l.invariant.0.within, x.if-m-limit.false)) s.requires.2 next.ensures.2 x.add.ensures.0),
-      indexed-same x.workspace-is x.heads-is x.nexts-is x.m-is x.add.ensures.1,
-      short-same x.workspace-is x.m-is (short-more x.add.ensures.0 next.ensures.2 (next.ensures.1 s.args.used s.requires.6) l.invariant.2),
-    ) | else-not-seen x ↦ (
-      subst₂ (RowLoop D L s.args.limit s.args.i s.args.n s.args.workspace.now (l.a + 1)) (sym x.m-is) (sym x.workspace-is)
-          (row-known D _ _ _ _ _ l.a l.m _ l.invariant.0 in-loop.loop-a-test.true s.requires.0 q.result cover step
-          seen.seen.result seen.seen.ensures (not-false seen.seen.result x.if-not-seen.false)),
-      indexed-same x.workspace-is x.heads-is x.nexts-is x.m-is l.invariant.1,
-      short-same x.workspace-is x.m-is l.invariant.2,
-    ) ])
+    (elim c.if-not-seen.branch [
+      | then-not-seen+else-m-limit x ↦ (
+        subst₂ (RowLoop D L s.args.limit s.args.i s.args.n s.args.workspace.now (l.a + 1)) (sym x.m-is) (sym x.workspace-is)
+            (row_new D _ _ _ _ _ l.a l.m _ l.invariant.0 in-loop.loop-a-test.true s.requires.0 q.result cover step
+            seen.seen.result x.add.new.workspace seen.seen.ensures x.if-not-seen.true
+            (omega (arith, l.invariant.0.within, x.if-m-limit.false)) s.requires.2 next.ensures.2 x.add.ensures.0),
+        indexed-same x.workspace-is x.heads-is x.nexts-is x.m-is x.add.ensures.1,
+        short-same x.workspace-is x.m-is (short-more x.add.ensures.0 next.ensures.2 (next.ensures.1 s.args.used s.requires.6) l.invariant.2),
+      )
+      | else-not-seen x ↦ (
+        subst₂ (RowLoop D L s.args.limit s.args.i s.args.n s.args.workspace.now (l.a + 1)) (sym x.m-is) (sym x.workspace-is)
+            (row-known D _ _ _ _ _ l.a l.m _ l.invariant.0 in-loop.loop-a-test.true s.requires.0 q.result cover step
+            seen.seen.result seen.seen.ensures x.if-not-seen.false),
+        indexed-same x.workspace-is x.heads-is x.nexts-is x.m-is l.invariant.1,
+        short-same x.workspace-is x.m-is l.invariant.2,
+      )
+    ])
 
 pub shape_of-laid : goal.shape_of-laid
 shape_of-laid c = c.lay.auto.laid

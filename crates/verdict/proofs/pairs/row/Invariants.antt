@@ -1,23 +1,11 @@
 -- The loop's invariant: the labels that are left give what all labels give, the pairs found are indexed, and their sets stand in
 -- the words in use.
-use Rattle.std.specs.Prelude.{suc, ◌+◌, ◌-◌, ◌*◌, ◌<◌, get_or}
-use mathlib.Core.Logic.{⊎_elim}
-use mathlib.Core.Path.{refl, sym, subst, subst₂}
-use Rattle.places.specs.Words.{number_of}
+use Rattle.std.specs.Prelude.{suc, ◌-◌}
 use Rattle.verdict.specs.Coded.{layout_of}
-use Rattle.verdict.specs.NextCover.{way-places}
 use Rattle.verdict.specs.PairIndex.{Indexed, Short}
-use Rattle.verdict.specs.PairIndexLaws.{indexed-same, indexed-all, indexed-over, short-more, short-same, short-all, short-over}
-use Rattle.verdict.specs.PairRows.{not-true, not-false}
-use Rattle.verdict.specs.PairRows.{RowLoop, Stepped, row-start, row-known, row_new, row-exceeds, row_told}
-use Rattle.verdict.specs.PairTable.{words_at}
+use Rattle.verdict.specs.PairRows.{RowLoop}
 use Rattle.verdict.specs.PairsTold.{lent}
-use Rattle.verdict.specs.Prepared.{rows-kept}
 use Rattle.verdict.specs.Tables.{occupied}
-use Rattle.verdict.specs.Turned.{Stacked}
-use Rattle.verdict.specs.WideRows.{RowsLaid}
-use native.Mathlib.Omega.{arith}
-use borrow.Author.Rules.{rules}
 use Rattle.verdict.proofs.pairs.row.Given as goal
 
 abbrev pub invariant-loop-a : goal.invariant-loop-a

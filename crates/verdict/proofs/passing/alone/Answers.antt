@@ -1,10 +1,9 @@
-use Rattle.std.specs.Prelude.{◌≡◌, ℕ, ◌+◌, ◌-◌, ◌*◌, ◌/◌, ◌≤◌, List, length, get_or}
+use Rattle.std.specs.Prelude.{◌≡◌, ℕ, ◌+◌, ◌*◌, ◌/◌, List, get_or}
 use mathlib.Core.Path.{refl, sym, ◌∙◌, subst}
 use lib.ListN.{length-set}
-use Rattle.verdict.specs.PassingTurns.{AloneBefore, alone-start, alone-turn, alone-end, word-inside, words-few}
+use Rattle.verdict.specs.PassingTurns.{alone-start, alone-turn, alone-end, word-inside, words-few}
 use Rattle.verdict.specs.WordBits.{cleared-zero}
 use native.Mathlib.Omega.{arith}
-use borrow.Author.Rules.{rules}
 use Rattle.verdict.proofs.passing.alone.Goals as goal
 
 pub overflow_mul-k : goal.overflow_mul-k

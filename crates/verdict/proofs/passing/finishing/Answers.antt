@@ -1,15 +1,13 @@
-use Rattle.std.specs.Prelude.{◌≡◌, ◌-◌, ◌≤◌, length}
+use Rattle.std.specs.Prelude.{◌≡◌}
 use mathlib.Core.Bool.{false≢true}
 use mathlib.Core.Path.{refl, ◌∙◌, subst}
-use borrow.Author.Tests.{not-false}
-use Rattle.places.specs.Words.{Words}
 use Rattle.verdict.specs.FinishingTurns.{EndedBefore, ended-start, ended-turn, ended-finishing}
 use native.Mathlib.Omega.{arith}
 use borrow.Author.Rules.{rules}
 use Rattle.verdict.proofs.passing.finishing.Goals as goal
 
 pub loop-v-init : goal.loop-v-init
-loop-v-init c = (omega arith, refl, ended-start _ _ _ _, λ i. omega (arith, c.slice_known-1.given i))
+loop-v-init c = (omega arith, refl, ended-start _ _ _ _, λ i. search rules)
 
 pub list_entries-requires : goal.list_entries-requires
 list_entries-requires c =
@@ -31,8 +29,8 @@ loop-v-preserved c =
       omega arith,
       e.size ∙ l.invariant.1,
       ended-turn s.args.states s.args.table.now s.args.passes.now l.ended _ l.v s.requires.0
-          (e.entries (not-false _ c.if-not-list_entries.false-raw)) l.invariant.2,
-      λ i. omega (arith, c.slice_known-in-loop-v-1.given i),
+          (e.entries c.if-not-list_entries.false) l.invariant.2,
+      λ i. search rules,
     )
 
 pub shape_of-ended : goal.shape_of-ended

@@ -1,13 +1,8 @@
 -- The loop's invariant: the entries of the lists before v are those of the next states, and every entry is a word. The measure is the number
 -- of lists left.
 use Rattle.std.specs.Prelude.{◌≡◌, ◌-◌, ◌≤◌, length}
-use mathlib.Core.Bool.{false≢true}
-use mathlib.Core.Path.{refl, ◌∙◌, subst}
-use borrow.Author.Tests.{not-false}
 use Rattle.places.specs.Words.{Words}
-use Rattle.verdict.specs.FinishingTurns.{EndedBefore, ended-start, ended-turn, ended-finishing}
-use native.Mathlib.Omega.{arith}
-use borrow.Author.Rules.{rules}
+use Rattle.verdict.specs.FinishingTurns.{EndedBefore}
 use Rattle.verdict.proofs.passing.finishing.Given as goal
 
 abbrev pub invariant-loop-v : goal.invariant-loop-v

@@ -1,7 +1,7 @@
-use Rattle.std.specs.Prelude.{◌≡◌, ◌-◌, ◌≤◌, length, get_or}
+use Rattle.std.specs.Prelude.{◌-◌, get_or}
 use mathlib.Core.Path.{refl, sym, ◌∙◌}
 use lib.ListN.{length-set}
-use Rattle.verdict.specs.FinishingTurns.{FirstFrom, first-start, first-turn, first-end}
+use Rattle.verdict.specs.FinishingTurns.{first-start, first-turn, first-end}
 use native.Mathlib.Omega.{arith}
 use borrow.Author.Rules.{rules}
 use Rattle.verdict.proofs.passing.first_words.Goals as goal
@@ -26,7 +26,7 @@ loop-j-preserved-then-j-k c =
       length-set l.first (l.j - 1) _ ∙ l.invariant.1,
       first-turn a.k a.passes.now l.first (l.j - 1) l.j (get_or a.passes.now (l.j - 1) 0) (omega (arith, some))
           (omega (arith, l.invariant.0, l.invariant.1, some)) (λ h. refl) (λ h. absurd (omega (arith, c.if-j-k.true)))
-          (omega (arith, c.shared_slice_known-1.given (l.j - 1))) l.invariant.2,
+          (search rules) l.invariant.2,
     )
 
 pub bounds-first-j-else-j-k : goal.bounds-first-j-else-j-k

@@ -1,10 +1,9 @@
-use Rattle.std.specs.Prelude.{◌≡◌, ℕ, ◌+◌, ◌-◌, ◌*◌, ◌≤◌, length, get_or}
+use Rattle.std.specs.Prelude.{◌≡◌, ℕ, ◌+◌, ◌-◌, ◌*◌, ◌≤◌, get_or}
 use mathlib.Core.Bool.{false≢true}
 use mathlib.Core.Path.{refl, sym, ◌∙◌, subst}
 use Rattle.verdict.specs.PassingTurns.{Gathered, gathered-start, gathered-skip, gathered-more, words_inside}
 use Rattle.verdict.specs.WordBits.{first-here, first-none}
 use native.Mathlib.Omega.{arith}
-use borrow.Author.Rules.{rules}
 use Rattle.verdict.proofs.passing.gather.Goals as goal
 
 pub loop-v-init : goal.loop-v-init
@@ -42,11 +41,6 @@ bounds-table-t c =
     let s = c in
     let l = c.loop-v in
     omega (arith, l.invariant.0, c.loop-v-test.true, s.requires.0.few-lists, s.requires.0.table-room, s.requires.1)
-
-pub overflow_cast-table : goal.overflow_cast-table
-overflow_cast-table c =
-    let a = c.args in
-    omega (arith, c.shared_slice_known-then-accepting-v-eq1-1.given (16 * a.t + (c.loop-v.v - 1)))
 
 pub join_state-requires : goal.join_state-requires
 join_state-requires c =

@@ -1,11 +1,6 @@
 -- The loop's invariant: the lists from v on have been gone through (Gathered). The measure is the number of lists left.
-use Rattle.std.specs.Prelude.{◌≡◌, ℕ, ◌+◌, ◌-◌, ◌*◌, ◌≤◌, length, get_or}
-use mathlib.Core.Bool.{false≢true}
-use mathlib.Core.Path.{refl, sym, ◌∙◌, subst}
-use Rattle.verdict.specs.PassingTurns.{Gathered, gathered-start, gathered-skip, gathered-more, words_inside}
-use Rattle.verdict.specs.WordBits.{first-here, first-none}
-use native.Mathlib.Omega.{arith}
-use borrow.Author.Rules.{rules}
+use Rattle.std.specs.Prelude.{◌≡◌, ◌≤◌, length}
+use Rattle.verdict.specs.PassingTurns.{Gathered}
 use Rattle.verdict.proofs.passing.gather.Given as goal
 
 abbrev pub invariant-loop-v : goal.invariant-loop-v

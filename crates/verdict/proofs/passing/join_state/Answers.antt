@@ -1,9 +1,8 @@
-use Rattle.std.specs.Prelude.{◌≡◌, ◌-◌, ◌≤◌, length}
+use Rattle.std.specs.Prelude.{◌-◌}
 use mathlib.Core.Bool.{false≢true}
 use mathlib.Core.Path.{refl, sym, ◌∙◌}
-use Rattle.verdict.specs.PassingTurns.{Joining, joining-start, joining-turn, joining-end, words-few}
+use Rattle.verdict.specs.PassingTurns.{joining-start, joining-turn, joining-end, words-few}
 use native.Mathlib.Omega.{arith}
-use borrow.Author.Rules.{rules}
 use Rattle.verdict.proofs.passing.join_state.Goals as goal
 
 pub loop-j-init : goal.loop-j-init

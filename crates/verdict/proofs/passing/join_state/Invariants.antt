@@ -1,10 +1,6 @@
 -- The loop's invariant: the words from j on have gained (Joining). The measure is the number of words left.
-use Rattle.std.specs.Prelude.{◌≡◌, ◌-◌, ◌≤◌, length}
-use mathlib.Core.Bool.{false≢true}
-use mathlib.Core.Path.{refl, sym, ◌∙◌}
-use Rattle.verdict.specs.PassingTurns.{Joining, joining-start, joining-turn, joining-end, words-few}
-use native.Mathlib.Omega.{arith}
-use borrow.Author.Rules.{rules}
+use Rattle.std.specs.Prelude.{◌≡◌, ◌≤◌, length}
+use Rattle.verdict.specs.PassingTurns.{Joining}
 use Rattle.verdict.proofs.passing.join_state.Given as goal
 
 abbrev pub invariant-loop-j : goal.invariant-loop-j

@@ -4,7 +4,6 @@ use Rattle.std.specs.Prelude.{get_or}
 use borrow.Author.Tests.{eqb-true, not-false}
 use lib.Seq.{get_or-set_same, get_or-set_other}
 use Rattle.theory.specs.Places.{union}
-use borrow.Author.Rules.{rules}
 use Rattle.verdict.proofs.passing.join_word.Goals as goal
 
 pub returns : goal.returns

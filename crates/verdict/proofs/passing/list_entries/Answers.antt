@@ -1,18 +1,12 @@
-use Rattle.std.specs.Prelude.{◌≡◌, ◌+◌, ◌-◌, ◌*◌, ◌≤◌}
+use Rattle.std.specs.Prelude.{◌≡◌}
 use mathlib.Core.Bool.{false≢true}
 use mathlib.Core.Path.{subst}
 use Rattle.verdict.specs.FinishingTurns.{EntriesBefore, entries-start, entries-turn}
 use native.Mathlib.Omega.{arith}
-use borrow.Author.Rules.{rules}
 use Rattle.verdict.proofs.passing.list_entries.Goals as goal
 
 pub loop-q-init : goal.loop-q-init
 loop-q-init c = (omega arith, entries-start _ _ _ _ _)
-
-pub overflow_cast-next : goal.overflow_cast-next
-overflow_cast-next c =
-    let s = c in
-    omega (arith, c.shared_slice_known-1.given (16 * c.loop-q.q + s.args.v))
 
 pub shape_of-ended-then-next-states : goal.shape_of-ended-then-next-states
 shape_of-ended-then-next-states c = c.loop-q.invariant.1.size

@@ -1,10 +1,6 @@
 -- The loop's invariant: the entries of the states before q are those of the next states. The measure is the number of states left.
-use Rattle.std.specs.Prelude.{◌≡◌, ◌+◌, ◌-◌, ◌*◌, ◌≤◌}
-use mathlib.Core.Bool.{false≢true}
-use mathlib.Core.Path.{subst}
-use Rattle.verdict.specs.FinishingTurns.{EntriesBefore, entries-start, entries-turn}
-use native.Mathlib.Omega.{arith}
-use borrow.Author.Rules.{rules}
+use Rattle.std.specs.Prelude.{◌-◌, ◌≤◌}
+use Rattle.verdict.specs.FinishingTurns.{EntriesBefore}
 use Rattle.verdict.proofs.passing.list_entries.Given as goal
 
 abbrev pub invariant-loop-q : goal.invariant-loop-q

@@ -1,9 +1,6 @@
-use Rattle.std.specs.Prelude.{◌-◌}
 use mathlib.Core.Bool.{false≢true}
-use borrow.Author.Tests.{not-false}
-use Rattle.verdict.specs.PassingTurns.{BelowBefore, below-turn}
+use Rattle.verdict.specs.PassingTurns.{below-turn}
 use native.Mathlib.Omega.{arith}
-use borrow.Author.Rules.{rules}
 use Rattle.verdict.proofs.passing.next_below.Goals as goal
 
 pub loop-q-init : goal.loop-q-init
@@ -16,7 +13,7 @@ pub loop-q-preserved : goal.loop-q-preserved
 loop-q-preserved c =
     let l = c.loop-q in
     let a = c.args in
-    below-turn a.states a.lists a.table.now l.q (c.row_below.ensures (not-false _ c.if-not-row_below.false-raw)) l.invariant
+    below-turn a.states a.lists a.table.now l.q (c.row_below.ensures c.if-not-row_below.false) l.invariant
 
 pub returns : goal.returns
 returns c =

@@ -1,10 +1,6 @@
 -- The loop's invariant: the next states of the states before q are states. The measure is the number of states left.
 use Rattle.std.specs.Prelude.{◌-◌}
-use mathlib.Core.Bool.{false≢true}
-use borrow.Author.Tests.{not-false}
-use Rattle.verdict.specs.PassingTurns.{BelowBefore, below-turn}
-use native.Mathlib.Omega.{arith}
-use borrow.Author.Rules.{rules}
+use Rattle.verdict.specs.PassingTurns.{BelowBefore}
 use Rattle.verdict.proofs.passing.next_below.Given as goal
 
 abbrev pub invariant-loop-q : goal.invariant-loop-q

@@ -1,10 +1,7 @@
-use Rattle.std.specs.Prelude.{◌-◌}
 use mathlib.Core.Bool.{false≢true}
 use borrow.Author.Count.{below_more}
-use borrow.Author.Tests.{not-false}
-use Rattle.verdict.specs.PassingTurns.{RowOnward, Onward}
+use Rattle.verdict.specs.PassingTurns.{RowOnward}
 use native.Mathlib.Omega.{arith}
-use borrow.Author.Rules.{rules}
 use Rattle.verdict.proofs.passing.onward.Goals as goal
 
 pub loop-q-init : goal.loop-q-init
@@ -18,7 +15,7 @@ loop-q-preserved c =
     let l = c.loop-q in
     let a = c.args in
     below_more (λ q. RowOnward a.accepting.now a.table.now q a.lists) l.q l.invariant
-    (c.row_onward.ensures (not-false _ c.if-not-row_onward.false-raw))
+    (c.row_onward.ensures c.if-not-row_onward.false)
 
 pub returns : goal.returns
 returns c =

@@ -1,12 +1,7 @@
 -- The loop's invariant: from the states before q, the lists with the empty path lead to no state before. The measure is the number of
 -- states left.
 use Rattle.std.specs.Prelude.{◌-◌}
-use mathlib.Core.Bool.{false≢true}
-use borrow.Author.Count.{below_more}
-use borrow.Author.Tests.{not-false}
-use Rattle.verdict.specs.PassingTurns.{RowOnward, Onward}
-use native.Mathlib.Omega.{arith}
-use borrow.Author.Rules.{rules}
+use Rattle.verdict.specs.PassingTurns.{Onward}
 use Rattle.verdict.proofs.passing.onward.Given as goal
 
 abbrev pub invariant-loop-q : goal.invariant-loop-q

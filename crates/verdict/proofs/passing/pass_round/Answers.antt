@@ -1,9 +1,8 @@
-use Rattle.std.specs.Prelude.{◌≡◌, ◌-◌, ◌≤◌, false, length}
+use Rattle.std.specs.Prelude.{◌≡◌, ◌-◌}
 use mathlib.Core.Bool.{false≢true}
 use mathlib.Core.Path.{refl, sym, ◌∙◌, subst}
-use Rattle.verdict.specs.PassingTurns.{Onward, Sound, ClosedFrom, closed-turn, once-turn}
+use Rattle.verdict.specs.PassingTurns.{ClosedFrom, closed-turn, once-turn}
 use native.Mathlib.Omega.{arith}
-use borrow.Author.Rules.{rules}
 use Rattle.verdict.proofs.passing.pass_round.Goals as goal
 
 pub loop-t-init : goal.loop-t-init

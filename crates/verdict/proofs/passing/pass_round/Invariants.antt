@@ -1,11 +1,7 @@
 -- The loop's invariant: the states are sound, and where nothing has changed, or the lists with the empty path lead to no state before,
 -- those from t on are closed. The measure is the number of states left.
-use Rattle.std.specs.Prelude.{◌≡◌, ◌-◌, ◌≤◌, false, length}
-use mathlib.Core.Bool.{false≢true}
-use mathlib.Core.Path.{refl, sym, ◌∙◌, subst}
-use Rattle.verdict.specs.PassingTurns.{Onward, Sound, ClosedFrom, closed-turn, once-turn}
-use native.Mathlib.Omega.{arith}
-use borrow.Author.Rules.{rules}
+use Rattle.std.specs.Prelude.{◌≡◌, ◌≤◌, false, length}
+use Rattle.verdict.specs.PassingTurns.{Onward, Sound, ClosedFrom}
 use Rattle.verdict.proofs.passing.pass_round.Given as goal
 
 abbrev pub invariant-loop-t : goal.invariant-loop-t

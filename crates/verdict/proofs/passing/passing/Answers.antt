@@ -1,10 +1,8 @@
-use Rattle.std.specs.Prelude.{◌≡◌, ◌+◌, ◌-◌, length}
+use Rattle.std.specs.Prelude.{length}
 use mathlib.Core.Bool.{false≢true}
 use mathlib.Core.Path.{refl, ◌∙◌}
-use borrow.Author.Tests.{not-false, not-true}
-use Rattle.verdict.specs.PassingTurns.{Sound, passable, sound-start, closed-passing}
+use Rattle.verdict.specs.PassingTurns.{passable, sound-start, closed-passing}
 use native.Mathlib.Omega.{arith}
-use borrow.Author.Rules.{rules}
 use Rattle.verdict.proofs.passing.passing.Goals as goal
 
 pub returns-then-not-next_below : goal.returns-then-not-next_below
@@ -21,7 +19,7 @@ pass_round-requires c =
     let s = first in
     let a = s.args in (
       passable a.k a.states a.lists (length a.passes.now) a.accepting.now a.table.now s.requires
-          (first.next_below.ensures (not-false _ first.if-not-next_below.false-raw)),
+          (first.next_below.ensures first.if-not-next_below.false),
       omega (arith, s.requires.5, first.alone.auto.passes),
       sound-start a.k a.states a.lists a.accepting.now a.table.now first.alone.new.passes first.alone.ensures,
     )
@@ -36,7 +34,7 @@ returns-then-onward c =
     let last = c in
     let first = last in
     let a = first.args in
-    let next = first.next_below.ensures (not-false _ first.if-not-next_below.false-raw) in
+    let next = first.next_below.ensures first.if-not-next_below.false in
     let on = last.onward.ensures last.if-onward.true in
     λ e. (
       closed-passing a.k a.states a.lists a.accepting.now a.table.now last.pass_round.new.passes next
@@ -57,7 +55,7 @@ pass_round-requires-in-loop-rounds c =
     let a = s.args in
     let l = c.loop-rounds in (
       passable a.k a.states a.lists (length a.passes.now) a.accepting.now a.table.now s.requires
-          (first.next_below.ensures (not-false _ first.if-not-next_below.false-raw)),
+          (first.next_below.ensures first.if-not-next_below.false),
       omega (arith, s.requires.5, first.alone.auto.passes, l.invariant.0),
       l.invariant.1,
     )
@@ -72,11 +70,11 @@ pub returns-then-not-pass_round : goal.returns-then-not-pass_round
 returns-then-not-pass_round c =
     let first = c in
     let a = first.args in
-    let next = first.next_below.ensures (not-false _ first.if-not-next_below.false-raw) in
+    let next = first.next_below.ensures first.if-not-next_below.false in
     let pass-round = c.pass_round-in-loop-rounds in
     λ e. (
       closed-passing a.k a.states a.lists a.accepting.now a.table.now pass-round.new.passes next
-          pass-round.ensures.sound (pass-round.ensures.closed (not-true _ c.if-not-pass_round.true-raw)),
+          pass-round.ensures.sound (pass-round.ensures.closed c.if-not-pass_round.true),
       next,
     )
 

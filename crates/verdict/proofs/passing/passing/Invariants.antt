@@ -1,11 +1,6 @@
 -- The loop's invariant: the states are sound. The measure is the number of rounds left.
 use Rattle.std.specs.Prelude.{◌≡◌, ◌+◌, ◌-◌, length}
-use mathlib.Core.Bool.{false≢true}
-use mathlib.Core.Path.{refl, ◌∙◌}
-use borrow.Author.Tests.{not-false, not-true}
-use Rattle.verdict.specs.PassingTurns.{Sound, passable, sound-start, closed-passing}
-use native.Mathlib.Omega.{arith}
-use borrow.Author.Rules.{rules}
+use Rattle.verdict.specs.PassingTurns.{Sound}
 use Rattle.verdict.proofs.passing.passing.Given as goal
 
 abbrev pub invariant-loop-rounds : goal.invariant-loop-rounds

@@ -1,18 +1,11 @@
-use Rattle.std.specs.Prelude.{◌+◌, ◌-◌, ◌*◌, ◌<◌, get_or}
+use Rattle.std.specs.Prelude.{◌+◌, ◌*◌, ◌<◌, get_or}
 use mathlib.Core.Bool.{false≢true}
 use borrow.Author.Count.{below_more}
-use Rattle.verdict.specs.PassingTurns.{RowBelow}
 use native.Mathlib.Omega.{arith}
-use borrow.Author.Rules.{rules}
 use Rattle.verdict.proofs.passing.row_below.Goals as goal
 
 pub loop-v-init : goal.loop-v-init
 loop-v-init c = λ u h. absurd (omega arith)
-
-pub overflow_cast-table : goal.overflow_cast-table
-overflow_cast-table c =
-    let s = c in
-    omega (arith, c.shared_slice_known-1.given (16 * s.args.q + c.loop-v.v))
 
 pub returns-then-table-q : goal.returns-then-table-q
 returns-then-table-q c = λ e. absurd (false≢true e)

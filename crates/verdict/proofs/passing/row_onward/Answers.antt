@@ -1,22 +1,15 @@
-use Rattle.std.specs.Prelude.{ℕ, ◌+◌, ◌-◌, ◌*◌, ◌≤◌, get_or}
+use Rattle.std.specs.Prelude.{ℕ, ◌+◌, ◌*◌, ◌≤◌, get_or}
 use mathlib.Core.Bool.{false≢true}
-use mathlib.Core.Logic.{⊎_elim}
 use borrow.Author.Count.{below_more}
-use borrow.Author.Tests.{ltb-false}
 use Rattle.theory.specs.Places.{Member}
-use Rattle.verdict.specs.PassingTurns.{RowOnward}
 use Rattle.verdict.specs.WordBits.{first-none}
 use native.Mathlib.Omega.{arith}
-use borrow.Author.Rules.{rules}
 use Rattle.verdict.proofs.passing.row_onward.Goals as goal
+use Rattle.verdict.proofs.passing.row_onward.Goals.{else-accepting-v-eq1-via-then-accepting-v-eq1+else-table-q}
+use Rattle.verdict.proofs.passing.row_onward.Goals.{else-accepting-v-eq1-via-else-accepting-v-eq1}
 
 pub loop-v-init : goal.loop-v-init
 loop-v-init c = λ u h. absurd (omega arith)
-
-pub overflow_cast-table : goal.overflow_cast-table
-overflow_cast-table c =
-    let a = c.args in
-    omega (arith, c.shared_slice_known-then-accepting-v-eq1-1.given (16 * a.q + c.loop-v.v))
 
 pub returns-then-table-q : goal.returns-then-table-q
 returns-then-table-q c = λ e. absurd (false≢true e)
@@ -27,7 +20,10 @@ loop-v-preserved c =
     let a = c.args in
     let Here : ℕ → Type 0 = λ u. Member 0 (get_or a.accepting.now (u + 1) 0) → a.q ≤ get_or a.table.now (16 * a.q + u) 0 in
     below_more Here l.v l.invariant
-    (⊎_elim {C = Here l.v} (λ w m. ltb-false _ _ w.2.left) (λ w m. absurd (first-none _ w.left m)) c.if-accepting-v-eq1.branch)
+    (elim c.else-accepting-v-eq1.branch [
+      | else-accepting-v-eq1-via-then-accepting-v-eq1+else-table-q w ↦ λ m. w.if-table-q.false
+      | else-accepting-v-eq1-via-else-accepting-v-eq1 w ↦ λ m. absurd (first-none _ w.if-accepting-v-eq1.false m)
+    ])
 
 pub returns : goal.returns
 returns c =

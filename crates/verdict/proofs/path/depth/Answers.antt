@@ -2,7 +2,6 @@ use Rattle.std.specs.Prelude.{◌+◌, ◌%◌, ◌<◌, ◌≤◌}
 use mathlib.Core.Path.{sym, subst}
 use Rattle.verdict.specs.PathTold.{DepthLoop, depth-start, depth-turn, depth-end, depth-wrong}
 use native.Mathlib.Omega.{arith}
-use borrow.Author.Rules.{rules}
 use Rattle.verdict.proofs.path.depth.Goals as goal
 
 pub loop-j-init : goal.loop-j-init

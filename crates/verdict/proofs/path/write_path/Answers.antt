@@ -2,7 +2,6 @@ use Rattle.std.specs.Prelude.{◌-◌, ◌/◌, ◌%◌, set}
 use mathlib.Core.Path.{sym, subst}
 use Rattle.verdict.specs.PathTold.{WriteLoop, write-start, write-turn, write-end, write-short}
 use native.Mathlib.Omega.{arith}
-use borrow.Author.Rules.{rules}
 use Rattle.verdict.proofs.path.write_path.Goals as goal
 
 pub returns-then-path-labels : goal.returns-then-path-labels

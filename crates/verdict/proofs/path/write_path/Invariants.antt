@@ -1,9 +1,5 @@
 -- The loop's invariant: the labels from k on are written, and the path of the pair number j comes before them.
-use Rattle.std.specs.Prelude.{◌-◌, ◌/◌, ◌%◌, set}
-use mathlib.Core.Path.{sym, subst}
-use Rattle.verdict.specs.PathTold.{WriteLoop, write-start, write-turn, write-end, write-short}
-use native.Mathlib.Omega.{arith}
-use borrow.Author.Rules.{rules}
+use Rattle.verdict.specs.PathTold.{WriteLoop}
 use Rattle.verdict.proofs.path.write_path.Given as goal
 
 abbrev pub invariant-loop-k : goal.invariant-loop-k

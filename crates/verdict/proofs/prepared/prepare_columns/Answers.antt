@@ -2,10 +2,8 @@
 use mathlib.Core.Bool.{false≢true}
 use mathlib.Core.Path.{◌∙◌}
 use native.Mathlib.Omega.{arith}
-use Rattle.verdict.specs.PairRows.{not-false}
 use Rattle.verdict.specs.Prepared.{first-reached}
 use Rattle.verdict.specs.SumsLaws.{finishing-kept}
-use borrow.Author.Rules.{rules}
 use Rattle.verdict.proofs.prepared.prepare_columns.Goals as goal
 
 pub returns-then-not-passing : goal.returns-then-not-passing
@@ -25,10 +23,10 @@ shape_of-ended c = c.sum_lists.auto.ended ∙ c.finishing.auto.ended
 pub returns : goal.returns
 returns c = λ e.
     let s = c in
-    let p = c.passing.ensures (not-false _ c.if-not-passing.false-raw) in
+    let p = c.passing.ensures c.if-not-passing.false in
     let sums = c.sum_lists.ensures in (
       finishing-kept s.args.states s.args.lists _ _ _ _ s.requires.1 sums.1
-          (c.finishing.ensures (not-false _ c.if-not-finishing.false-raw) _ p.0),
+          (c.finishing.ensures c.if-not-finishing.false _ p.0),
       sums.0,
       first-reached s.requires.0 p.0 c.first_of.ensures,
       p.1,

@@ -1,8 +1,6 @@
 -- Each part is asked in turn; where one says no, the width is 0 and nothing is promised.
 use native.Mathlib.Omega.{arith}
 use Rattle.verdict.specs.CoverBounds.{few-states}
-use Rattle.verdict.specs.PairRows.{not-false}
-use borrow.Author.Rules.{rules}
 use Rattle.verdict.proofs.prepared.prepared.Goals as goal
 
 pub returns-then-states-eq0 : goal.returns-then-states-eq0
@@ -44,13 +42,13 @@ shape_of-ended-then-states-le64 c = c.prepare_columns.auto.ended
 
 pub returns-then-states-le64 : goal.returns-then-states-le64
 returns-then-states-le64 c = λ h.
-    let (finishing, sums, first, next) = c.prepare_columns.ensures (not-false _ c.if-not-prepare_columns.false-raw) in
+    let (finishing, sums, first, next) = c.prepare_columns.ensures c.if-not-prepare_columns.false in
     let s = c in (
       record {
         ready = c.ready-w.ensures.ready h;
         some = omega (arith, c.if-states-eq0.false);
         next = next;
-        leading = c.leading.ensures (not-false _ c.if-not-leading.false-raw);
+        leading = c.leading.ensures c.if-not-leading.false;
         before-room = omega (arith, c.leading.auto.before, s.requires.0);
         ended-room = omega (arith, c.prepare_columns.auto.ended, s.requires.1);
         finishing = λ few. finishing;
@@ -88,13 +86,13 @@ shape_of-ended c = c.prepare_ranges.auto.reached
 
 pub returns : goal.returns
 returns c = λ h.
-    let (passing, first, next, room) = c.prepare_ranges.ensures (not-false _ c.if-not-prepare_ranges.false-raw) in
+    let (passing, first, next, room) = c.prepare_ranges.ensures c.if-not-prepare_ranges.false in
     let s = c in (
       record {
         ready = c.ready-w.ensures.ready h;
         some = omega (arith, c.if-states-eq0.false);
         next = next;
-        leading = c.leading.ensures (not-false _ c.if-not-leading.false-raw);
+        leading = c.leading.ensures c.if-not-leading.false;
         before-room = omega (arith, c.leading.auto.before, s.requires.0);
         ended-room = omega (arith, c.prepare_ranges.auto.reached, s.requires.1);
         finishing = λ few. absurd (omega (arith, c.if-states-le64.false));

@@ -1,9 +1,8 @@
-use Rattle.std.specs.Prelude.{◌≡◌, ◌+◌, ◌-◌, ◌*◌, ◌/◌, ◌%◌, ◌≤◌, length, get_or}
+use Rattle.std.specs.Prelude.{◌/◌, ◌%◌, get_or}
 use mathlib.Core.Path.{sym, ◌∙◌}
 use lib.ListN.{length-set}
 use Rattle.verdict.specs.ColumnLists.{tested}
-use Rattle.verdict.specs.Ranges.{Adds}
-use Rattle.verdict.specs.RangesTurns.{LeadsBelow, state-start, state-turn, state-end, state-there}
+use Rattle.verdict.specs.RangesTurns.{state-start, state-turn, state-end, state-there}
 use native.Mathlib.Omega.{arith}
 use borrow.Author.Rules.{rules}
 use Rattle.verdict.proofs.ranges.add_state.Goals as goal
@@ -12,7 +11,7 @@ pub returns-then-words-t-eq1 : goal.returns-then-words-t-eq1
 returns-then-words-t-eq1 c =
     let s = c in
     let a = s.args in
-    state-there a.reached.now a.t a.words.now (λ i. omega (arith, c.slice_known-1.given i)) (tested (a.t % 64) (get_or a.words.now (a.t / 64) 0) c.if-words-t-eq1.true) s.requires.3
+    state-there a.reached.now a.t a.words.now (λ i. search rules) (tested (a.t % 64) (get_or a.words.now (a.t / 64) 0) c.if-words-t-eq1.true) s.requires.3
 
 pub loop-j-init : goal.loop-j-init
 loop-j-init c = (omega arith, c.requires.0, state-start c.args.reached.now c.args.t _)
@@ -34,8 +33,8 @@ loop-j-preserved c =
     let test = c.loop-j-test in (
       omega (arith, test.true),
       length-set l.words l.j _ ∙ l.invariant.1,
-      state-turn a.reached.now a.t l.j _ l.words (λ i. omega (arith, c.slice_known-in-loop-j-1.given i))
-          (omega (arith, test.true, l.invariant.1)) (omega (arith, c.shared_slice_known-1.given (4 * a.t + l.j))) l.invariant.2,
+      state-turn a.reached.now a.t l.j _ l.words (λ i. search rules)
+          (omega (arith, test.true, l.invariant.1)) (omega arith) l.invariant.2,
     )
 
 pub shape_of-words : goal.shape_of-words

@@ -1,12 +1,7 @@
 -- The loop's invariant: the set has gained the first j words of what the state leads to. The measure is the number of words left.
-use Rattle.std.specs.Prelude.{◌≡◌, ◌+◌, ◌-◌, ◌*◌, ◌/◌, ◌%◌, ◌≤◌, length, get_or}
-use mathlib.Core.Path.{sym, ◌∙◌}
-use lib.ListN.{length-set}
-use Rattle.verdict.specs.ColumnLists.{tested}
+use Rattle.std.specs.Prelude.{◌≡◌, ◌-◌, ◌≤◌, length}
 use Rattle.verdict.specs.Ranges.{Adds}
-use Rattle.verdict.specs.RangesTurns.{LeadsBelow, state-start, state-turn, state-end, state-there}
-use native.Mathlib.Omega.{arith}
-use borrow.Author.Rules.{rules}
+use Rattle.verdict.specs.RangesTurns.{LeadsBelow}
 use Rattle.verdict.proofs.ranges.add_state.Given as goal
 
 abbrev pub invariant-loop-j : goal.invariant-loop-j

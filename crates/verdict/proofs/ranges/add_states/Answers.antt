@@ -1,11 +1,10 @@
-use Rattle.std.specs.Prelude.{◌≡◌, ℕ, ◌+◌, ◌-◌, ◌*◌, ◌^◌, ◌<◌, length, get_or}
+use Rattle.std.specs.Prelude.{◌+◌, ◌-◌, ◌*◌, ◌<◌, get_or}
 use mathlib.Core.Path.{sym, ◌∙◌}
 use lib.Bits.{and_le_r}
 use lib.Count.{count_trailing_zeros, trailing_le}
-use Rattle.places.specs.Words.{number_of}
 use Rattle.places.specs.NextPlace.{trailing-here}
-use Rattle.verdict.specs.Ranges.{Leads, Going}
-use Rattle.verdict.specs.RangesTurns.{AddsLeft, left-start, left-turn, left_end, going-turn}
+use Rattle.verdict.specs.Ranges.{Leads}
+use Rattle.verdict.specs.RangesTurns.{left-start, left-turn, left_end, going-turn}
 use native.Mathlib.Omega.{arith}
 use Rattle.verdict.proofs.ranges.add_states.Goals as goal
 
@@ -35,12 +34,6 @@ bounds-table-q c =
     let (n, g) = l.invariant.2 in
     let s = c in
     omega (arith, g.inside (count_trailing_zeros 64 l.rest) (trailing-here 64 l.rest c.loop-rest-test.true l.invariant.0), g.room, s.requires.1)
-
-pub overflow_cast-table : goal.overflow_cast-table
-overflow_cast-table c =
-    let l = c.loop-rest in
-    let a = c.args in
-    omega (arith, c.shared_slice_known-in-loop-rest-1.given (16 * (a.first + count_trailing_zeros 64 l.rest) + a.v))
 
 pub add_state-requires : goal.add_state-requires
 add_state-requires c =

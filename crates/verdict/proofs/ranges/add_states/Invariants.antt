@@ -1,14 +1,9 @@
 -- The loop's invariant: what the set gained, with what it gains for the states left, is what it gains for all (AddsLeft). The measure is
 -- the states left.
-use Rattle.std.specs.Prelude.{◌≡◌, ℕ, ◌+◌, ◌-◌, ◌*◌, ◌^◌, ◌<◌, length, get_or}
-use mathlib.Core.Path.{sym, ◌∙◌}
-use lib.Bits.{and_le_r}
-use lib.Count.{count_trailing_zeros, trailing_le}
+use Rattle.std.specs.Prelude.{◌≡◌, ℕ, ◌+◌, ◌*◌, ◌^◌, ◌<◌, length, get_or}
 use Rattle.places.specs.Words.{number_of}
-use Rattle.places.specs.NextPlace.{trailing-here}
 use Rattle.verdict.specs.Ranges.{Leads, Going}
-use Rattle.verdict.specs.RangesTurns.{AddsLeft, left-start, left-turn, left_end, going-turn}
-use native.Mathlib.Omega.{arith}
+use Rattle.verdict.specs.RangesTurns.{AddsLeft}
 use Rattle.verdict.proofs.ranges.add_states.Given as goal
 
 abbrev pub invariant-loop-rest : goal.invariant-loop-rest

@@ -1,10 +1,7 @@
-use Rattle.std.specs.Prelude.{◌≡◌, ◌-◌, length}
 use mathlib.Core.Path.{sym, ◌∙◌}
 use Rattle.places.specs.Words.{number_of}
-use Rattle.verdict.specs.Ranges.{Adds}
-use Rattle.verdict.specs.RangesTurns.{EndsTo, ends-start, ends-turn, ends-closed, ends-end, going-block}
+use Rattle.verdict.specs.RangesTurns.{ends-start, ends-turn, ends-closed, ends-end, going-block}
 use native.Mathlib.Omega.{arith}
-use borrow.Author.Rules.{rules}
 use Rattle.verdict.proofs.ranges.end_range.Goals as goal
 
 pub loop-k-init : goal.loop-k-init

@@ -1,11 +1,8 @@
 -- The loop's invariant: the set has gained what is reached from the states before k. The measure is the number of states left.
 use Rattle.std.specs.Prelude.{◌≡◌, ◌-◌, length}
-use mathlib.Core.Path.{sym, ◌∙◌}
 use Rattle.places.specs.Words.{number_of}
 use Rattle.verdict.specs.Ranges.{Adds}
-use Rattle.verdict.specs.RangesTurns.{EndsTo, ends-start, ends-turn, ends-closed, ends-end, going-block}
-use native.Mathlib.Omega.{arith}
-use borrow.Author.Rules.{rules}
+use Rattle.verdict.specs.RangesTurns.{EndsTo}
 use Rattle.verdict.proofs.ranges.end_range.Given as goal
 
 abbrev pub invariant-loop-k : goal.invariant-loop-k

@@ -1,4 +1,4 @@
-use Rattle.std.specs.Prelude.{◌≡◌, ◌+◌, ◌-◌, ◌*◌, ◌^◌, ◌<◌, ◌≤◌, length}
+use Rattle.std.specs.Prelude.{◌+◌, ◌-◌, ◌*◌, ◌≤◌}
 use mathlib.Core.Path.{sym, ◌∙◌, subst}
 use lib.Bits.{and_le_r}
 use lib.Count.{count_trailing_zeros, trailing_le}
@@ -6,7 +6,7 @@ use Rattle.places.specs.Words.{number_of}
 use Rattle.places.specs.NextPlace.{trailing-here}
 use Rattle.verdict.specs.ColumnOffsets.{offset_from}
 use Rattle.verdict.specs.Ranges.{RangeAt, Adds}
-use Rattle.verdict.specs.RangesTurns.{AddsLeft, left-start, left-turn, left_end}
+use Rattle.verdict.specs.RangesTurns.{left-start, left-turn, left_end}
 use native.Mathlib.Omega.{arith}
 use Rattle.verdict.proofs.ranges.join_ranges.Goals as goal
 

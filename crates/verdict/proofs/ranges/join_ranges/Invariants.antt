@@ -1,15 +1,10 @@
 -- The loop's invariant: what the set gained, with what it gains for the places left, is what it gains for all (AddsLeft). The measure is
 -- the places left.
-use Rattle.std.specs.Prelude.{◌≡◌, ◌+◌, ◌-◌, ◌*◌, ◌^◌, ◌<◌, ◌≤◌, length}
-use mathlib.Core.Path.{sym, ◌∙◌, subst}
-use lib.Bits.{and_le_r}
-use lib.Count.{count_trailing_zeros, trailing_le}
+use Rattle.std.specs.Prelude.{◌≡◌, ◌*◌, ◌^◌, ◌<◌, length}
 use Rattle.places.specs.Words.{number_of}
-use Rattle.places.specs.NextPlace.{trailing-here}
 use Rattle.verdict.specs.ColumnOffsets.{offset_from}
-use Rattle.verdict.specs.Ranges.{RangeAt, Adds}
-use Rattle.verdict.specs.RangesTurns.{AddsLeft, left-start, left-turn, left_end}
-use native.Mathlib.Omega.{arith}
+use Rattle.verdict.specs.Ranges.{RangeAt}
+use Rattle.verdict.specs.RangesTurns.{AddsLeft}
 use Rattle.verdict.proofs.ranges.join_ranges.Given as goal
 
 abbrev pub invariant-loop-rest : goal.invariant-loop-rest

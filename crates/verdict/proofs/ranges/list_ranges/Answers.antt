@@ -1,15 +1,14 @@
-use Rattle.std.specs.Prelude.{◌≡◌, ◌+◌, ◌-◌, ◌^◌, ◌<◌, length}
+use Rattle.std.specs.Prelude.{◌+◌, ◌-◌}
 use mathlib.Core.Path.{sym, ◌∙◌, subst}
 use lib.Bits.{and_le_r}
 use lib.Count.{count_trailing_zeros, trailing_le}
 use Rattle.places.specs.Words.{number_of}
 use Rattle.places.specs.NextPlace.{trailing-here}
 use Rattle.verdict.specs.ColumnLists.{inner_of}
-use Rattle.verdict.specs.Ranges.{Closed, PlaceNew}
+use Rattle.verdict.specs.Ranges.{PlaceNew}
 use Rattle.verdict.specs.RangesTurns.{AddsLeft, left-start, left-turn, left_end}
 use Rattle.verdict.specs.RangesLists.{place-closed, place-ready, list-end}
 use native.Mathlib.Omega.{arith}
-use borrow.Author.Rules.{rules}
 use Rattle.verdict.proofs.ranges.list_ranges.Goals as goal
 
 pub loop-rest-init : goal.loop-rest-init
@@ -19,7 +18,7 @@ loop-rest-init c =
       omega arith,
       s.requires.1,
       s.requires.2.closed,
-      subst (λ z. AddsLeft (λ x. PlaceNew a.n (number_of a.set.now) a.now a.reached.now a.table.now a.accepting a.v a.base (1 + x)) (inner_of a.entered a.size) a.words.now a.words.now z)
+      subst (λ z. AddsLeft (λ x. PlaceNew a.n (number_of a.set.now) a.before.now a.reached.now a.table.now a.accepting a.v a.base (1 + x)) (inner_of a.entered a.size) a.words.now a.words.now z)
           (sym c.inner-rest.ensures) (left-start (inner_of a.entered a.size) a.words.now),
     )
 
@@ -36,7 +35,7 @@ place_range-requires c =
     let l = c.loop-rest in (
       s.requires.0,
       l.invariant.1,
-      place-ready a.n (number_of a.set.now) a.accepting a.entered a.size a.v a.base a.now a.reached.now a.table.now a.words.now s.requires.2 (count_trailing_zeros 64 l.rest) l.rest l.words
+      place-ready a.n (number_of a.set.now) a.accepting a.entered a.size a.v a.base a.before.now a.reached.now a.table.now a.words.now s.requires.2 (count_trailing_zeros 64 l.rest) l.rest l.words
           (trailing-here 64 l.rest c.loop-rest-test.true l.invariant.0) l.invariant.3 l.invariant.2,
     )
 
@@ -56,8 +55,8 @@ loop-rest-preserved c =
     let place-range = c.place_range in (
       omega (arith, l.invariant.0, and_le_r l.rest (l.rest - 1)),
       place-range.auto.words ∙ l.invariant.1,
-      place-closed a.n (number_of a.set.now) a.accepting a.entered a.size a.v a.base a.now a.reached.now a.table.now a.words.now s.requires.2 (count_trailing_zeros 64 l.rest) l.words place-range.new.words place-range.ensures l.invariant.2,
-      left-turn {New = λ x. PlaceNew a.n (number_of a.set.now) a.now a.reached.now a.table.now a.accepting a.v a.base (1 + x)} (inner_of a.entered a.size) _ l.words _ l.rest c.loop-rest-test.true l.invariant.0 place-range.ensures
+      place-closed a.n (number_of a.set.now) a.accepting a.entered a.size a.v a.base a.before.now a.reached.now a.table.now a.words.now s.requires.2 (count_trailing_zeros 64 l.rest) l.words place-range.new.words place-range.ensures l.invariant.2,
+      left-turn {New = λ x. PlaceNew a.n (number_of a.set.now) a.before.now a.reached.now a.table.now a.accepting a.v a.base (1 + x)} (inner_of a.entered a.size) _ l.words _ l.rest c.loop-rest-test.true l.invariant.0 place-range.ensures
           l.invariant.3,
     )
 
@@ -69,5 +68,5 @@ returns c =
     let s = c in
     let a = s.args in
     let l = c.loop-rest in
-    list-end a.n (number_of a.set.now) a.accepting a.entered a.size a.v a.base a.now a.reached.now a.table.now a.words.now s.requires.2 l.words
-    (left_end {New = λ x. PlaceNew a.n (number_of a.set.now) a.now a.reached.now a.table.now a.accepting a.v a.base (1 + x)} (inner_of a.entered a.size) _ l.words l.rest c.loop-rest-test.false l.invariant.3)
+    list-end a.n (number_of a.set.now) a.accepting a.entered a.size a.v a.base a.before.now a.reached.now a.table.now a.words.now s.requires.2 l.words
+    (left_end {New = λ x. PlaceNew a.n (number_of a.set.now) a.before.now a.reached.now a.table.now a.accepting a.v a.base (1 + x)} (inner_of a.entered a.size) _ l.words l.rest c.loop-rest-test.false l.invariant.3)

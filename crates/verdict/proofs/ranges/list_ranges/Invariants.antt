@@ -1,17 +1,10 @@
 -- The loop's invariant: the states alone are closed, and what the set gained, with what it gains for the occurrences left, is what it gains
 -- for all (AddsLeft). The measure is the occurrences left.
-use Rattle.std.specs.Prelude.{◌≡◌, ◌+◌, ◌-◌, ◌^◌, ◌<◌, length}
-use mathlib.Core.Path.{sym, ◌∙◌, subst}
-use lib.Bits.{and_le_r}
-use lib.Count.{count_trailing_zeros, trailing_le}
+use Rattle.std.specs.Prelude.{◌≡◌, ◌+◌, ◌^◌, ◌<◌, length}
 use Rattle.places.specs.Words.{number_of}
-use Rattle.places.specs.NextPlace.{trailing-here}
 use Rattle.verdict.specs.ColumnLists.{inner_of}
 use Rattle.verdict.specs.Ranges.{Closed, PlaceNew}
-use Rattle.verdict.specs.RangesTurns.{AddsLeft, left-start, left-turn, left_end}
-use Rattle.verdict.specs.RangesLists.{place-closed, place-ready, list-end}
-use native.Mathlib.Omega.{arith}
-use borrow.Author.Rules.{rules}
+use Rattle.verdict.specs.RangesTurns.{AddsLeft}
 use Rattle.verdict.proofs.ranges.list_ranges.Given as goal
 
 abbrev pub invariant-loop-rest : goal.invariant-loop-rest

@@ -1,10 +1,8 @@
-use Rattle.std.specs.Prelude.{◌≡◌, ◌+◌, ◌-◌, length}
+use Rattle.std.specs.Prelude.{◌+◌}
 use mathlib.Core.Path.{sym, ◌∙◌}
 use Rattle.places.specs.Words.{number_of}
-use Rattle.verdict.specs.Ranges.{Adds}
-use Rattle.verdict.specs.RangesTurns.{RangeTo, range-start, range-turn, range-end, row_below}
+use Rattle.verdict.specs.RangesTurns.{range-start, range-turn, range-end, row_below}
 use native.Mathlib.Omega.{arith}
-use borrow.Author.Rules.{rules}
 use Rattle.verdict.proofs.ranges.put_range.Goals as goal
 
 pub loop-k-init : goal.loop-k-init

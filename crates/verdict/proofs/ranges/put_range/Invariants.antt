@@ -1,11 +1,8 @@
 -- The loop's invariant: the set has gained the places before k. The measure is the number of places left.
-use Rattle.std.specs.Prelude.{◌≡◌, ◌+◌, ◌-◌, length}
-use mathlib.Core.Path.{sym, ◌∙◌}
+use Rattle.std.specs.Prelude.{◌≡◌, ◌-◌, length}
 use Rattle.places.specs.Words.{number_of}
 use Rattle.verdict.specs.Ranges.{Adds}
-use Rattle.verdict.specs.RangesTurns.{RangeTo, range-start, range-turn, range-end, row_below}
-use native.Mathlib.Omega.{arith}
-use borrow.Author.Rules.{rules}
+use Rattle.verdict.specs.RangesTurns.{RangeTo}
 use Rattle.verdict.proofs.ranges.put_range.Given as goal
 
 abbrev pub invariant-loop-k : goal.invariant-loop-k

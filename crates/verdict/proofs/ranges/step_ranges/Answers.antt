@@ -1,30 +1,28 @@
-use Rattle.std.specs.Prelude.{◌≡◌, ◌-◌, ◌≤◌, length}
 use mathlib.Core.Path.{sym, ◌∙◌}
 use Rattle.places.specs.Words.{number_of}
-use Rattle.verdict.specs.RangesLists.{Stepping, stepping-start, stepping-ready, stepping-turn, stepping-end}
+use Rattle.verdict.specs.RangesLists.{stepping-start, stepping-ready, stepping-turn, stepping-end}
 use native.Mathlib.Omega.{arith}
-use borrow.Author.Rules.{rules}
 use Rattle.verdict.proofs.ranges.step_ranges.Goals as goal
 
 pub loop-v-init : goal.loop-v-init
 loop-v-init c =
     let s = c in
     let a = s.args in
-    (omega arith, s.requires.3, stepping-start a.n a.lists a.a a.enter.now a.sizes.now a.accepting.now a.now a.reached.now a.table.now (number_of a.set.now) s.requires.0 a.words.now s.requires.4)
+    (omega arith, s.requires.3, stepping-start a.n a.lists a.a a.enter.now a.sizes.now a.accepting.now a.before.now a.reached.now a.table.now (number_of a.set.now) s.requires.0 a.words.now s.requires.4)
 
 pub list_ranges-requires : goal.list_ranges-requires
 list_ranges-requires c =
     let s = c in
     let a = s.args in
     let l = c.loop-v in
-    (s.requires.2, l.invariant.1, stepping-ready a.n a.lists a.a a.enter.now a.sizes.now a.accepting.now a.now a.reached.now a.table.now (number_of a.set.now) s.requires.0 l.v l.base l.words c.loop-v-test.true l.invariant.2)
+    (s.requires.2, l.invariant.1, stepping-ready a.n a.lists a.a a.enter.now a.sizes.now a.accepting.now a.before.now a.reached.now a.table.now (number_of a.set.now) s.requires.0 l.v l.base l.words c.loop-v-test.true l.invariant.2)
 
 pub overflow_add-base : goal.overflow_add-base
 overflow_add-base c =
     let s = c in
     let a = s.args in
     let l = c.loop-v in
-    omega (arith, (stepping-ready a.n a.lists a.a a.enter.now a.sizes.now a.accepting.now a.now a.reached.now a.table.now (number_of a.set.now) s.requires.0 l.v l.base l.words c.loop-v-test.true l.invariant.2).few)
+    omega (arith, (stepping-ready a.n a.lists a.a a.enter.now a.sizes.now a.accepting.now a.before.now a.reached.now a.table.now (number_of a.set.now) s.requires.0 l.v l.base l.words c.loop-v-test.true l.invariant.2).few)
 
 pub loop-v-smaller : goal.loop-v-smaller
 loop-v-smaller c = omega (arith, c.loop-v-test.true)
@@ -38,7 +36,7 @@ loop-v-preserved c =
     let test = c.loop-v-test.true in (
       omega (arith, test),
       list-ranges.auto.words ∙ l.invariant.1,
-      stepping-turn a.n a.lists a.a a.enter.now a.sizes.now a.accepting.now a.now a.reached.now a.table.now (number_of a.set.now) s.requires.0 l.v l.base l.words test l.invariant.2 _ list-ranges.ensures,
+      stepping-turn a.n a.lists a.a a.enter.now a.sizes.now a.accepting.now a.before.now a.reached.now a.table.now (number_of a.set.now) s.requires.0 l.v l.base l.words test l.invariant.2 _ list-ranges.ensures,
     )
 
 pub shape_of-words : goal.shape_of-words
@@ -49,4 +47,4 @@ returns c =
     let s = c in
     let a = s.args in
     let l = c.loop-v in
-    stepping-end a.n a.lists a.a a.enter.now a.sizes.now a.accepting.now a.now a.reached.now a.table.now (number_of a.set.now) s.requires.0 l.v l.base l.words (omega (arith, c.loop-v-test.false, l.invariant.0)) l.invariant.2
+    stepping-end a.n a.lists a.a a.enter.now a.sizes.now a.accepting.now a.before.now a.reached.now a.table.now (number_of a.set.now) s.requires.0 l.v l.base l.words (omega (arith, c.loop-v-test.false, l.invariant.0)) l.invariant.2

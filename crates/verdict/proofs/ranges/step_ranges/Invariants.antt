@@ -1,10 +1,7 @@
 -- The loop's invariant: the set has what is new in the lists before v (Stepping). The measure is the number of lists left.
 use Rattle.std.specs.Prelude.{◌≡◌, ◌-◌, ◌≤◌, length}
-use mathlib.Core.Path.{sym, ◌∙◌}
 use Rattle.places.specs.Words.{number_of}
-use Rattle.verdict.specs.RangesLists.{Stepping, stepping-start, stepping-ready, stepping-turn, stepping-end}
-use native.Mathlib.Omega.{arith}
-use borrow.Author.Rules.{rules}
+use Rattle.verdict.specs.RangesLists.{Stepping}
 use Rattle.verdict.proofs.ranges.step_ranges.Given as goal
 
 abbrev pub invariant-loop-v : goal.invariant-loop-v

@@ -1,7 +1,5 @@
 -- The places from w on are moved out of the word, and the others back.
 use Rattle.verdict.specs.RowsLaws.{cut_word}
-use native.Mathlib.Omega.{arith}
-use borrow.Author.Rules.{rules}
 use Rattle.verdict.proofs.rows.lowest.Goals as goal
 
 pub returns : goal.returns

@@ -9,10 +9,10 @@ pub returns-then-bits-w-gt64 : goal.returns-then-bits-w-gt64
 returns-then-bits-w-gt64 c =
     let s = c in
     c.lowest.ensures
-    ∙ row-across s.args.words.now (λ i. omega (arith, c.shared_slice_known-1.given i)) s.args.at s.args.w s.requires.2 c.if-bits-w-gt64.true
+    ∙ row-across s.args.words.now (λ i. search rules) s.args.at s.args.w s.requires.2 c.if-bits-w-gt64.true
 
 pub returns : goal.returns
 returns c =
     let s = c in
     c.lowest-2.ensures
-    ∙ row_here s.args.words.now (λ i. omega (arith, c.shared_slice_known-1.given i)) s.args.at s.args.w s.requires.2 (omega (arith, c.if-bits-w-gt64.false))
+    ∙ row_here s.args.words.now (λ i. search rules) s.args.at s.args.w s.requires.2 (omega (arith, c.if-bits-w-gt64.false))

@@ -1,9 +1,7 @@
-use Rattle.std.specs.Prelude.{◌≡◌, ◌-◌, ◌≤◌, length}
 use mathlib.Core.Path.{refl, ◌∙◌}
 use lib.ListN.{length-set}
-use Rattle.verdict.specs.StableTurns.{ClearedTo, clear-start, clear-turn, clear-end}
+use Rattle.verdict.specs.StableTurns.{clear-start, clear-turn, clear-end}
 use native.Mathlib.Omega.{arith}
-use borrow.Author.Rules.{rules}
 use Rattle.verdict.proofs.stable.clear_entered.Goals as goal
 
 pub loop-i-init : goal.loop-i-init

@@ -1,10 +1,6 @@
 -- The loop's invariant: the entries from 64 to i are cleared (ClearedTo). The measure is the number of entries left.
 use Rattle.std.specs.Prelude.{◌≡◌, ◌-◌, ◌≤◌, length}
-use mathlib.Core.Path.{refl, ◌∙◌}
-use lib.ListN.{length-set}
-use Rattle.verdict.specs.StableTurns.{ClearedTo, clear-start, clear-turn, clear-end}
-use native.Mathlib.Omega.{arith}
-use borrow.Author.Rules.{rules}
+use Rattle.verdict.specs.StableTurns.{ClearedTo}
 use Rattle.verdict.proofs.stable.clear_entered.Given as goal
 
 abbrev pub invariant-loop-i : goal.invariant-loop-i

@@ -1,8 +1,6 @@
-use Rattle.std.specs.Prelude.{◌≡◌, ◌-◌, ◌<◌, ◌≤◌, length}
 use mathlib.Core.Path.{refl, ◌∙◌}
-use Rattle.verdict.specs.StableTurns.{EnteredBy, enter-start, enter-turn, enter-end}
+use Rattle.verdict.specs.StableTurns.{enter-start, enter-turn, enter-end}
 use native.Mathlib.Omega.{arith}
-use borrow.Author.Rules.{rules}
 use Rattle.verdict.proofs.stable.enter_classes.Goals as goal
 
 pub loop-c-init : goal.loop-c-init

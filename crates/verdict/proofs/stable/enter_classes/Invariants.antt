@@ -1,9 +1,6 @@
 -- The loop's invariant: the classes before c stand at the labels that enter them (EnteredBy). The measure is the number of classes left.
 use Rattle.std.specs.Prelude.{◌≡◌, ◌-◌, ◌<◌, ◌≤◌, length}
-use mathlib.Core.Path.{refl, ◌∙◌}
-use Rattle.verdict.specs.StableTurns.{EnteredBy, enter-start, enter-turn, enter-end}
-use native.Mathlib.Omega.{arith}
-use borrow.Author.Rules.{rules}
+use Rattle.verdict.specs.StableTurns.{EnteredBy}
 use Rattle.verdict.proofs.stable.enter_classes.Given as goal
 
 abbrev pub invariant-loop-c : goal.invariant-loop-c

@@ -5,7 +5,6 @@ use lib.Bits.{and_mask}
 use borrow.Author.Tests.{eqb-true}
 use Rattle.verdict.specs.StableTurns.{liked-known, liked-new}
 use native.Mathlib.Omega.{arith}
-use borrow.Author.Rules.{rules}
 use Rattle.verdict.proofs.stable.is_like.Goals as goal
 
 pub returns-then-merged-c : goal.returns-then-merged-c

@@ -1,9 +1,7 @@
-use Rattle.std.specs.Prelude.{◌≡◌, ℕ, ◌+◌, ◌-◌, ◌<◌, ◌≤◌, length}
+use Rattle.std.specs.Prelude.{◌≡◌, ℕ, ◌-◌}
 use mathlib.Core.Path.{refl, ◌∙◌, subst}
-use borrow.Author.Tests.{not-false}
 use Rattle.verdict.specs.StableTurns.{ListLike, list-start, list-turn}
 use native.Mathlib.Omega.{arith}
-use borrow.Author.Rules.{rules}
 use Rattle.verdict.proofs.stable.list_stable.Goals as goal
 
 pub loop-p-init : goal.loop-p-init
@@ -39,11 +37,11 @@ loop-p-preserved c =
       omega arith,
       omega (arith, c.loop-p-test.true),
       f.auto.merged ∙ l.invariant.2,
-      list-turn s.args.v s.args.base l.p s.args.now s.args.kinds.now s.args.classes.now s.args.already
+      list-turn s.args.v s.args.base l.p s.args.before.now s.args.kinds.now s.args.classes.now s.args.already
           s.args.merged.now s.args.entering.now l.known l.merged l.entering f.new.merged
           f.new.entering class.result c.classes_of-set.result _ l.invariant.0
           (omega (arith, class.ensures, s.requires.6 l.p l.invariant.0 c.loop-p-test.true)) class.ensures c.classes_of-set.ensures refl
-          (f.ensures (not-false _ c.if-not-is_like.false-raw)) l.invariant.3,
+          (f.ensures c.if-not-is_like.false) l.invariant.3,
     )
 
 pub returns : goal.returns
@@ -52,5 +50,5 @@ returns c =
     let l = c.loop-p in
     let e : l.p - 1 ≡ s.args.size = omega (arith, l.invariant.0, l.invariant.1, c.loop-p-test.false) in
     λ h. subst
-    (λ (z : ℕ). ListLike s.args.v s.args.base z s.args.now s.args.kinds.now s.args.classes.now s.args.already
+    (λ (z : ℕ). ListLike s.args.v s.args.base z s.args.before.now s.args.kinds.now s.args.classes.now s.args.already
     s.args.merged.now s.args.entering.now l.known l.merged l.entering) e l.invariant.3

@@ -1,11 +1,7 @@
 -- The loop's invariant: the occurrences before p are like what is known of their classes (ListLike). The measure is the number of
 -- occurrences left.
-use Rattle.std.specs.Prelude.{◌≡◌, ℕ, ◌+◌, ◌-◌, ◌<◌, ◌≤◌, length}
-use mathlib.Core.Path.{refl, ◌∙◌, subst}
-use borrow.Author.Tests.{not-false}
-use Rattle.verdict.specs.StableTurns.{ListLike, list-start, list-turn}
-use native.Mathlib.Omega.{arith}
-use borrow.Author.Rules.{rules}
+use Rattle.std.specs.Prelude.{◌≡◌, ◌+◌, ◌-◌, ◌<◌, ◌≤◌, length}
+use Rattle.verdict.specs.StableTurns.{ListLike}
 use Rattle.verdict.proofs.stable.list_stable.Given as goal
 
 abbrev pub invariant-loop-p : goal.invariant-loop-p

@@ -1,6 +1,5 @@
 -- Classes that are stable, with the labels that enter each, are what a step needs (stable-classes).
 use mathlib.Core.Bool.{false≢true}
-use borrow.Author.Tests.{not-false}
 use Rattle.verdict.specs.StableTurns.{stable-classes}
 use native.Mathlib.Omega.{arith}
 use borrow.Author.Rules.{rules}
@@ -32,7 +31,7 @@ returns c =
     let s = c in
     let f = c.stable in
     let e = c.enter_classes in
-    λ t. stable-classes s.args.lists s.args.labels s.args.k s.args.enter.now s.args.sizes.now s.args.now
+    λ t. stable-classes s.args.lists s.args.labels s.args.k s.args.enter.now s.args.sizes.now s.args.before.now
     c.kinds_of.new.kinds s.args.classes.now f.new.merged f.new.entering
     e.new.merged s.requires.1 s.requires.8 s.requires.0 s.requires.4 s.requires.6 c.kinds_of.ensures
-    (f.ensures (not-false _ c.if-not-stable.false-raw)) e.ensures
+    (f.ensures c.if-not-stable.false) e.ensures

@@ -1,15 +1,13 @@
-use Rattle.std.specs.Prelude.{◌≡◌, ℕ, ◌+◌, ◌-◌, ◌^◌, ◌≤◌, length}
+use Rattle.std.specs.Prelude.{◌≡◌, ℕ, ◌+◌, ◌-◌, ◌^◌}
 use mathlib.Core.Bool.{false≢true}
 use mathlib.Core.Path.{refl, ap, ◌∙◌, subst}
 use lib.Pow.{pow_pos}
 use borrow.Author.Tests.{eqb-true}
-use Rattle.verdict.specs.Tables.{occupied}
 use Rattle.verdict.specs.TablesLaws.{occupied-none, occupied-more, occupied-few}
 use Rattle.verdict.specs.ColumnOffsets.{occupied-room}
 use Rattle.verdict.specs.WordBits.{one_bit}
 use Rattle.verdict.specs.StableTurns.{ListsLike, lists-start, lists-turn}
 use native.Mathlib.Omega.{arith}
-use borrow.Author.Rules.{rules}
 use Rattle.verdict.proofs.stable.stable.Goals as goal
 
 pub loop-v-init : goal.loop-v-init
@@ -59,7 +57,7 @@ loop-v-preserved c =
       omega (arith, l.invariant.1, occupied-more s.args.sizes.now l.v),
       f.auto.merged ∙ l.invariant.2,
       like.size ∙ l.invariant.3,
-      lists-turn l.v l.base s.args.sizes.now s.args.now s.args.kinds.now s.args.classes.now l.known
+      lists-turn l.v l.base s.args.sizes.now s.args.before.now s.args.kinds.now s.args.classes.now l.known
           l.merged l.entering f.result f.new.merged f.new.entering l.invariant.1 like l.invariant.4,
     )
 
@@ -74,9 +72,9 @@ returns c =
     let l = c.loop-v in
     let d : l.v ≡ s.args.lists = omega (arith, l.invariant.0, c.loop-v-test.false) in
     λ e. subst
-    (λ (z : ℕ). ListsLike z s.args.sizes.now s.args.now s.args.kinds.now s.args.classes.now (2 ^ s.args.k - 1)
+    (λ (z : ℕ). ListsLike z s.args.sizes.now s.args.before.now s.args.kinds.now s.args.classes.now (2 ^ s.args.k - 1)
     l.merged l.entering) d
     (subst
-    (λ (z : ℕ). ListsLike l.v s.args.sizes.now s.args.now s.args.kinds.now s.args.classes.now z l.merged
+    (λ (z : ℕ). ListsLike l.v s.args.sizes.now s.args.before.now s.args.kinds.now s.args.classes.now z l.merged
     l.entering)
     (eqb-true _ _ e ∙ ap (λ (z : ℕ). z - 1) (one_bit s.args.k (omega (arith, s.requires.5.few)))) l.invariant.4)

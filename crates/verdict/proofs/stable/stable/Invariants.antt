@@ -1,17 +1,8 @@
 -- The loop's invariant: the occurrences of the lists before v are like what is known of their classes (ListsLike). The measure is the
 -- number of lists left.
-use Rattle.std.specs.Prelude.{◌≡◌, ℕ, ◌+◌, ◌-◌, ◌^◌, ◌≤◌, length}
-use mathlib.Core.Bool.{false≢true}
-use mathlib.Core.Path.{refl, ap, ◌∙◌, subst}
-use lib.Pow.{pow_pos}
-use borrow.Author.Tests.{eqb-true}
+use Rattle.std.specs.Prelude.{◌≡◌, ◌-◌, ◌≤◌, length}
 use Rattle.verdict.specs.Tables.{occupied}
-use Rattle.verdict.specs.TablesLaws.{occupied-none, occupied-more, occupied-few}
-use Rattle.verdict.specs.ColumnOffsets.{occupied-room}
-use Rattle.verdict.specs.WordBits.{one_bit}
-use Rattle.verdict.specs.StableTurns.{ListsLike, lists-start, lists-turn}
-use native.Mathlib.Omega.{arith}
-use borrow.Author.Rules.{rules}
+use Rattle.verdict.specs.StableTurns.{ListsLike}
 use Rattle.verdict.proofs.stable.stable.Given as goal
 
 abbrev pub invariant-loop-v : goal.invariant-loop-v

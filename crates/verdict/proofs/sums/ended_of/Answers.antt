@@ -1,4 +1,4 @@
-use Rattle.verdict.specs.SumsLaws.{SumsLeft, left-start, left-room, left-turn, left_end}
+use Rattle.verdict.specs.SumsLaws.{left-start, left-room, left-turn, left_end}
 use native.Mathlib.Omega.{arith}
 use Rattle.verdict.proofs.sums.ended_of.Goals as goal
 

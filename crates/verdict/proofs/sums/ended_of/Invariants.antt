@@ -1,7 +1,6 @@
 -- The loop's invariant: what has been joined, with what is reached from the states left, is what is reached from all (SumsLeft). The measure
 -- is the states left.
-use Rattle.verdict.specs.SumsLaws.{SumsLeft, left-start, left-room, left-turn, left_end}
-use native.Mathlib.Omega.{arith}
+use Rattle.verdict.specs.SumsLaws.{SumsLeft}
 use Rattle.verdict.proofs.sums.ended_of.Given as goal
 
 abbrev pub invariant-loop-rest : goal.invariant-loop-rest

@@ -1,10 +1,8 @@
-use Rattle.std.specs.Prelude.{◌-◌, ◌<◌, ◌≤◌}
 use mathlib.Core.Path.{◌∙◌}
 use lib.Count.{trailing_le}
 use lib.ListN.{length-set}
-use Rattle.verdict.specs.SumsLaws.{FourLeft, four-start, four-turn, four-end, least-of-four, without-less}
+use Rattle.verdict.specs.SumsLaws.{four-start, four-turn, four-end, least-of-four, without-less}
 use native.Mathlib.Omega.{arith}
-use borrow.Author.Rules.{rules}
 use Rattle.verdict.proofs.sums.sum_four.Goals as goal
 
 pub loop-set-init : goal.loop-set-init

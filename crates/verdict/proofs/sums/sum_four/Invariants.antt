@@ -1,11 +1,6 @@
 -- The loop's invariant: the sums of the sets below `set` are put down (FourLeft). The measure is the number of sets left.
 use Rattle.std.specs.Prelude.{◌-◌, ◌<◌, ◌≤◌}
-use mathlib.Core.Path.{◌∙◌}
-use lib.Count.{trailing_le}
-use lib.ListN.{length-set}
-use Rattle.verdict.specs.SumsLaws.{FourLeft, four-start, four-turn, four-end, least-of-four, without-less}
-use native.Mathlib.Omega.{arith}
-use borrow.Author.Rules.{rules}
+use Rattle.verdict.specs.SumsLaws.{FourLeft}
 use Rattle.verdict.proofs.sums.sum_four.Given as goal
 
 abbrev pub invariant-loop-set : goal.invariant-loop-set

@@ -1,9 +1,8 @@
-use Rattle.std.specs.Prelude.{◌≡◌, ◌-◌, ◌≤◌, length}
+use Rattle.std.specs.Prelude.{◌≡◌}
 use mathlib.Core.Path.{refl, ◌∙◌, subst}
 use Rattle.verdict.specs.Sums.{ListSummed}
 use Rattle.verdict.specs.SumsLaws.{list-start, list-turn}
 use native.Mathlib.Omega.{arith}
-use borrow.Author.Rules.{rules}
 use Rattle.verdict.proofs.sums.sum_list.Goals as goal
 
 pub loop-k-init : goal.loop-k-init

@@ -1,10 +1,6 @@
 -- The loop's invariant: the first k times four words are summed. The measure is how many times four words are left.
 use Rattle.std.specs.Prelude.{◌≡◌, ◌-◌, ◌≤◌, length}
-use mathlib.Core.Path.{refl, ◌∙◌, subst}
 use Rattle.verdict.specs.Sums.{ListSummed}
-use Rattle.verdict.specs.SumsLaws.{list-start, list-turn}
-use native.Mathlib.Omega.{arith}
-use borrow.Author.Rules.{rules}
 use Rattle.verdict.proofs.sums.sum_list.Given as goal
 
 abbrev pub invariant-loop-k : goal.invariant-loop-k

@@ -1,10 +1,9 @@
-use Rattle.std.specs.Prelude.{◌≡◌, ◌-◌, ◌*◌, ◌≤◌, length}
+use Rattle.std.specs.Prelude.{◌≡◌, ◌*◌, ◌≤◌}
 use mathlib.Core.Path.{refl, ◌∙◌, subst}
 use native.Mathlib.Nat.{mul-le-mul_left}
 use Rattle.verdict.specs.Sums.{quarters}
 use Rattle.verdict.specs.SumsLaws.{SumsBefore, sums-start, next-list, sums-turn, sums-end}
 use native.Mathlib.Omega.{arith}
-use borrow.Author.Rules.{rules}
 use Rattle.verdict.proofs.sums.sum_lists.Goals as goal
 
 pub loop-v-init : goal.loop-v-init

@@ -1,11 +1,6 @@
 -- The loop's invariant: the sums of the lists before v are put down (SumsBefore). The measure is the number of lists left.
-use Rattle.std.specs.Prelude.{◌≡◌, ◌-◌, ◌*◌, ◌≤◌, length}
-use mathlib.Core.Path.{refl, ◌∙◌, subst}
-use native.Mathlib.Nat.{mul-le-mul_left}
-use Rattle.verdict.specs.Sums.{quarters}
-use Rattle.verdict.specs.SumsLaws.{SumsBefore, sums-start, next-list, sums-turn, sums-end}
-use native.Mathlib.Omega.{arith}
-use borrow.Author.Rules.{rules}
+use Rattle.std.specs.Prelude.{◌≡◌, ◌-◌, ◌≤◌, length}
+use Rattle.verdict.specs.SumsLaws.{SumsBefore}
 use Rattle.verdict.proofs.sums.sum_lists.Given as goal
 
 abbrev pub invariant-loop-v : goal.invariant-loop-v

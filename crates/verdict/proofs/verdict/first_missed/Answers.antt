@@ -1,11 +1,10 @@
-use Rattle.std.specs.Prelude.{◌≡◌, ℕ, ◌-◌, ◌<◌, ◌≤◌, false}
+use Rattle.std.specs.Prelude.{◌≡◌, false}
 use mathlib.Core.Path.{sym, ◌∙◌}
 use borrow.Author.Count.{below_more}
 use Rattle.places.specs.Words.{number_of}
 use Rattle.verdict.specs.PairTable.{pair_at}
 use Rattle.verdict.specs.Missing.{misses_with}
 use native.Mathlib.Omega.{arith}
-use borrow.Author.Rules.{rules}
 use Rattle.verdict.proofs.verdict.first_missed.Goals as goal
 
 pub loop-i-init : goal.loop-i-init

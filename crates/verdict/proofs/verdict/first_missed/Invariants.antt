@@ -1,12 +1,8 @@
 -- The loop's invariant: the paths of the first i pairs are not missed.
 use Rattle.std.specs.Prelude.{◌≡◌, ℕ, ◌-◌, ◌<◌, ◌≤◌, false}
-use mathlib.Core.Path.{sym, ◌∙◌}
-use borrow.Author.Count.{below_more}
 use Rattle.places.specs.Words.{number_of}
 use Rattle.verdict.specs.PairTable.{pair_at}
 use Rattle.verdict.specs.Missing.{misses_with}
-use native.Mathlib.Omega.{arith}
-use borrow.Author.Rules.{rules}
 use Rattle.verdict.proofs.verdict.first_missed.Given as goal
 
 abbrev pub invariant-loop-i : goal.invariant-loop-i

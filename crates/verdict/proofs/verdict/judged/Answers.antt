@@ -5,7 +5,6 @@ use native.Mathlib.Nat.{mul-one, mul-le-mul_left}
 use native.Mathlib.Omega.{arith}
 use Rattle.verdict.specs.Missing.{gap, Yields}
 use Rattle.verdict.specs.Judging.{judged-none, judged-some}
-use borrow.Author.Rules.{rules}
 use Rattle.verdict.proofs.verdict.judged.Goals as goal
 
 -- There is room for the states alone.

@@ -5,7 +5,6 @@ use Rattle.theory.specs.Places.{intersection}
 use Rattle.places.specs.Words.{number_of}
 use Rattle.verdict.specs.PairTable.{pair_at}
 use Rattle.verdict.specs.Missing.{misses-dead, misses-alive, not-not}
-use borrow.Author.Rules.{rules}
 use Rattle.verdict.proofs.verdict.misses.Goals as goal
 
 pub returns-then-workspace-i-eq0 : goal.returns-then-workspace-i-eq0

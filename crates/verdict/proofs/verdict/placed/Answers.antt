@@ -5,7 +5,6 @@ use native.Mathlib.Nat.{mul-le-mul}
 use Rattle.verdict.specs.TablesLaws.{occupied-few}
 use Rattle.verdict.specs.Placing.{placed-not, placed-few, many-states, many-places}
 use native.Mathlib.Omega.{arith}
-use borrow.Author.Rules.{rules}
 use Rattle.verdict.proofs.verdict.placed.Goals as goal
 
 pub returns-then-w-eq0 : goal.returns-then-w-eq0

@@ -5,7 +5,6 @@ use Rattle.verdict.specs.PairsTold.{lent}
 use Rattle.verdict.specs.VerdictTold.{Placed}
 use Rattle.verdict.specs.Judging.{told-places, told-unfit, told-pairs, told-judged}
 use native.Mathlib.Omega.{arith}
-use borrow.Author.Rules.{rules}
 use Rattle.verdict.proofs.verdict.verdict.Goals as goal
 
 pub returns-then-w-eq0 : goal.returns-then-w-eq0

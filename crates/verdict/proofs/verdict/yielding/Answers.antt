@@ -1,12 +1,10 @@
-use Rattle.std.specs.Prelude.{◌≡◌, ◌+◌, ◌-◌, ◌≤◌}
-use mathlib.Core.Logic.{⊎_elim}
+use Rattle.std.specs.Prelude.{◌≡◌, ◌+◌}
 use mathlib.Core.Path.{refl, sym, subst}
 use native.Mathlib.Nat.{mul-le-mul_right, mul_comm}
 use Rattle.places.specs.Words.{number_of}
 use Rattle.verdict.specs.Cover.{yielding as yielding_of}
 use Rattle.verdict.specs.Missing.{Yields, yields-in, yields-out}
 use native.Mathlib.Omega.{arith}
-use borrow.Author.Rules.{rules}
 use Rattle.verdict.proofs.verdict.yielding.Goals as goal
 use Rattle.verdict.proofs.verdict.yielding.Goals.{else-flags-q-eq1, then-flags-q-eq1}
 
@@ -31,10 +29,13 @@ loop-q-preserved c =
     let s = c in
     let l = c.loop-q in (
       omega arith,
-      (elim c.if-flags-q-eq1.branch [ then-flags-q-eq1 x ↦ subst (λ z. Yields s.args.flags.now s.args.w (l.q + 1) z.words) (sym x.set-is)
-          (yields-in s.args.flags.now s.args.states s.args.w l.q l.set.words x.with_shifted-set.result.words s.requires.0 s.requires.1
-          c.loop-q-test.true x.if-flags-q-eq1.true l.invariant.1 x.with_shifted-set.ensures) | else-flags-q-eq1 x ↦ subst (λ z. Yields s.args.flags.now s.args.w (l.q + 1) z.words) (sym x.set-is)
-          (yields-out s.args.flags.now s.args.w l.q l.set.words x.if-flags-q-eq1.false l.invariant.1) ]),
+      (elim c.if-flags-q-eq1.branch [
+        | then-flags-q-eq1 x ↦ subst (λ z. Yields s.args.flags.now s.args.w (l.q + 1) z.words) (sym x.set-is)
+            (yields-in s.args.flags.now s.args.states s.args.w l.q l.set.words x.with_shifted-set.result.words s.requires.0 s.requires.1
+            c.loop-q-test.true x.if-flags-q-eq1.true l.invariant.1 x.with_shifted-set.ensures)
+        | else-flags-q-eq1 x ↦ subst (λ z. Yields s.args.flags.now s.args.w (l.q + 1) z.words) (sym x.set-is)
+            (yields-out s.args.flags.now s.args.w l.q l.set.words x.if-flags-q-eq1.false l.invariant.1)
+      ]),
     )
 
 pub returns : goal.returns

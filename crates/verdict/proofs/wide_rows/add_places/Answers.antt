@@ -9,7 +9,6 @@ use Rattle.verdict.specs.WideRows.{OccursAt}
 use Rattle.verdict.specs.WideRowsLaws.{joins_pair}
 use Rattle.verdict.specs.WideRowsPrepared.{occurs-words}
 use native.Mathlib.Omega.{arith}
-use borrow.Author.Rules.{rules}
 use Rattle.verdict.proofs.wide_rows.add_places.Goals as goal
 
 pub bounds-rows-at-3 : goal.bounds-rows-at-3

@@ -1,11 +1,9 @@
-use Rattle.std.specs.Prelude.{◌≡◌, ℕ, ◌+◌, ◌-◌, ◌≤◌, ◌↔◌}
-use mathlib.Core.Logic.{⊎_elim}
+use Rattle.std.specs.Prelude.{◌≡◌, ℕ, ◌+◌, ◌↔◌}
 use mathlib.Core.Path.{sym, subst}
 use Rattle.theory.specs.Places.{Member}
 use Rattle.verdict.specs.WideRows.{Has, Ends}
 use Rattle.verdict.specs.WideRowsTurns.{ends-start, ends_some, ends-none}
 use native.Mathlib.Omega.{arith}
-use borrow.Author.Rules.{rules}
 use Rattle.verdict.proofs.wide_rows.ended_row.Goals as goal
 use Rattle.verdict.proofs.wide_rows.ended_row.Goals.{else-low-rows-ne0, then-low-rows-ne0}
 
@@ -21,10 +19,13 @@ loop-v-preserved c =
     let Reached : ℕ → Type 0 =
     λ z. (t : ℕ) → Member t z ↔ Ends (l.v + 1) a.rows.now a.ended.now a.q (Has a.low a.high) t in (
       omega (arith, test.true),
-      (elim c.if-low-rows-ne0.branch [ then-low-rows-ne0 w ↦ subst Reached (sym w.alone-is)
-          (ends_some a.rows.now a.ended.now a.q a.low a.high l.alone l.v (omega arith) (omega arith) w.if-low-rows-ne0.true
-          l.invariant.1) | else-low-rows-ne0 w ↦ subst Reached (sym w.alone-is)
-          (ends-none a.rows.now a.ended.now a.q a.low a.high l.alone l.v w.if-low-rows-ne0.false l.invariant.1) ]),
+      (elim c.if-low-rows-ne0.branch [
+        | then-low-rows-ne0 w ↦ subst Reached (sym w.alone-is)
+            (ends_some a.rows.now a.ended.now a.q a.low a.high l.alone l.v (omega arith) (omega arith) w.if-low-rows-ne0.true
+            l.invariant.1)
+        | else-low-rows-ne0 w ↦ subst Reached (sym w.alone-is)
+            (ends-none a.rows.now a.ended.now a.q a.low a.high l.alone l.v w.if-low-rows-ne0.false l.invariant.1)
+      ]),
     )
 
 pub returns : goal.returns

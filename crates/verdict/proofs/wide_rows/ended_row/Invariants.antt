@@ -1,13 +1,8 @@
 -- The loop's invariant: the states that have been joined are those reached where paths of the lists before v end. The measure is the number
 -- of lists left.
-use Rattle.std.specs.Prelude.{◌≡◌, ℕ, ◌+◌, ◌-◌, ◌≤◌, ◌↔◌}
-use mathlib.Core.Logic.{⊎_elim}
-use mathlib.Core.Path.{sym, subst}
+use Rattle.std.specs.Prelude.{ℕ, ◌-◌, ◌≤◌, ◌↔◌}
 use Rattle.theory.specs.Places.{Member}
 use Rattle.verdict.specs.WideRows.{Has, Ends}
-use Rattle.verdict.specs.WideRowsTurns.{ends-start, ends_some, ends-none}
-use native.Mathlib.Omega.{arith}
-use borrow.Author.Rules.{rules}
 use Rattle.verdict.proofs.wide_rows.ended_row.Given as goal
 
 abbrev pub invariant-loop-v : goal.invariant-loop-v

@@ -1,14 +1,13 @@
-use Rattle.std.specs.Prelude.{◌+◌, ◌-◌, ◌*◌, ◌^◌, ◌<◌, length, get_or, set}
+use Rattle.std.specs.Prelude.{◌+◌, ◌-◌, ◌*◌, ◌<◌, length, get_or, set}
 use lib.Count.{trailing_le}
 use lib.Bits.{and_le_r}
 use lib.ListN.{length-set}
 use Rattle.theory.specs.Places.{union}
-use Rattle.places.specs.Followed.{FollowedLeft, followed-start, followed-turn, followed-end, least-small}
+use Rattle.places.specs.Followed.{followed-start, followed-turn, followed-end, least-small}
 use Rattle.verdict.specs.WideRows.{Follows}
 use Rattle.verdict.specs.WideRowsLaws.{joins_pair}
 use Rattle.verdict.specs.WideRowsTurns.{follow-words}
 use native.Mathlib.Omega.{arith}
-use borrow.Author.Rules.{rules}
 use Rattle.verdict.proofs.wide_rows.follow_part.Goals as goal
 
 pub loop-rest-init : goal.loop-rest-init

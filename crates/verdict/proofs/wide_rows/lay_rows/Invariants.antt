@@ -1,13 +1,7 @@
 -- The loop's invariant: the rows of the states before q are laid, and the next begins at w × q. The measure is the number of states left.
-use Rattle.std.specs.Prelude.{◌≡◌, ◌+◌, ◌-◌, ◌*◌, ◌<◌, ◌≤◌, length, set}
-use mathlib.Core.Path.{refl, ◌∙◌}
-use lib.ListN.{length-set}
+use Rattle.std.specs.Prelude.{◌≡◌, ◌-◌, ◌*◌, ◌≤◌, length}
 use Rattle.places.specs.Words.{number_of}
-use Rattle.verdict.specs.CoverBounds.{state-places, few-states}
-use Rattle.verdict.specs.TurnedTurns.{next-column}
 use Rattle.verdict.specs.WideRows.{RowsLaid}
-use Rattle.verdict.specs.WideRowsTurns.{lay-turn, lay-end}
-use native.Mathlib.Omega.{arith}
 use Rattle.verdict.proofs.wide_rows.lay_rows.Given as goal
 
 abbrev pub invariant-loop-q : goal.invariant-loop-q

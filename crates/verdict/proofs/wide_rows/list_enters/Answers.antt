@@ -1,4 +1,4 @@
-use Rattle.std.specs.Prelude.{◌≡◌, ℕ, ◌-◌, ◌≤◌, length}
+use Rattle.std.specs.Prelude.{◌≡◌, ℕ}
 use mathlib.Core.Path.{refl, ◌∙◌, subst}
 use Rattle.verdict.specs.WideRowsPrepared.{ListEnters, enters-start, enters-turn}
 use native.Mathlib.Omega.{arith}

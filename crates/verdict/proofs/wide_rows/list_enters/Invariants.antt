@@ -1,9 +1,7 @@
 -- The loop's invariant: the rows of the labels before a have the occurrences that they enter (ListEnters). The measure is the number of
 -- labels left.
-use Rattle.std.specs.Prelude.{◌≡◌, ℕ, ◌-◌, ◌≤◌, length}
-use mathlib.Core.Path.{refl, ◌∙◌, subst}
-use Rattle.verdict.specs.WideRowsPrepared.{ListEnters, enters-start, enters-turn}
-use native.Mathlib.Omega.{arith}
+use Rattle.std.specs.Prelude.{◌≡◌, ◌-◌, ◌≤◌, length}
+use Rattle.verdict.specs.WideRowsPrepared.{ListEnters}
 use Rattle.verdict.proofs.wide_rows.list_enters.Given as goal
 
 abbrev pub invariant-loop-a : goal.invariant-loop-a

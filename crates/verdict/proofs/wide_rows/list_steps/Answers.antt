@@ -1,4 +1,4 @@
-use Rattle.std.specs.Prelude.{◌≡◌, ℕ, ◌+◌, ◌-◌, ◌≤◌, length}
+use Rattle.std.specs.Prelude.{◌≡◌, ℕ, ◌+◌}
 use mathlib.Core.Bool.{false≢true}
 use mathlib.Core.Path.{refl, ◌∙◌, subst}
 use Rattle.verdict.specs.ColumnOffsets.{offset-small}

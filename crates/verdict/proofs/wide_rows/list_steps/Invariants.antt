@@ -1,11 +1,6 @@
 -- The loop's invariant: the rows have what can come next from the places before o (ListSteps). The measure is the number of places left.
-use Rattle.std.specs.Prelude.{◌≡◌, ℕ, ◌+◌, ◌-◌, ◌≤◌, length}
-use mathlib.Core.Bool.{false≢true}
-use mathlib.Core.Path.{refl, ◌∙◌, subst}
-use Rattle.verdict.specs.ColumnOffsets.{offset-small}
-use Rattle.verdict.specs.WideRowsPrepared.{ListSteps, steps-start, steps-turn}
-use Rattle.verdict.specs.WordBits.{first-none}
-use native.Mathlib.Omega.{arith}
+use Rattle.std.specs.Prelude.{◌≡◌, ◌+◌, ◌-◌, ◌≤◌, length}
+use Rattle.verdict.specs.WideRowsPrepared.{ListSteps}
 use Rattle.verdict.proofs.wide_rows.list_steps.Given as goal
 
 abbrev pub invariant-loop-o : goal.invariant-loop-o

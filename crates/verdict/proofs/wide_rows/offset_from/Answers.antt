@@ -1,7 +1,6 @@
 -- The start has the offset 0, an occurrence comes after `base`.
 use mathlib.Core.Path.{sym}
 use Rattle.verdict.specs.ColumnOffsets.{offset-none, offset-some}
-use borrow.Author.Rules.{rules}
 use Rattle.verdict.proofs.wide_rows.offset_from.Goals as goal
 
 pub returns-then-o-eq0 : goal.returns-then-o-eq0

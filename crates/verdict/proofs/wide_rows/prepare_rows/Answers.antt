@@ -1,15 +1,13 @@
-use Rattle.std.specs.Prelude.{◌≡◌, ℕ, ◌+◌, ◌-◌, ◌≤◌, List, length, get_or}
+use Rattle.std.specs.Prelude.{◌≡◌, ℕ, ◌+◌, List, get_or}
 use mathlib.Core.Bool.{false≢true}
 use mathlib.Core.Path.{refl, sym, ap, ◌∙◌, subst}
-use borrow.Author.Tests.{not-false}
 use Rattle.verdict.specs.Tables.{occupied}
 use Rattle.verdict.specs.TablesLaws.{occupied-more}
 use Rattle.verdict.specs.ColumnOffsets.{occupied-room}
 use Rattle.verdict.specs.WideRows.{RowsPrepared}
-use Rattle.verdict.specs.WideRowsPrepared.{Preparing, preparing-start, preparing-turn}
+use Rattle.verdict.specs.WideRowsPrepared.{preparing-start, preparing-turn}
 use Rattle.verdict.specs.WordBits.{cleared-zero}
 use native.Mathlib.Omega.{arith}
-use borrow.Author.Rules.{rules}
 use Rattle.verdict.proofs.wide_rows.prepare_rows.Goals as goal
 
 pub loop-v-init : goal.loop-v-init
@@ -110,7 +108,7 @@ loop-v-preserved c =
       add-places.auto.rows ∙ list-enters.auto.rows ∙ list_steps.auto.rows ∙ l.invariant.2,
       preparing-turn l.v l.base a.follow.now a.enter.now a.sizes.now a.accepting.now l.rows
           list_steps.new.rows list-enters.new.rows add-places.new.rows l.invariant.1
-          (omega (arith, h, p.0.few)) (list_steps.ensures (not-false _ if1.false)) list-enters.ensures add-places.ensures
+          (omega (arith, h, p.0.few)) (list_steps.ensures if1.false) list-enters.ensures add-places.ensures
           l.invariant.3,
     )
 

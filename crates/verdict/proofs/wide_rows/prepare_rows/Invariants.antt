@@ -1,16 +1,7 @@
 -- The loop's invariant: the lists before v are prepared (Preparing). The measure is the number of lists left.
-use Rattle.std.specs.Prelude.{◌≡◌, ℕ, ◌+◌, ◌-◌, ◌≤◌, List, length, get_or}
-use mathlib.Core.Bool.{false≢true}
-use mathlib.Core.Path.{refl, sym, ap, ◌∙◌, subst}
-use borrow.Author.Tests.{not-false}
+use Rattle.std.specs.Prelude.{◌≡◌, ◌-◌, ◌≤◌, length}
 use Rattle.verdict.specs.Tables.{occupied}
-use Rattle.verdict.specs.TablesLaws.{occupied-more}
-use Rattle.verdict.specs.ColumnOffsets.{occupied-room}
-use Rattle.verdict.specs.WideRows.{RowsPrepared}
-use Rattle.verdict.specs.WideRowsPrepared.{Preparing, preparing-start, preparing-turn}
-use Rattle.verdict.specs.WordBits.{cleared-zero}
-use native.Mathlib.Omega.{arith}
-use borrow.Author.Rules.{rules}
+use Rattle.verdict.specs.WideRowsPrepared.{Preparing}
 use Rattle.verdict.proofs.wide_rows.prepare_rows.Given as goal
 
 abbrev pub invariant-loop-v : goal.invariant-loop-v

@@ -1,11 +1,10 @@
-use Rattle.std.specs.Prelude.{◌≡◌, ℕ, ◌-◌, ◌*◌, ◌^◌, ◌<◌, length}
+use Rattle.std.specs.Prelude.{◌-◌}
 use mathlib.Core.Path.{sym, ◌∙◌}
 use lib.Bits.{and_le_r}
 use lib.Count.{count_trailing_zeros, trailing_le}
-use Rattle.theory.specs.Places.{Member}
 use Rattle.places.specs.NextPlace.{trailing-here}
 use Rattle.places.specs.Followed.{least-left}
-use Rattle.verdict.specs.WideRowsTurns.{AloneLeft, alone-start, alone-turn, alone-end}
+use Rattle.verdict.specs.WideRowsTurns.{alone-start, alone-turn, alone-end}
 use native.Mathlib.Omega.{arith}
 use Rattle.verdict.proofs.wide_rows.put_alone.Goals as goal
 

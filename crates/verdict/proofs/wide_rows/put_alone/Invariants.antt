@@ -1,14 +1,8 @@
 -- The loop's invariant: what the set gained, with what it gains for the states left, is what it gains for all (AloneLeft). The measure is
 -- the states left.
-use Rattle.std.specs.Prelude.{◌≡◌, ℕ, ◌-◌, ◌*◌, ◌^◌, ◌<◌, length}
-use mathlib.Core.Path.{sym, ◌∙◌}
-use lib.Bits.{and_le_r}
-use lib.Count.{count_trailing_zeros, trailing_le}
+use Rattle.std.specs.Prelude.{◌≡◌, ℕ, ◌*◌, ◌^◌, ◌<◌, length}
 use Rattle.theory.specs.Places.{Member}
-use Rattle.places.specs.NextPlace.{trailing-here}
-use Rattle.places.specs.Followed.{least-left}
-use Rattle.verdict.specs.WideRowsTurns.{AloneLeft, alone-start, alone-turn, alone-end}
-use native.Mathlib.Omega.{arith}
+use Rattle.verdict.specs.WideRowsTurns.{AloneLeft}
 use Rattle.verdict.proofs.wide_rows.put_alone.Given as goal
 
 abbrev pub invariant-loop-rest : goal.invariant-loop-rest

@@ -2,7 +2,6 @@
 use mathlib.Core.Path.{◌∙◌}
 use Rattle.verdict.specs.WideRowsTurns.{row_put}
 use native.Mathlib.Omega.{arith}
-use borrow.Author.Rules.{rules}
 use Rattle.verdict.proofs.wide_rows.put_row.Goals as goal
 
 pub put_at-requires : goal.put_at-requires

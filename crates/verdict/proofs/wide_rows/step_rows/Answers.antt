@@ -1,5 +1,4 @@
-use Rattle.std.specs.Prelude.{◌≡◌, ◌+◌, ◌-◌, ◌*◌, ◌≤◌, length, get_or}
-use mathlib.Core.Logic.{⊎_elim}
+use Rattle.std.specs.Prelude.{◌+◌, ◌*◌, length, get_or}
 use mathlib.Core.Path.{sym, ap, ◌∙◌, subst}
 use lib.Bits.{and_le_r}
 use Rattle.verdict.specs.CoverBounds.{state-places}
@@ -31,7 +30,7 @@ put_row-requires c =
           (omega (
             arith,
             and_le_r (get_or a.laid.now (2 * l.q + 1) 0) (get_or a.rows.now (256 + 2 * a.a + 1) 0),
-            c.shared_slice_known-in-loop-q-4-1.given (256 + 2 * a.a + 1),
+            c.type_inv.rows (256 + 2 * a.a + 1),
           )),
     )
 
@@ -60,15 +59,17 @@ loop-q-preserved c =
     let Walked = RowsWalked a.w a.lists a.a a.rows.now a.ended.now a.laid.now in (
       omega (arith, test.true),
       next-column a.w l.from l.q l.invariant.1,
-      (elim c.if-low-high-ne0.branch [ then-low-high-ne0 w ↦ ap length w.words-is ∙ w.put_row.kept.0 ∙ l.invariant.2 | else-low-high-ne0 w ↦ ap length w.words-is ∙ l.invariant.2 ]),
-      ⊎_elim {C = Walked c.if-low-high-ne0.words c.if-low-high-ne0.alone (l.q + 1)}
-          (λ w. subst (λ z. Walked z c.if-low-high-ne0.alone (l.q + 1)) (sym w.6) (subst (λ z. Walked w.2.last.0 z (l.q + 1)) (sym w.7)
-          (walked-some a.w a.lists a.a a.rows.now a.ended.now a.laid.now l.words w.2.last.0 l.alone l.q
-          w.5.result l.from l.invariant.1 w.2.ensures w.5.ensures l.invariant.3)))
-          (λ w. subst (λ z. Walked z c.if-low-high-ne0.alone (l.q + 1)) (sym w.1) (subst (λ z. Walked l.words z (l.q + 1)) (sym w.2)
-          (walked_none a.w a.lists a.a a.rows.now a.ended.now a.laid.now l.words l.alone l.q w.0.left
-          l.invariant.3)))
-          c.if-low-high-ne0.branch,
+      (elim c.if-low-high-ne0.branch [ then-low-high-ne0 w ↦ ap length w.words-is ∙ w.put_row.auto.words ∙ l.invariant.2 | else-low-high-ne0 w ↦ ap length w.words-is ∙ l.invariant.2 ]),
+      (elim c.if-low-high-ne0.branch [
+        | then-low-high-ne0 w ↦
+            subst (λ z. Walked z c.if-low-high-ne0.alone (l.q + 1)) (sym w.words-is) (subst (λ z. Walked w.put_row.new.words z (l.q + 1)) (sym w.alone-is)
+            (walked-some a.w a.lists a.a a.rows.now a.ended.now a.laid.now l.words w.put_row.new.words l.alone l.q
+            w.ended_row-alone.result l.from l.invariant.1 w.put_row.ensures w.ended_row-alone.ensures l.invariant.3))
+        | else-low-high-ne0 w ↦
+            subst (λ z. Walked z c.if-low-high-ne0.alone (l.q + 1)) (sym w.words-is) (subst (λ z. Walked l.words z (l.q + 1)) (sym w.alone-is)
+            (walked_none a.w a.lists a.a a.rows.now a.ended.now a.laid.now l.words l.alone l.q w.if-low-high-ne0.false
+            l.invariant.3))
+      ]),
     )
 
 pub put_alone-requires : goal.put_alone-requires

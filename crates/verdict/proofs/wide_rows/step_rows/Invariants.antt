@@ -1,12 +1,6 @@
 -- The loop's invariant: the rows of the states before q are stepped (RowsWalked). The measure is the number of states left.
-use Rattle.std.specs.Prelude.{◌≡◌, ◌+◌, ◌-◌, ◌*◌, ◌≤◌, length, get_or}
-use mathlib.Core.Logic.{⊎_elim}
-use mathlib.Core.Path.{sym, ap, ◌∙◌, subst}
-use lib.Bits.{and_le_r}
-use Rattle.verdict.specs.CoverBounds.{state-places}
-use Rattle.verdict.specs.TurnedTurns.{next-column}
-use Rattle.verdict.specs.WideRowsTurns.{RowsWalked, walked_start, high-below, walked-some, walked_none, alone-room, walked_end, stepped-below}
-use native.Mathlib.Omega.{arith}
+use Rattle.std.specs.Prelude.{◌≡◌, ◌-◌, ◌*◌, ◌≤◌, length}
+use Rattle.verdict.specs.WideRowsTurns.{RowsWalked}
 use Rattle.verdict.proofs.wide_rows.step_rows.Given as goal
 
 abbrev pub invariant-loop-q : goal.invariant-loop-q

@@ -1,8 +1,7 @@
-use Rattle.std.specs.Prelude.{◌≡◌, ◌+◌, ◌-◌, ◌*◌, ◌≤◌, length, replicate}
+use Rattle.std.specs.Prelude.{replicate}
 use mathlib.Core.Path.{refl}
-use Rattle.verdict.specs.Workspace.{Words, words-start, words-turn, words-end}
+use Rattle.verdict.specs.Workspace.{words-start, words-turn, words-end}
 use native.Mathlib.Omega.{arith}
-use borrow.Author.Rules.{rules}
 use Rattle.verdict.proofs.workspace.load.Goals as goal
 
 pub returns-then-workspace-i : goal.returns-then-workspace-i

@@ -1,9 +1,6 @@
 -- The loop's invariant: the first j words are read.
-use Rattle.std.specs.Prelude.{◌≡◌, ◌+◌, ◌-◌, ◌*◌, ◌≤◌, length, replicate}
-use mathlib.Core.Path.{refl}
-use Rattle.verdict.specs.Workspace.{Words, words-start, words-turn, words-end}
-use native.Mathlib.Omega.{arith}
-use borrow.Author.Rules.{rules}
+use Rattle.std.specs.Prelude.{◌≡◌, ◌+◌, ◌-◌, ◌*◌, ◌≤◌, length}
+use Rattle.verdict.specs.Workspace.{Words}
 use Rattle.verdict.proofs.workspace.load.Given as goal
 
 abbrev pub invariant-loop-j : goal.invariant-loop-j
