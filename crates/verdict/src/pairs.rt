@@ -14,8 +14,8 @@ use crate::next_cover::{first_cover, lay, next_cover, used_words};
 use finding::step::follows;
 use places::Places;
 
-// Words of a label's sets have this many labels at most.
-const MOST_LABELS: u64 = 32;
+// A job has at most this many labels.
+const MOST_LABELS: usize = 32;
 
 #[derive(Clone, Copy)]
 pub enum Explored {
