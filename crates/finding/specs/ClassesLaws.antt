@@ -7,7 +7,7 @@ use Rattle.theory.specs.Classes.{Coarse}
 use Rattle.theory.specs.ClassesLaws.{coarse-as, stable-as}
 use Rattle.theory.specs.Leaders.{Led, led-agree, leaders, leaders-at-most, leaders-agree}
 use Rattle.theory.specs.Refinement.{class_at}
-use Rattle.theory.specs.Splitting.{Alike, first_with, Keyed, first-led, first-coarse, split-coarse, split-more, alike-stable, }
+use Rattle.theory.specs.Splitting.{Alike, first_with, Keyed, first-led, first-coarse, split-coarse, split-more, alike-stable}
 use Rattle.theory.proofs.ClassesOnly.{classes-only}
 use Rattle.theory.specs.Level.{level-coarse}
 use Rattle.finding.specs.Find.{deterministic}
