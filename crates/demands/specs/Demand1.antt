@@ -14,11 +14,6 @@ use Rattle.keeping.specs.KeepOperation.{outcome as keep_outcome}
 use Rattle.demands.specs.Lent.{lent}
 use Rattle.demands.specs.AsListed.{AsListed}
 use Rattle.demands.specs.Refusals.{read_checks, find_checks, verdict_checks, links_checks, lists_checks, keep_checks}
-use Rattle.demands.specs.ReadListed.{read-listed}
-use Rattle.demands.specs.FindListed.{find-listed}
-use Rattle.demands.specs.VerdictListed.{verdict-listed}
-use Rattle.demands.specs.AnswersListed.{links-listed, lists-listed}
-use Rattle.demands.specs.KeepListed.{keep-listed}
 
 pub record Demand1 : Type 0 where
   -- Read: 1 to 7
@@ -48,14 +43,3 @@ pub record Demand1 : Type 0 where
   pub keep : (text out : Bytes) →
       let o = keep_outcome text out in
       AsListed (keep_checks text out) o.reply (lent 8728 out o.out ∷ [])
-
-pub demand-1 : Demand1
-demand-1 =
-    record {
-      read = read-listed;
-      find = find-listed;
-      verdict = verdict-listed;
-      links = links-listed;
-      lists = lists-listed;
-      keep = keep-listed;
-    }

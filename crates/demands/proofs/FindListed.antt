@@ -18,10 +18,10 @@ use Rattle.demands.specs.Checks.{Passes}
 use Rattle.demands.specs.ChecksLaws.{refuses-first, refuses-later, passes-both, refuses-under, passes-unless}
 use Rattle.demands.specs.Lent.{lent, Within}
 use Rattle.demands.specs.AsListed.{Zeroing, AsListed}
-use Rattle.demands.specs.AsListedLaws.{written-within, listed-unchanged, listed-zeroed, listed-answered}
+use Rattle.demands.proofs.AsListedLaws.{written-within, listed-unchanged, listed-zeroed, listed-answered}
 use Rattle.demands.specs.Refusals.{read_checks, states_check, found_checks, find_checks}
 use Rattle.finding.specs.FindCourse.{FindCourse, many-standings, many-states, answered, find-course}
-use Rattle.demands.specs.ReadListed.{TextCourse, refuses, reads, text-course, refuses-of, passes_of}
+use Rattle.demands.proofs.ReadListed.{TextCourse, refuses, reads, text-course, refuses-of, passes_of}
 
 -- 8 keeps all buffers.
 pub eight-keeps : ¬ Zeroing 8

@@ -13,7 +13,7 @@ use Rattle.reading.specs.Answering.{reply_of}
 use Rattle.demands.specs.Checks.{Passes, refusal}
 use Rattle.demands.specs.ChecksLaws.{Refusing, refuses-under, passes-unless}
 use Rattle.demands.specs.AsListed.{Zeroing, AsListed}
-use Rattle.demands.specs.AsListedLaws.{listed-unchanged, listed-answered}
+use Rattle.demands.proofs.AsListedLaws.{listed-unchanged, listed-answered}
 use Rattle.demands.specs.Refusals.{Of, read_checks}
 
 -- The refusals met in reading a text are 1 to 7.

@@ -28,10 +28,10 @@ use Rattle.demands.specs.Checks.{Check, Passes, refusal, then}
 use Rattle.demands.specs.ChecksLaws.{Refusing, refuses-first, refuses-later, passes-both, refuses-under, passes-unless}
 use Rattle.demands.specs.Lent.{lent}
 use Rattle.demands.specs.AsListed.{Zeroing, AsListed}
-use Rattle.demands.specs.AsListedLaws.{written-within, listed-unchanged, listed-zeroed, listed-answered}
+use Rattle.demands.proofs.AsListedLaws.{written-within, listed-unchanged, listed-zeroed, listed-answered}
 use Rattle.demands.specs.Refusals.{Of, read_checks, recordings_checks, start_check, standings_check, states_check, links_checks, lists_checks}
-use Rattle.demands.specs.ReadListed.{TextCourse, refuses, reads, text-course, refuses-of, passes_of}
-use Rattle.demands.specs.FindListed.{eight-keeps}
+use Rattle.demands.proofs.ReadListed.{TextCourse, refuses, reads, text-course, refuses-of, passes_of}
+use Rattle.demands.proofs.FindListed.{eight-keeps}
 
 -- 14 to 17 keep all buffers.
 late-keeps : {n : ℕ} → 14 ≤ n → ¬ Zeroing n

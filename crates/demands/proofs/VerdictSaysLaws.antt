@@ -27,8 +27,8 @@ use Rattle.verdict.specs.PairLaws.{counts-unique}
 use Rattle.verdict.specs.VerdictLaws.{first-unique}
 use Rattle.verdict.specs.VerdictJob.{verdict_job}
 use Rattle.verdict.specs.VerdictOperation.{Outcome, left, left_by, left_by_reading, allowed, enough, outcome}
-use Rattle.demands.specs.ReadListed.{refused-early}
-use Rattle.demands.specs.FindSaysLaws.{written-front}
+use Rattle.demands.proofs.ReadListed.{refused-early}
+use Rattle.demands.proofs.FindSaysLaws.{written-front}
 use Rattle.demands.specs.VerdictCourse.{VerdictCourse, Answered, unfound, many-places, many-pairs, whole, misses, verdict-course}
 use Rattle.demands.specs.VerdictSays.{SaysComplete, SaysMissed, VerdictSays}
 

@@ -24,10 +24,10 @@ use Rattle.demands.specs.Checks.{Passes, refusal}
 use Rattle.demands.specs.ChecksLaws.{refuses-first, refuses-later, passes-both, refuses-under, passes-unless}
 use Rattle.demands.specs.Lent.{Lent, lent, Within}
 use Rattle.demands.specs.AsListed.{Zeroing, AsListed}
-use Rattle.demands.specs.AsListedLaws.{written-within, listed-unchanged, listed-zeroed, listed-answered}
+use Rattle.demands.proofs.AsListedLaws.{written-within, listed-unchanged, listed-zeroed, listed-answered}
 use Rattle.demands.specs.Refusals.{read_checks, found_checks, places_check, pairs_check, verdict_checks}
-use Rattle.demands.specs.ReadListed.{TextCourse, refuses, reads, text-course, refuses-of, passes_of}
-use Rattle.demands.specs.FindListed.{eight-keeps, filled_within, text-sizes}
+use Rattle.demands.proofs.ReadListed.{TextCourse, refuses, reads, text-course, refuses-of, passes_of}
+use Rattle.demands.proofs.FindListed.{eight-keeps, filled_within, text-sizes}
 use Rattle.demands.specs.VerdictCourse.{VerdictCourse, Answered, unfound, many-places, many-pairs, whole, misses, verdict-course}
 
 eleven-keeps : ¬ Zeroing 11

@@ -20,10 +20,10 @@ use Rattle.demands.specs.Checks.{Passes, refusal}
 use Rattle.demands.specs.ChecksLaws.{refuses-first, refuses-later, passes-both, refuses-under, passes-unless}
 use Rattle.demands.specs.Lent.{lent, Within}
 use Rattle.demands.specs.AsListed.{AsListed}
-use Rattle.demands.specs.AsListedLaws.{written-within, listed-unchanged, listed-zeroed, listed-answered}
+use Rattle.demands.proofs.AsListedLaws.{written-within, listed-unchanged, listed-zeroed, listed-answered}
 use Rattle.demands.specs.Refusals.{read_checks, states_check, keep_checks}
-use Rattle.demands.specs.ReadListed.{TextCourse, refuses, reads, text-course, refuses-of, passes_of}
-use Rattle.demands.specs.FindListed.{eight-keeps, text-finds, text-sizes}
+use Rattle.demands.proofs.ReadListed.{TextCourse, refuses, reads, text-course, refuses-of, passes_of}
+use Rattle.demands.proofs.FindListed.{eight-keeps, text-finds, text-sizes}
 
 kept-within : (bytes out : Bytes) → length bytes ≤ kept_length → kept_length ≤ length out → Within (lent kept_length out (written bytes out))
 kept-within bytes out h k =

@@ -20,7 +20,7 @@ use Rattle.answering.specs.AnswerJob.{Marking, marked, links_job, lists_job}
 use Rattle.answering.specs.Courses.{LinksCourse, ListsCourse, links-course, lists-course}
 use Rattle.answering.specs.LinksOperation.{Outcome, outcome, left_of, by_reading, lent_checked, links_answer}
 use Rattle.answering.specs.ListsOperation.{lists_answer}
-use Rattle.demands.specs.ReadListed.{refused-early}
+use Rattle.demands.proofs.ReadListed.{refused-early}
 use Rattle.demands.specs.MarksSay.{Reaches, MarksSay, LinksSay, ListsSay}
 
 -- What marks leave.

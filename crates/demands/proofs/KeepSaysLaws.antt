@@ -18,8 +18,8 @@ use Rattle.keeping.specs.declared.operation.KeepAnswer.TheVariants.{Refused}
 use Rattle.keeping.specs.Kept.{kept_length, kept}
 use Rattle.keeping.specs.KeptFileLaws.{file-lists, file-states, file-name, file-sound}
 use Rattle.keeping.specs.KeepOperation.{Outcome, left, left_by, left_by_reading, outcome, written}
-use Rattle.demands.specs.ReadListed.{refused-early}
-use Rattle.demands.specs.FindListed.{text-finds}
+use Rattle.demands.proofs.ReadListed.{refused-early}
+use Rattle.demands.proofs.FindListed.{text-finds}
 use Rattle.demands.specs.KeepSays.{KeepSays}
 
 module _ (text out : Bytes) where

@@ -24,8 +24,8 @@ use Rattle.finding.specs.WordTold.{first_word, word-told}
 use Rattle.finding.specs.Outcome.{Leaving, Outcome, left, left_by, told, refused_with, found_answer}
 use Rattle.finding.specs.Named.{written, table_part, flags_part}
 use Rattle.finding.specs.Operation.{outcome, leaving, left_by_reading}
-use Rattle.demands.specs.ReadListed.{refused-early}
-use Rattle.demands.specs.FindListed.{text-finds, text-sizes}
+use Rattle.demands.proofs.ReadListed.{refused-early}
+use Rattle.demands.proofs.FindListed.{text-finds, text-sizes}
 use Rattle.demands.specs.FindSays.{held, FindSays}
 
 -- An answer of Find comes from a text that is read and a rewriting that is found.
