@@ -56,8 +56,4 @@ returns-in-8 c =
     puts-proved (writing a.out.now 0) a.number 8 c.in-8.is c.put_example-in-8.ensures
 
 pub returns-in_default : goal.returns-in_default
-returns-in_default c =
-    let a = c.args in
-    let r = c.in_default.rest in
-    let more : 0 < a.number → 4 < a.number = λ p. omega (arith, r.0.0.0.0.1, r.0.0.0.0.0.1, r.0.0.0.0.0.0.1, r.0.0.0.0.0.0.0.1) in
-    puts-no-text (writing a.out.now 0) a.number (λ p. omega (arith, more p, r.1, r.0.1, r.0.0.1, r.0.0.0.1))
+returns-in_default c = puts-no-text (writing c.args.out.now 0) c.args.number (λ p. omega arith)

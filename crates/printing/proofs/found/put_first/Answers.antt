@@ -7,15 +7,12 @@ use Rattle.printing.proofs.found.put_first.Goals as goal
 
 pub returns-then-first : goal.returns-then-first
 returns-then-first c =
-    let parted = c in
-    let chosen = parted in
-    let a = chosen.args in
-    puts-first-word (names_at a.text.now a.names.now) a.first (writing a.out.now a.at) chosen.if-first.true
-    parted.part.ensures c.put_named_line.ensures
+    let a = c.args in
+    puts-first-word (names_at a.text.now a.names.now) a.first (writing a.out.now a.at) c.if-first.true
+    c.part.ensures c.put_named_line.ensures
 
 pub returns-else-first : goal.returns-else-first
 returns-else-first c =
-    let chosen = c in
-    let a = chosen.args in
-    puts-no-word (names_at a.text.now a.names.now) a.first (writing a.out.now a.at) chosen.if-first.false
+    let a = c.args in
+    puts-no-word (names_at a.text.now a.names.now) a.first (writing a.out.now a.at) c.if-first.false
     c.put_part.ensures

@@ -6,10 +6,7 @@ use Rattle.printing.proofs.found.put_found.Goals as goal
 
 pub returns : goal.returns
 returns c =
-    let rowed = c in
-    let stated = rowed in
-    let counted = stated in
-    let a = counted.args in
+    let a = c.args in
     puts-rewriting a.text.now a.names.now a.standings a.states a.table.now a.flags.now a.first
-    (writing a.out.now a.at) counted.put_count-counted.ensures stated.put_count-stated.ensures rowed.put_rows-rowed.ensures
+    (writing a.out.now a.at) c.put_count-counted.ensures c.put_count-stated.ensures c.put_rows-rowed.ensures
     c.put_first.ensures

@@ -6,8 +6,6 @@ use Rattle.printing.proofs.lines.put_count.Goals as goal
 
 pub returns : goal.returns
 returns c =
-    let numbered = c in
-    let worded = numbered in
-    let a = worded.args in
-    puts-count a.word.now a.n (writing a.out.now a.at) worded.put_part-worded.ensures numbered.put_number-numbered.ensures
+    let a = c.args in
+    puts-count a.word.now a.n (writing a.out.now a.at) c.put_part-worded.ensures c.put_number-numbered.ensures
     c.put.ensures

@@ -15,8 +15,7 @@ returns-then-line-eq0 c =
 
 pub returns : goal.returns
 returns c =
-    let worded = c in
-    let a = worded.args in
+    let a = c.args in
     let w = writing a.out.now a.at in
-    puts_then w line_word (decimal a.line) worded.put_part-worded.ensures c.put_number.ensures
-    ∙ ap (puts w) (sym (a-place a.line worded.if-line-eq0.false))
+    puts_then w line_word (decimal a.line) c.put_part-worded.ensures c.put_number.ensures
+    ∙ ap (puts w) (sym (a-place a.line c.if-line-eq0.false))

@@ -6,9 +6,6 @@ use Rattle.printing.proofs.lines.put_refusal.Goals as goal
 
 pub returns : goal.returns
 returns c =
-    let placed = c in
-    let numbered = placed in
-    let worded = numbered in
-    let a = worded.args in
-    puts-refusal a.refusal a.line (writing a.out.now a.at) worded.put_part-worded.ensures numbered.number.ensures
-    numbered.put_number-numbered.ensures placed.put_place-placed.ensures c.put.ensures
+    let a = c.args in
+    puts-refusal a.refusal a.line (writing a.out.now a.at) c.put_part-worded.ensures c.number.ensures
+    c.put_number-numbered.ensures c.put_place-placed.ensures c.put.ensures

@@ -7,8 +7,6 @@ use Rattle.printing.proofs.names.put_named_line.Goals as goal
 
 pub returns : goal.returns
 returns c =
-    let named = c in
-    let worded = named in
-    let a = worded.args in
+    let a = c.args in
     puts-named-line a.word.now (names_at a.text.now a.names.now) a.places.now (writing a.out.now a.at)
-    worded.put_part-worded.ensures named.put_names-named.ensures c.put.ensures
+    c.put_part-worded.ensures c.put_names-named.ensures c.put.ensures

@@ -11,20 +11,15 @@ put_verdict-requires c = c.requires
 
 pub returns-in-Found : goal.returns-in-Found
 returns-in-Found c =
-    let named = c in
-    let matched = named in
-    let found = matched in
-    let f = found.find-told in
-    let a = found.args in
-    found-put a.text.now _ _ refl refl f.result f.new.table f.new.marks f.ensures a.names.now (omega (arith, found.all-1.given.0))
-    a.labels a.lists a.allowance (writing a.out.now 0) _ _ _ _ _ matched.in-Found.is named.first_names-listed.ensures named.first_names-labelled.ensures
+    let f = c.find-told in
+    let a = c.args in
+    found-put a.text.now _ _ refl refl f.result f.new.table f.new.marks f.ensures a.names.now (omega arith)
+    a.labels a.lists a.allowance (writing a.out.now 0) _ _ _ _ _ c.in-Found.is c.first_names-listed.ensures c.first_names-labelled.ensures
     c.put_found-next.ensures c.put_verdict.ensures
 
 pub returns-in-Refused : goal.returns-in-Refused
 returns-in-Refused c =
-    let matched = c in
-    let found = matched in
-    let f = found.find-told in
-    let a = found.args in
-    unfound-put a.text.now _ _ refl refl f.result f.new.table f.new.marks f.ensures a.names.now (omega (arith, found.all-1.given.0))
-    a.labels a.lists a.allowance (writing a.out.now 0) _ _ _ matched.in-Refused.is c.put_refusal.ensures
+    let f = c.find-told in
+    let a = c.args in
+    unfound-put a.text.now _ _ refl refl f.result f.new.table f.new.marks f.ensures a.names.now (omega arith)
+    a.labels a.lists a.allowance (writing a.out.now 0) _ _ _ c.in-Refused.is c.put_refusal.ensures

@@ -7,18 +7,14 @@ use Rattle.printing.proofs.printer.put_printed.Goals as goal
 
 pub returns-in-Refused : goal.returns-in-Refused
 returns-in-Refused c =
-    let matched = c in
-    let loaded = matched in
-    let l = loaded.load-told in
-    let a = loaded.args in
+    let l = c.load-told in
+    let a = c.args in
     text-refused a.text.now l.result (tables l.new.names l.new.follow l.new.enter l.new.sizes l.new.accepting) l.ensures
-    a.allowance (writing a.out.now 0) _ _ matched.in-Refused.is c.put_refusal.ensures
+    a.allowance (writing a.out.now 0) _ _ c.in-Refused.is c.put_refusal.ensures
 
 pub returns-in-Job : goal.returns-in-Job
 returns-in-Job c =
-    let matched = c in
-    let loaded = matched in
-    let l = loaded.load-told in
-    let a = loaded.args in
+    let l = c.load-told in
+    let a = c.args in
     text-put a.text.now l.result (tables l.new.names l.new.follow l.new.enter l.new.sizes l.new.accepting) l.ensures
-    a.allowance (writing a.out.now 0) _ _ matched.in-Job.is c.put_job.ensures
+    a.allowance (writing a.out.now 0) _ _ c.in-Job.is c.put_job.ensures
