@@ -1,7 +1,7 @@
 -- The image of a query standing under a list (document 001, section 2): the standings after the list's paths from it. Computed as the
 -- closure of (standing, list place) under the labels; a node is the number width × standing + place, where the width is the number of the
 -- list's places.
-use Rattle.std.specs.Prelude.{ℕ, zero, suc, ◌+◌, ◌*◌, ◌/◌, ◌%◌, ◌^◌, Bool, true, false, not, List, [], ◌∷◌, length, slice_index}
+use Rattle.std.specs.Prelude.{ℕ, zero, suc, ◌*◌, ◌/◌, ◌%◌, ◌^◌, List, [], ◌∷◌, length, slice_index}
 use Rattle.theory.specs.Places.{none, one, union, intersection, collect}
 use Rattle.theory.specs.Automaton.{Automaton, accepts}
 use Rattle.theory.specs.Closure.{closure}

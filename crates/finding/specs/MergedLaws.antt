@@ -1,6 +1,6 @@
 -- The greatest rewriting with its states merged: words end at one state exactly when they have the same continuations, and everything else
 -- that document 01 says of a rewriting stays.
-use Rattle.std.specs.Prelude.{◌≡◌, ◌+◌, ◌<◌, ◌≤◌, ◌↔◌, ◌++◌, length, slice_index}
+use Rattle.std.specs.Prelude.{◌≡◌, ◌<◌, ◌≤◌, ◌↔◌, ◌++◌, length, slice_index}
 use Rattle.std.proofs.Math.Logic.Iff
 use Rattle.std.proofs.Math.Path.{sym}
 use Rattle.std.proofs.Common.{◌∙◌}

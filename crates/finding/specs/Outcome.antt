@@ -1,6 +1,6 @@
 -- What Find leaves: its answer and the two lent buffers. A named part that is written has zeros behind what is written, and nothing behind
 -- the named part changes.
-use Rattle.std.specs.Prelude.{ℕ, ◌-◌, List, [], ◌∷◌}
+use Rattle.std.specs.Prelude.{ℕ, List, [], ◌∷◌}
 use Rattle.std.proofs.Math.Option.{none}
 use Rattle.syntax.specs.declared.refusal.Refusal.{Refusal}
 use Rattle.syntax.specs.Reply.{Reply, given, refusing}

@@ -2,7 +2,7 @@
 -- which, with the list's start, the pair is reached. With w standings a pair (standing, place) has the word w × place + standing. Pending
 -- at a place are the standings whose pair has sources that have not been passed on over the labels yet; a place waits where something is
 -- pending at it.
-use Rattle.std.specs.Prelude.{◌≡◌, ℕ, ◌+◌, ◌-◌, ◌*◌, ◌^◌, ◌<◌, ◌≤◌, true, false, ◌⊎◌, ◌↔◌, List, [], ◌∷◌, length, set, ◌==◌, slice_index, slice_set}
+use Rattle.std.specs.Prelude.{◌≡◌, ℕ, ◌+◌, ◌-◌, ◌*◌, ◌^◌, ◌<◌, ◌≤◌, true, false, ◌⊎◌, ◌↔◌, List, [], ◌∷◌, length, ◌==◌, slice_index, slice_set}
 use Rattle.theory.specs.Places.{Member, union, intersection}
 use Rattle.theory.specs.Closure.{Reaches}
 use Rattle.finding.specs.ImageSearch.{Tables, Onward}

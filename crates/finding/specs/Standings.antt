@@ -1,6 +1,6 @@
 -- The standings of an automaton over all paths of k labels (document 01, "Standing"), by exploration: numbered from 0 by their first paths.
-use Rattle.std.specs.Prelude.{ℕ, zero, suc, Bool, true, false, List, [], ◌∷◌, map, ◌==◌, slice_index, eqb}
-use Rattle.std.proofs.Math.Option.{Option, some}
+use Rattle.std.specs.Prelude.{ℕ, suc, true, false, List, [], ◌∷◌, ◌==◌, slice_index, eqb}
+use Rattle.std.proofs.Math.Option.{some}
 use Rattle.theory.specs.Places.{one}
 use Rattle.theory.specs.Automaton.{Automaton, step}
 use Rattle.theory.specs.Exploration.{System, Entry, Exploration, explore}

@@ -1,6 +1,6 @@
 -- The states of list words (document 01, "State"): sets of query standings, here sets of standing numbers, by exploration over the lists;
 -- which of them accept; and the first accepted word.
-use Rattle.std.specs.Prelude.{ℕ, zero, suc, Bool, true, false, List, [], ◌∷◌, reverse, length, ◌==◌, slice_index, slice_index_or, eqb}
+use Rattle.std.specs.Prelude.{ℕ, Bool, true, false, List, [], ◌∷◌, reverse, length, ◌==◌, slice_index, slice_index_or, eqb}
 use Rattle.std.proofs.Math.Option.{Option, some, none}
 use Rattle.theory.specs.Word.{Word}
 use Rattle.theory.specs.Places.{one, intersection, collect, union_over}

@@ -10,7 +10,7 @@ use Rattle.syntax.specs.declared.refusal.Refusal.TheVariants.{TooManyStates}
 use Rattle.finding.specs.declared.standings.Explored.{Explored}
 use Rattle.finding.specs.declared.standings.Explored.TheVariants.{All, Over}
 use Rattle.finding.specs.declared.answer.FindAnswer.{FindAnswer}
-use Rattle.finding.specs.Standings.{standings, values}
+use Rattle.finding.specs.Standings.{values}
 use Rattle.finding.specs.ListImage.{image_table}
 use Rattle.finding.specs.States.{states, accepting_standings, state_accepts}
 use Rattle.finding.specs.Find.{found as finds, refused, flag, rows, find_states}

@@ -4,7 +4,6 @@ use native.Mathlib.Omega.{arith}
 use Rattle.reading.specs.RowRoom.{enough-rows, all-rows}
 use Rattle.finding.specs.Outcome.{told}
 use Rattle.finding.specs.Operation.{short-table, short-flags}
-use borrow.Author.Rules.{rules}
 use Rattle.finding.proofs.operation.find.Goals as goal
 
 pub returns-then-table-lt4096 : goal.returns-then-table-lt4096

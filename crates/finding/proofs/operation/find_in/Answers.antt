@@ -2,7 +2,6 @@
 use native.Mathlib.Omega.{arith}
 use Rattle.reading.specs.Loading.{tables}
 use Rattle.finding.specs.Operation.{read-few, holds-job, reading-refused, reading-found}
-use borrow.Author.Rules.{rules}
 use Rattle.finding.proofs.operation.find_in.Goals as goal
 
 pub find_rows-requires : goal.find_rows-requires

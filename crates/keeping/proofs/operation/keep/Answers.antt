@@ -2,7 +2,6 @@
 use mathlib.Core.Path.{sym, ◌∙◌, subst}
 use Rattle.reading.specs.Loading.{tables, Loaded}
 use Rattle.keeping.specs.KeepOperationLaws.{out-short, out-long, text-refused}
-use borrow.Author.Rules.{rules}
 use Rattle.keeping.proofs.operation.keep.Goals as goal
 
 pub returns-then-out-lt8728 : goal.returns-then-out-lt8728

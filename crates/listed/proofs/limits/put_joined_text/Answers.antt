@@ -1,5 +1,4 @@
 -- `put_joined_text` meets its contract: the sequence, and the lists behind it.
-use borrow.Author.Rules.{rules}
 use Rattle.output.specs.Put.{writing, puts_then}
 use Rattle.listed.specs.Texts.{sequence_of, sequence_text, joined_text}
 use Rattle.listed.specs.TextsLaws.{puts-three}

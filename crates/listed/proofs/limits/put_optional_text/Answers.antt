@@ -1,5 +1,4 @@
 -- `put_optional_text` meets its contract: the sequence, and the lists behind it.
-use borrow.Author.Rules.{rules}
 use Rattle.output.specs.Put.{writing, puts_then}
 use Rattle.listed.specs.Texts.{sequence_text, optional_text}
 use Rattle.listed.proofs.limits.put_optional_text.Goals as goal

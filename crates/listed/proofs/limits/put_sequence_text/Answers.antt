@@ -1,5 +1,4 @@
 -- `put_sequence_text` meets its contract: its parts one after the other.
-use borrow.Author.Rules.{rules}
 use Rattle.output.specs.Put.{writing}
 use Rattle.listed.specs.Texts.{sequence_of, sequence_text}
 use Rattle.listed.specs.TextsLaws.{puts-three}

@@ -1,7 +1,5 @@
 -- `put_proved` meets its contract: each text is that of its entry in the table of T10.
-use Prim.Native.Nat.{◌<◌}
 use native.Mathlib.Omega.{arith}
-use borrow.Author.Rules.{rules}
 use Rattle.output.specs.Put.{writing}
 use Rattle.listed.specs.TextsLaws.{puts-proved, puts-no-text}
 use Rattle.listed.specs.Texts.{proved_text}

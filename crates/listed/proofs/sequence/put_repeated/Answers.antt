@@ -1,9 +1,7 @@
-use mathlib.Core.Path.{◌≡◌, refl, ◌∙◌}
+use mathlib.Core.Path.{refl, ◌∙◌}
 use native.Mathlib.Omega.{arith}
-use borrow.Author.Rules.{rules}
-use Rattle.output.specs.Put.{writing, puts, puts_none, puts-length}
+use Rattle.output.specs.Put.{writing, puts_none, puts-length}
 use Rattle.listed.specs.TextsLaws.{puts-repeated, none-repeated}
-use Rattle.listed.specs.Texts.{repeated}
 use Rattle.listed.proofs.sequence.put_repeated.Goals as goal
 
 pub loop-left-init : goal.loop-left-init

@@ -1,9 +1,6 @@
 -- `put_repeated` meets its contract. The loop's invariant: to put the times that are left comes to what to put all of them comes to.
-use mathlib.Core.Path.{◌≡◌, refl, ◌∙◌}
-use native.Mathlib.Omega.{arith}
-use borrow.Author.Rules.{rules}
-use Rattle.output.specs.Put.{writing, puts, puts_none, puts-length}
-use Rattle.listed.specs.TextsLaws.{puts-repeated, none-repeated}
+use mathlib.Core.Path.{◌≡◌}
+use Rattle.output.specs.Put.{writing, puts}
 use Rattle.listed.specs.Texts.{repeated}
 use Rattle.listed.proofs.sequence.put_repeated.Given as goal
 

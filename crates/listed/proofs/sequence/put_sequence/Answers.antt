@@ -1,6 +1,5 @@
 -- `put_sequence` meets its contract: none, or a first `a` and the others with dots.
 use native.Mathlib.Omega.{arith}
-use borrow.Author.Rules.{rules}
 use Rattle.output.specs.Put.{writing}
 use Rattle.listed.specs.TextsLaws.{puts-no-letter, puts-letters}
 use Rattle.listed.proofs.sequence.put_sequence.Goals as goal

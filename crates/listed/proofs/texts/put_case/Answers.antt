@@ -1,5 +1,4 @@
 -- `put_case` meets its contract, by the kind of the case.
-use borrow.Author.Rules.{rules}
 use Rattle.output.specs.Put.{writing}
 use Rattle.listed.specs.TextsLaws.{puts-listed}
 use Rattle.listed.proofs.texts.put_case.Goals as goal

@@ -1,5 +1,4 @@
 -- `put_first` meets its contract: a word is put by its names, and `empty` where there is none.
-use borrow.Author.Rules.{rules}
 use Rattle.syntax.specs.Resolve.{names_at}
 use Rattle.output.specs.Put.{writing}
 use Rattle.printing.specs.ToldLaws.{puts-first-word, puts-no-word}

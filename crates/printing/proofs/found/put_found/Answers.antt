@@ -1,5 +1,4 @@
 -- `put_found` meets its contract: its lines are put one after another.
-use borrow.Author.Rules.{rules}
 use Rattle.output.specs.Put.{writing}
 use Rattle.printing.specs.ToldLaws.{puts-rewriting}
 use Rattle.printing.proofs.found.put_found.Goals as goal

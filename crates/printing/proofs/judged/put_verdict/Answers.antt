@@ -1,6 +1,5 @@
 -- `put_verdict` meets its contract: Verdict runs, and what it tells is put.
 use mathlib.Core.Path.{refl}
-use borrow.Author.Rules.{rules}
 use Rattle.output.specs.Put.{writing}
 use Rattle.printing.specs.VerdictPutLaws.{complete-put, missed-put, refused-put}
 use Rattle.printing.proofs.judged.put_verdict.Goals as goal

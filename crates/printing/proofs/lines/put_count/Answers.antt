@@ -1,5 +1,4 @@
 -- `put_count` meets its contract: the word, the number and the line's end are put one after another.
-use borrow.Author.Rules.{rules}
 use Rattle.output.specs.Put.{writing}
 use Rattle.printing.specs.LinesLaws.{puts-count}
 use Rattle.printing.proofs.lines.put_count.Goals as goal

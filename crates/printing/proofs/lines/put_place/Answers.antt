@@ -1,6 +1,5 @@
 -- `put_place` meets its contract: nothing is put without a line, else the word and the number.
 use mathlib.Core.Path.{sym, ap, ◌∙◌}
-use borrow.Author.Rules.{rules}
 use Rattle.output.specs.Decimal.{decimal}
 use Rattle.output.specs.Put.{writing, puts, puts_then}
 use Rattle.printing.specs.Lines.{line_word}

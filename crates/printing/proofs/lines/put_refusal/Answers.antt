@@ -1,5 +1,4 @@
 -- `put_refusal` meets its contract: the word, the number, the place and the line's end are put one after another.
-use borrow.Author.Rules.{rules}
 use Rattle.output.specs.Put.{writing}
 use Rattle.printing.specs.LinesLaws.{puts-refusal}
 use Rattle.printing.proofs.lines.put_refusal.Goals as goal

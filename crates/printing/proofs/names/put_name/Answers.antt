@@ -1,5 +1,4 @@
 -- `put_name` meets its contract: past the table's end there is no name.
-use borrow.Author.Rules.{rules}
 use Rattle.output.specs.Put.{writing}
 use Rattle.printing.specs.LinesLaws.{puts-named, puts-nameless}
 use Rattle.printing.proofs.names.put_name.Goals as goal

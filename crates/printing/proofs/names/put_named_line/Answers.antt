@@ -1,5 +1,4 @@
 -- `put_named_line` meets its contract: the word, the names and the line's end are put one after another.
-use borrow.Author.Rules.{rules}
 use Rattle.syntax.specs.Resolve.{names_at}
 use Rattle.output.specs.Put.{writing}
 use Rattle.printing.specs.LinesLaws.{puts-named-line}

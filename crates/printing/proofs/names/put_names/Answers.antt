@@ -1,11 +1,7 @@
-use Prim.Native.Nat.{◌-◌, ◌≤◌}
-use mathlib.Core.Path.{◌≡◌, refl, ◌∙◌}
+use mathlib.Core.Path.{refl, ◌∙◌}
 use native.Mathlib.Omega.{arith}
-use lib.ListN.{length, drop}
-use borrow.Author.Rules.{rules}
 use Rattle.syntax.specs.Resolve.{names_at}
-use Rattle.output.specs.Put.{writing, puts, puts_none, puts-length}
-use Rattle.printing.specs.Lines.{spelled}
+use Rattle.output.specs.Put.{writing, puts_none, puts-length}
 use Rattle.printing.specs.LinesLaws.{puts-name, spelled-end}
 use Rattle.printing.proofs.names.put_names.Goals as goal
 

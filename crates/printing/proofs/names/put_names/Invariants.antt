@@ -1,13 +1,10 @@
 -- `put_names` meets its contract. The loop's invariant: to put the names that are left comes to what to put all of them comes to.
 use Prim.Native.Nat.{◌-◌, ◌≤◌}
-use mathlib.Core.Path.{◌≡◌, refl, ◌∙◌}
-use native.Mathlib.Omega.{arith}
+use mathlib.Core.Path.{◌≡◌}
 use lib.ListN.{length, drop}
-use borrow.Author.Rules.{rules}
 use Rattle.syntax.specs.Resolve.{names_at}
-use Rattle.output.specs.Put.{writing, puts, puts_none, puts-length}
+use Rattle.output.specs.Put.{writing, puts}
 use Rattle.printing.specs.Lines.{spelled}
-use Rattle.printing.specs.LinesLaws.{puts-name, spelled-end}
 use Rattle.printing.proofs.names.put_names.Given as goal
 
 abbrev pub invariant-loop-i : goal.invariant-loop-i

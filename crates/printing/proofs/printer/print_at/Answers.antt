@@ -1,6 +1,5 @@
 -- `print_at` meets its contract: there is room for all that is printed.
 use native.Mathlib.Omega.{arith}
-use borrow.Author.Rules.{rules}
 use Rattle.printing.specs.PrintLaws.{prints}
 use Rattle.printing.proofs.printer.print_at.Goals as goal
 

@@ -1,7 +1,6 @@
 -- `put_job` meets its contract: Find runs on zeroed memory; its lines are put, and those of the verdict behind them.
 use mathlib.Core.Path.{refl}
 use native.Mathlib.Omega.{arith}
-use borrow.Author.Rules.{rules}
 use Rattle.output.specs.Put.{writing}
 use Rattle.printing.specs.JobPutLaws.{found-put, unfound-put}
 use Rattle.printing.proofs.printer.put_job.Goals as goal

@@ -1,5 +1,4 @@
 -- `put_printed` meets its contract: the text is read for its names, and a refusal or the job is put.
-use borrow.Author.Rules.{rules}
 use Rattle.output.specs.Put.{writing}
 use Rattle.reading.specs.Loading.{tables}
 use Rattle.printing.specs.PrintLaws.{text-refused, text-put}

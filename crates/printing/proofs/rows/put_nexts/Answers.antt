@@ -1,10 +1,7 @@
-use Prim.Native.Nat.{◌-◌, ◌≤◌}
-use mathlib.Core.Path.{◌≡◌, ◌∙◌}
+use mathlib.Core.Path.{◌∙◌}
 use native.Mathlib.Nat.{sub-zero}
 use native.Mathlib.Omega.{arith}
-use borrow.Author.Rules.{rules}
-use Rattle.output.specs.Put.{writing, puts, puts_none, puts-length}
-use Rattle.printing.specs.Lines.{nexts}
+use Rattle.output.specs.Put.{writing, puts_none, puts-length}
 use Rattle.printing.specs.LinesLaws.{puts-next, nexts-end}
 use Rattle.printing.proofs.rows.put_nexts.Goals as goal
 

@@ -1,12 +1,8 @@
 -- `put_nexts` meets its contract. The loop's invariant: to put the next states that are left comes to what to put all of them comes to.
 use Prim.Native.Nat.{◌-◌, ◌≤◌}
-use mathlib.Core.Path.{◌≡◌, ◌∙◌}
-use native.Mathlib.Nat.{sub-zero}
-use native.Mathlib.Omega.{arith}
-use borrow.Author.Rules.{rules}
-use Rattle.output.specs.Put.{writing, puts, puts_none, puts-length}
+use mathlib.Core.Path.{◌≡◌}
+use Rattle.output.specs.Put.{writing, puts}
 use Rattle.printing.specs.Lines.{nexts}
-use Rattle.printing.specs.LinesLaws.{puts-next, nexts-end}
 use Rattle.printing.proofs.rows.put_nexts.Given as goal
 
 abbrev pub invariant-loop-list : goal.invariant-loop-list

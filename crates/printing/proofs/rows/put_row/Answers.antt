@@ -1,5 +1,4 @@
 -- `put_row` meets its contract: its parts are put one after another.
-use borrow.Author.Rules.{rules}
 use Rattle.output.specs.Put.{writing}
 use Rattle.printing.specs.LinesLaws.{puts-state}
 use Rattle.printing.proofs.rows.put_row.Goals as goal

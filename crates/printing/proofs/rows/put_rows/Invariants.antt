@@ -1,12 +1,8 @@
 -- `put_rows` meets its contract. The loop's invariant: to put the rows that are left comes to what to put all of them comes to.
 use Prim.Native.Nat.{◌-◌, ◌≤◌}
-use mathlib.Core.Path.{◌≡◌, ◌∙◌}
-use native.Mathlib.Nat.{sub-zero}
-use native.Mathlib.Omega.{arith}
-use borrow.Author.Rules.{rules}
-use Rattle.output.specs.Put.{writing, puts, puts_none, puts-length}
+use mathlib.Core.Path.{◌≡◌}
+use Rattle.output.specs.Put.{writing, puts}
 use Rattle.printing.specs.Lines.{rows}
-use Rattle.printing.specs.LinesLaws.{puts-row, rows_end}
 use Rattle.printing.proofs.rows.put_rows.Given as goal
 
 abbrev pub invariant-loop-state : goal.invariant-loop-state

@@ -7,14 +7,11 @@ use Rattle.server.proofs.find.put_word.Goals as goal
 
 pub returns-then-writes_word : goal.returns-then-writes_word
 returns-then-writes_word c =
-    let put = c in
-    let a = put in
-    let told = a.args.told in
-    word-written (find_reply told.finding) told.first a.args.word.now put.writes_word.ensures
-    put.if-writes_word.true (sym (slice-aggregate-put-part put)) a.requires put.put_part.ensures
+    let told = c.args.told in
+    word-written (find_reply told.finding) told.first c.args.word.now c.writes_word.ensures
+    c.if-writes_word.true (search rules) c.requires c.put_part.ensures
 
 pub returns-else-writes_word : goal.returns-else-writes_word
 returns-else-writes_word c =
-    let a = c in
-    word_same (find_reply a.args.told.finding) a.args.told.first a.args.word.now c.writes_word.ensures
+    word_same (find_reply c.args.told.finding) c.args.told.first c.args.word.now c.writes_word.ensures
     c.if-writes_word.false
