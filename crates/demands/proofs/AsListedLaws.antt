@@ -1,5 +1,5 @@
 -- The three ways in which an operation is as listed: it refuses and changes nothing, it refuses and zeroes, or it answers.
-use Rattle.std.specs.Prelude.{ℕ, ◌-◌, ◌≤◌, ◌<◌, List, [], ◌∷◌, ◌++◌, ◌↔◌, ◌≡◌, length, drop, replicate}
+use Rattle.std.specs.Prelude.{ℕ, ◌≤◌, ◌<◌, List, [], ◌∷◌, ◌++◌, ◌↔◌, ◌≡◌, length, drop, replicate}
 use Rattle.std.proofs.Common.{inl, inr, sym, ap, ◌∙◌, arith, length-append, length-drop, drop_at}
 use Rattle.std.proofs.lemmas.List.{length-replicate}
 use Rattle.syntax.specs.Reply.{Reply}

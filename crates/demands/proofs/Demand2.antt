@@ -1,27 +1,22 @@
 -- `Demand2` holds.
-use Rattle.std.specs.Prelude.{ℕ, ◌≤◌, List, [], ◌∷◌, ◌↔◌, ◌≡◌, refl, length, get_or}
+use Rattle.std.specs.Prelude.{ℕ, ◌≤◌, List, ◌↔◌, ◌≡◌, refl, length}
 use Rattle.std.proofs.Common.{sym, ◌∙◌, subst, arith}
 use Rattle.std.proofs.Math.Path.{ap}
-use Rattle.theory.specs.Word.{Word}
-use Rattle.theory.specs.Job.{Job, IsWord}
-use Rattle.theory.specs.Rewriting.{Sound}
+use Rattle.theory.specs.Job.{Job}
 use Rattle.syntax.specs.Byte.{Bytes}
-use Rattle.syntax.specs.Reply.{given}
 use Rattle.reading.specs.JobText.{NamedJob, job_of, IsJob}
 use Rattle.reading.specs.Read.{Reading, job, refused, read}
 use Rattle.reading.specs.ReadLaws.{read-job, read-refused, job-unique}
 use Rattle.reading.specs.Answering.{reply_of}
 use Rattle.finding.specs.Find.{Found, find}
-use Rattle.finding.specs.Finds.{DistinctStandings, DistinctStates, followed}
+use Rattle.finding.specs.Finds.{DistinctStandings, DistinctStates}
 use Rattle.finding.specs.FindCourse.{FindCourse, many-standings, many-states, answered}
-use Rattle.finding.specs.Outcome.{Outcome, told, left_by}
+use Rattle.finding.specs.Outcome.{told, left_by}
 use Rattle.finding.specs.Operation.{outcome, left_by_reading, long-buffers}
-use Rattle.keeping.specs.KeepOperation.{outcome as keep_outcome, Outcome as Keeps}
 use Rattle.demands.proofs.ReadListed.{refused-early}
 use Rattle.demands.proofs.FindListed.{text-finds}
 use Rattle.demands.specs.FindSays.{FindSays}
 use Rattle.demands.proofs.FindSaysLaws.{find-says, find-determined}
-use Rattle.demands.specs.KeepSays.{KeepSays}
 use Rattle.demands.proofs.KeepSaysLaws.{keep-says, keep-determined}
 use Rattle.demands.specs.Demand2.{Demand2}
 

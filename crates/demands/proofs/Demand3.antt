@@ -1,17 +1,15 @@
 -- `Demand3` holds.
-use Rattle.std.specs.Prelude.{ℕ, ◌≤◌, ◌<◌, List, ◌↔◌, ◌≡◌, length, get_or, take}
+use Rattle.std.specs.Prelude.{ℕ, ◌<◌, List, ◌≡◌, get_or, take}
 use Rattle.std.proofs.Common.{sym, ◌∙◌, subst, get_or-take}
-use Rattle.theory.specs.Path.{Path}
-use Rattle.theory.specs.Word.{Word}
-use Rattle.theory.specs.Job.{Job, SpelledBy}
-use Rattle.theory.specs.Rewriting.{Sound, Yielded, FirstMissed, Complete}
+use Rattle.theory.specs.Job.{Job}
+use Rattle.theory.specs.Rewriting.{Complete}
 use Rattle.theory.specs.Graph.{Table, ExactPairs, AnswersFromLinks}
 use Rattle.theory.proofs.Answers.{lists-within-links, complete-links-within-lists}
 use Rattle.theory.proofs.GreatestRewriting.{sound-yielded}
 use Rattle.syntax.specs.Byte.{Bytes}
 use Rattle.reading.specs.JobText.{NamedJob, job_of, IsJob}
 use Rattle.reading.specs.ReadLaws.{job-unique}
-use Rattle.verdict.specs.VerdictOperation.{outcome as verdict_outcome, Outcome as Verdicts}
+use Rattle.verdict.specs.VerdictOperation.{outcome as verdict_outcome}
 use Rattle.answering.specs.TableLaws.{table-ends}
 use Rattle.answering.specs.Marked.{query, MarksOf}
 use Rattle.answering.specs.MarkedLaws.{chosen-determined, marks-same}
@@ -21,7 +19,7 @@ use Rattle.demands.specs.VerdictSays.{VerdictSays}
 use Rattle.demands.proofs.VerdictSaysLaws.{verdict-says, complete-exactly, missed-left, verdict-determined}
 use Rattle.demands.specs.MarksSay.{Reaches, MarksSay, LinksSay, ListsSay}
 use Rattle.demands.proofs.MarksSayLaws.{links-say, lists-say, marks-say-determined}
-use Rattle.demands.specs.Demand3.{Demand3, Judged, Marked}
+use Rattle.demands.specs.Demand3.{Demand3}
 
 -- The two answers on one job, from the query's links and from lists.
 module _ (J : Job) (N start : ℕ) (links lists : Table) (exact : ExactPairs J N links lists) {marks workspace marks' workspace' : List ℕ}

@@ -1,22 +1,17 @@
 -- Demand 2, of texts and lent memory: a word of list names is accepted exactly when every path it spells is a path of the query; a job text
 -- is accepted exactly when the rules have it.
-use Rattle.std.specs.Prelude.{ℕ, ◌≤◌, List, [], ◌∷◌, ◌↔◌, ◌≡◌, refl, length, get_or}
-use Rattle.std.proofs.Common.{sym, ◌∙◌, subst, arith}
-use Rattle.std.proofs.Math.Path.{ap}
+use Rattle.std.specs.Prelude.{ℕ, ◌≤◌, List, [], ◌∷◌, ◌↔◌, ◌≡◌, length, get_or}
 use Rattle.theory.specs.Word.{Word}
 use Rattle.theory.specs.Job.{Job, IsWord}
 use Rattle.theory.specs.Rewriting.{Sound}
 use Rattle.syntax.specs.Byte.{Bytes}
 use Rattle.syntax.specs.Reply.{given}
 use Rattle.reading.specs.JobText.{NamedJob, job_of, IsJob}
-use Rattle.reading.specs.Read.{Reading, job, refused, read}
-use Rattle.reading.specs.ReadLaws.{read-job, read-refused, job-unique}
+use Rattle.reading.specs.Read.{read}
 use Rattle.reading.specs.Answering.{reply_of}
-use Rattle.finding.specs.Find.{Found, find}
 use Rattle.finding.specs.Finds.{DistinctStandings, DistinctStates, followed}
-use Rattle.finding.specs.FindCourse.{FindCourse, many-standings, many-states, answered}
-use Rattle.finding.specs.Outcome.{Outcome, told, left_by}
-use Rattle.finding.specs.Operation.{outcome, left_by_reading, long-buffers}
+use Rattle.finding.specs.Outcome.{Outcome}
+use Rattle.finding.specs.Operation.{outcome}
 use Rattle.keeping.specs.KeepOperation.{outcome as keep_outcome, Outcome as Keeps}
 use Rattle.demands.specs.FindSays.{FindSays}
 use Rattle.demands.specs.KeepSays.{KeepSays}

@@ -2,25 +2,18 @@
 -- every query path is yielded, else it names the first missed path; answers from links and from lists mark exactly what is defined; where
 -- the lists are exact, lists never mark more than links, and the same when the verdict is complete.
 use Rattle.std.specs.Prelude.{ℕ, ◌≤◌, ◌<◌, List, ◌↔◌, ◌≡◌, length, get_or, take}
-use Rattle.std.proofs.Common.{sym, ◌∙◌, subst, get_or-take}
 use Rattle.theory.specs.Path.{Path}
 use Rattle.theory.specs.Word.{Word}
 use Rattle.theory.specs.Job.{Job, SpelledBy}
 use Rattle.theory.specs.Rewriting.{Sound, Yielded, FirstMissed, Complete}
-use Rattle.theory.specs.Graph.{Table, ExactPairs, AnswersFromLinks}
-use Rattle.theory.proofs.Answers.{lists-within-links, complete-links-within-lists}
-use Rattle.theory.proofs.GreatestRewriting.{sound-yielded}
+use Rattle.theory.specs.Graph.{Table, ExactPairs}
 use Rattle.syntax.specs.Byte.{Bytes}
 use Rattle.reading.specs.JobText.{NamedJob, job_of, IsJob}
-use Rattle.reading.specs.ReadLaws.{job-unique}
 use Rattle.verdict.specs.VerdictOperation.{outcome as verdict_outcome, Outcome as Verdicts}
-use Rattle.answering.specs.TableLaws.{table-ends}
-use Rattle.answering.specs.Marked.{query, MarksOf}
-use Rattle.answering.specs.MarkedLaws.{chosen-determined, marks-same}
 use Rattle.answering.specs.LinksOperation.{links_answer, Outcome as Marks}
 use Rattle.answering.specs.ListsOperation.{lists_answer}
 use Rattle.demands.specs.VerdictSays.{VerdictSays}
-use Rattle.demands.specs.MarksSay.{Reaches, MarksSay, LinksSay, ListsSay}
+use Rattle.demands.specs.MarksSay.{LinksSay, ListsSay}
 
 -- Nothing is refused.
 abbrev pub Judged : Verdicts → Type 0

@@ -1,33 +1,16 @@
 -- Merged states (document 02, F-7), of texts and lent memory: two words end at one state exactly when the same words may follow them, no
 -- complete table with fewer states accepts the same words, and kept files are equal exactly when the accepted words are.
-use Rattle.std.specs.Prelude.{ℕ, ◌+◌, ◌*◌, ◌≤◌, List, [], ◌++◌, ◌↔◌, ◌≡◌, refl, length, take}
-use Rattle.std.proofs.Math.Logic.Iff
-use Rattle.std.proofs.Math.Path.{sym, ap}
-use Rattle.std.proofs.Common.{ap₂, subst, ◌∙◌, take_at}
-use native.Mathlib.Omega.{arith}
+use Rattle.std.specs.Prelude.{ℕ, ◌≤◌, List, ◌++◌, ◌↔◌, ◌≡◌, length, take}
 use Rattle.std.proofs.Math.ListN.{get_or}
-use Rattle.theory.specs.Path.{Below}
 use Rattle.theory.specs.Word.{Word}
-use Rattle.theory.specs.Job.{Job, IsWord}
-use Rattle.theory.specs.Rewriting.{Sound, Accepted, SameContinuations}
-use Rattle.theory.proofs.GreatestRewriting.{accepted-exactly-sound}
+use Rattle.theory.specs.Job.{IsWord}
+use Rattle.theory.specs.Rewriting.{Sound}
 use Rattle.theory.specs.Deterministic.{Deterministic, Accepts, Complete}
 use Rattle.syntax.specs.Byte.{Bytes}
 use Rattle.reading.specs.JobText.{NamedJob, job_of, IsJob}
-use Rattle.reading.specs.ReadLaws.{read-job, job-unique}
-use Rattle.reading.specs.ReadFacts.{read-facts}
-use Rattle.finding.specs.Find.{Rewriting, found}
-use Rattle.finding.specs.Finds.{followed, Finds}
-use Rattle.finding.specs.FindsCanonical.{finds-accepts, finds-minimal, same-states, same-table, same_flags}
-use Rattle.finding.specs.FindCourse.{FindCourse, followed-written}
-use Rattle.finding.specs.Outcome.{told, left_by}
+use Rattle.finding.specs.Finds.{followed}
 use Rattle.finding.specs.Operation.{outcome}
-use Rattle.keeping.specs.Kept.{kept}
-use Rattle.keeping.specs.KeptLaws.{kept-agree}
-use Rattle.keeping.specs.KeptFile.{file_flag, file_followed}
-use Rattle.keeping.specs.KeptFileLaws.{file-sound}
 use Rattle.keeping.specs.KeepOperation.{Outcome, outcome as keep_outcome}
-use Rattle.demands.specs.KeepSays.{KeepSays}
 
 -- The bytes of a kept file: as many as were told.
 abbrev pub kept_bytes : Outcome → Bytes

@@ -3,7 +3,6 @@ use mathlib.Core.Path.{sym}
 use lib.Seq.{length-take-le}
 use Rattle.printing.specs.PrintLaws.{prints-within}
 use Rattle.rewrite.specs.Read.{bytes_fit}
-use borrow.Author.Rules.{rules}
 use Rattle.rewrite.proofs.main.Goals as goal
 
 pub slice_bounds-text-end : goal.slice_bounds-text-end

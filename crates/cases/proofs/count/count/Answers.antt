@@ -1,5 +1,4 @@
 -- `count` meets its contract: reading refuses more labels and lists than there is room for.
-use borrow.Author.Rules.{rules}
 use Rattle.finding.specs.Operation.{read-few}
 use Rattle.cases.proofs.count.count.Goals as goal
 

@@ -1,6 +1,5 @@
 -- `put_count` meets its contract: no part is put beyond the end.
 use native.Mathlib.Omega.{arith}
-use borrow.Author.Rules.{rules}
 use Rattle.output.specs.Put.{ends-within}
 use Rattle.cases.proofs.counted.put_count.Goals as goal
 

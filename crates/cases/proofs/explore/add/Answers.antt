@@ -1,7 +1,6 @@
 -- `add` meets its contract: a set is put only where there is room.
 use native.Mathlib.Omega.{arith}
 use lib.ListN.{length-set}
-use borrow.Author.Rules.{rules}
 use Rattle.cases.proofs.explore.add.Goals as goal
 
 pub returns : goal.returns

@@ -1,8 +1,7 @@
 -- The loop's invariant: the sets found lie within the room, which keeps its length. What is left of the room falls.
 use Prim.Native.Nat.{◌-◌, ◌≤◌}
-use mathlib.Core.Path.{◌≡◌, ◌∙◌}
-use lib.ListN.{length, length-set}
-use borrow.Author.Rules.{rules}
+use mathlib.Core.Path.{◌≡◌}
+use lib.ListN.{length}
 use Rattle.cases.proofs.explore.explore.Given as goal
 
 abbrev pub invariant-loop-i : goal.invariant-loop-i

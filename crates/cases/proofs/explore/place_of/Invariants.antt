@@ -1,6 +1,5 @@
 -- `place_of` meets its contract: it looks no further than the first n.
 use Prim.Native.Nat.{◌-◌, ◌≤◌}
-use borrow.Author.Rules.{rules}
 use Rattle.cases.proofs.explore.place_of.Given as goal
 
 abbrev pub invariant-loop-i : goal.invariant-loop-i

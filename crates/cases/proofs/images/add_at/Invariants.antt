@@ -1,6 +1,5 @@
 -- `add_at` is safe and ends: there are 64 places.
 use Prim.Native.Nat.{◌-◌, ◌≤◌}
-use borrow.Author.Rules.{rules}
 use Rattle.cases.proofs.images.add_at.Given as goal
 
 abbrev pub invariant-loop-p : goal.invariant-loop-p

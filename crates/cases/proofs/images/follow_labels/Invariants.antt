@@ -1,6 +1,5 @@
 -- `follow_labels` is safe and ends: labels are below 32.
 use Prim.Native.Nat.{◌-◌, ◌≤◌}
-use borrow.Author.Rules.{rules}
 use Rattle.cases.proofs.images.follow_labels.Given as goal
 
 abbrev pub invariant-loop-a : goal.invariant-loop-a

@@ -1,6 +1,5 @@
 -- `follow_pairs` is safe and ends: there are 64 places.
 use Prim.Native.Nat.{◌-◌, ◌≤◌}
-use borrow.Author.Rules.{rules}
 use Rattle.cases.proofs.images.follow_pairs.Given as goal
 
 abbrev pub invariant-loop-p : goal.invariant-loop-p

@@ -1,6 +1,5 @@
 -- `put_all_lists` is safe and ends: the lists are at most 16.
 use Prim.Native.Nat.{◌-◌, ◌≤◌}
-use borrow.Author.Rules.{rules}
 use Rattle.cases.proofs.images.put_all_lists.Given as goal
 
 abbrev pub invariant-loop-v : goal.invariant-loop-v

@@ -1,6 +1,5 @@
 -- `put_images` is safe and ends: the standings are at most 64.
 use Prim.Native.Nat.{◌-◌, ◌≤◌}
-use borrow.Author.Rules.{rules}
 use Rattle.cases.proofs.images.put_images.Given as goal
 
 abbrev pub invariant-loop-s : goal.invariant-loop-s

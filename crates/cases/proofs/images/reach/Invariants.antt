@@ -1,6 +1,5 @@
 -- `reach` ends: there are no more rounds than pairs.
 use Prim.Native.Nat.{◌-◌, ◌≤◌}
-use borrow.Author.Rules.{rules}
 use Rattle.cases.proofs.images.reach.Given as goal
 
 abbrev pub invariant-loop-rounds : goal.invariant-loop-rounds

@@ -1,6 +1,5 @@
 -- `put_all_places` is safe and ends: labels are below 32.
 use Prim.Native.Nat.{◌-◌, ◌≤◌}
-use borrow.Author.Rules.{rules}
 use Rattle.cases.proofs.label_tables.put_all_places.Given as goal
 
 abbrev pub invariant-loop-a : goal.invariant-loop-a

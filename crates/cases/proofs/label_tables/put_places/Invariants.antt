@@ -1,6 +1,5 @@
 -- `put_places` is safe and ends: there are 64 places.
 use Prim.Native.Nat.{◌-◌, ◌≤◌}
-use borrow.Author.Rules.{rules}
 use Rattle.cases.proofs.label_tables.put_places.Given as goal
 
 abbrev pub invariant-loop-p : goal.invariant-loop-p

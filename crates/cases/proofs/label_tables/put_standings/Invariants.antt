@@ -1,6 +1,5 @@
 -- `put_standings` is safe and ends: the standings are at most 64.
 use Prim.Native.Nat.{◌-◌, ◌≤◌}
-use borrow.Author.Rules.{rules}
 use Rattle.cases.proofs.label_tables.put_standings.Given as goal
 
 abbrev pub invariant-loop-s : goal.invariant-loop-s

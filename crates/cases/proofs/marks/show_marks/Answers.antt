@@ -2,7 +2,6 @@
 use mathlib.Core.Path.{sym}
 use native.Mathlib.Omega.{arith}
 use lib.Seq.{length-take-le}
-use borrow.Author.Rules.{rules}
 use Rattle.output.specs.Put.{ends-within}
 use Rattle.cases.proofs.marks.show_marks.Goals as goal
 

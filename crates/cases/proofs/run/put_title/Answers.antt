@@ -1,6 +1,5 @@
 -- `put_title` meets its contract: no part is put beyond the end.
 use native.Mathlib.Omega.{arith}
-use borrow.Author.Rules.{rules}
 use Rattle.output.specs.Put.{ends-within}
 use Rattle.cases.proofs.run.put_title.Goals as goal
 

@@ -1,6 +1,3 @@
-use Prim.Native.Nat.{◌≤◌, ◌-◌}
-use mathlib.Core.Path.{◌≡◌, refl, sym}
-use lib.ListN.{length}
 use Rattle.rewrite.specs.Read.{bytes_fit}
 use native.Mathlib.Omega.{arith}
 use borrow.Author.Rules.{rules}

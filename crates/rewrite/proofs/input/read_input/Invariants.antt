@@ -1,10 +1,7 @@
 -- What was read lies within the text, and each read that goes on leaves less to come.
 use Prim.Native.Nat.{◌≤◌, ◌-◌}
-use mathlib.Core.Path.{◌≡◌, refl, sym}
+use mathlib.Core.Path.{◌≡◌}
 use lib.ListN.{length}
-use Rattle.rewrite.specs.Read.{bytes_fit}
-use native.Mathlib.Omega.{arith}
-use borrow.Author.Rules.{rules}
 use Rattle.rewrite.proofs.input.read_input.Given as goal
 
 abbrev pub invariant-loop-done : goal.invariant-loop-done

@@ -1,7 +1,6 @@
 -- Find's answer is small, so that it fits into the number; its first word goes to the lent word.
 use Rattle.server.specs.FindLeftLaws.{no_room, small, all_told}
 use native.Mathlib.Omega.{arith}
-use borrow.Author.Rules.{rules}
 use Rattle.server.proofs.find.cezhappu_find.Goals as goal
 
 pub returns-then-word-lt256 : goal.returns-then-word-lt256

@@ -1,7 +1,6 @@
 -- What Find tells is small, so that its parts do not meet in the number.
 use Rattle.server.specs.FindLeftLaws.{word-few, few-line, few-standings, few-states, found_number}
 use native.Mathlib.Omega.{arith}
-use borrow.Author.Rules.{rules}
 use Rattle.server.proofs.find.find_number.Goals as goal
 
 pub word_number-word-requires : goal.word_number-word-requires

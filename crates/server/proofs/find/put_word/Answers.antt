@@ -1,5 +1,4 @@
 -- The lent word is written by the finding, at its front.
-use mathlib.Core.Path.{sym}
 use Rattle.finding.specs.Outcome.{find_reply}
 use Rattle.server.specs.FindLeftLaws.{word-written, word_same}
 use borrow.Author.Rules.{rules}

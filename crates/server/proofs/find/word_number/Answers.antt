@@ -1,6 +1,5 @@
 -- The number of a first word, by whether there is one.
 use Rattle.server.specs.FindLeftLaws.{word_some, word_none}
-use borrow.Author.Rules.{rules}
 use Rattle.server.proofs.find.word_number.Goals as goal
 
 pub returns-then-first : goal.returns-then-first

@@ -3,7 +3,6 @@ use mathlib.Core.Bool.{true, false}
 use mathlib.Core.Path.{◌∙◌}
 use borrow.Author.Tests.{eq-eqb, ne_eqb}
 use Rattle.server.specs.FindLeftLaws.{writes_found, writes-refused}
-use borrow.Author.Rules.{rules}
 use Rattle.server.proofs.find.writes_word.Goals as goal
 
 pub returns-in-Found : goal.returns-in-Found

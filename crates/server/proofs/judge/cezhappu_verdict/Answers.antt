@@ -7,7 +7,6 @@ use Rattle.server.specs.Packed.{verdict_number}
 use Rattle.server.specs.SameReply.{same-reply}
 use Rattle.server.specs.LeftLaws.{verdict-left}
 use native.Mathlib.Omega.{arith}
-use borrow.Author.Rules.{rules}
 use Rattle.server.proofs.judge.cezhappu_verdict.Goals as goal
 
 pub answered-requires : goal.answered-requires

@@ -7,7 +7,6 @@ use Rattle.server.specs.Packed.{one_number}
 use Rattle.server.specs.SameReply.{same-reply}
 use Rattle.server.specs.LeftLaws.{keep_left_lem}
 use native.Mathlib.Omega.{arith}
-use borrow.Author.Rules.{rules}
 use Rattle.server.proofs.keep.cezhappu_keep.Goals as goal
 
 pub answered-requires : goal.answered-requires

@@ -7,7 +7,6 @@ use Rattle.server.specs.Packed.{one_number}
 use Rattle.server.specs.SameReply.{same-reply}
 use Rattle.server.specs.LeftLaws.{answer-left}
 use native.Mathlib.Omega.{arith}
-use borrow.Author.Rules.{rules}
 use Rattle.server.proofs.lists.cezhappu_answer_from_lists.Goals as goal
 
 pub answered-requires : goal.answered-requires

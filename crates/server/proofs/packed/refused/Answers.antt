@@ -1,7 +1,6 @@
 -- A refusal's number is small, so there is room for the line behind it.
 use Rattle.syntax.specs.NumberLaws.{number-few}
 use native.Mathlib.Omega.{arith}
-use borrow.Author.Rules.{rules}
 use Rattle.server.proofs.packed.refused.Goals as goal
 
 pub overflow_add-result : goal.overflow_add-result

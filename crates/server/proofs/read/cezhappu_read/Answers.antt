@@ -6,7 +6,6 @@ use Rattle.server.specs.Packed.{read_number}
 use Rattle.server.specs.SameReply.{same-reply}
 use Rattle.server.specs.ReadSmall.{read_small}
 use native.Mathlib.Omega.{arith}
-use borrow.Author.Rules.{rules}
 use Rattle.server.proofs.read.cezhappu_read.Goals as goal
 
 pub overflow_mul-lists : goal.overflow_mul-lists
