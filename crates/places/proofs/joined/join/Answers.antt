@@ -1,4 +1,6 @@
+use Rattle.std.proofs.Common.{ℕ, List, ◌≢◌, ◌^◌}
 use Prim.Native.Nat.{◌+◌, ◌-◌, ◌*◌, ◌<◌}
+use Rattle.theory.specs.Places.{Member}
 use lib.Bits.{and_le_r}
 use lib.Count.{count_trailing_zeros, trailing_le}
 use lib.ListN.{length, get_or}
@@ -6,6 +8,12 @@ use Rattle.places.specs.NextPlace.{trailing-here}
 use Rattle.places.specs.Followed.{followed-start, followed-turn, followed-end, rest-within}
 use native.Mathlib.Omega.{arith}
 use Rattle.places.proofs.joined.join.Goals as goal
+
+-- The word of the place taken is there.
+inside : (words : List ℕ) (first apart set rest : ℕ) → ((p : ℕ) → Member p set → apart * p + first < length words)
+    → ((p : ℕ) → Member p rest → Member p set) → rest ≢ 0 → rest < 2 ^ 64 → apart * count_trailing_zeros 64 rest + first < length words
+inside words first apart set rest there within some small =
+    there (count_trailing_zeros 64 rest) (within _ (trailing-here 64 rest some small))
 
 pub loop-rest-init : goal.loop-rest-init
 loop-rest-init c =
@@ -16,16 +24,26 @@ pub overflow_cast-place : goal.overflow_cast-place
 overflow_cast-place c = omega (arith, trailing_le 64 c.loop-rest.rest)
 
 pub overflow_mul-all : goal.overflow_mul-all
-overflow_mul-all c = omega (arith, (let it : let a = c.args in a.apart * count_trailing_zeros 64 c.loop-rest.rest + a.first < length a.words.now = let l = c.loop-rest in c.requires (count_trailing_zeros 64 l.rest) (l.invariant.1 _ (trailing-here 64 l.rest c.loop-rest-test.true l.invariant.0)) in it))
+overflow_mul-all c = omega (
+  arith,
+  inside c.args.words.now c.args.first c.args.apart c.args.set c.loop-rest.rest c.requires c.loop-rest.invariant.1 c.loop-rest-test.true c.loop-rest.invariant.0,
+)
 
 pub overflow_add-all : goal.overflow_add-all
-overflow_add-all c = omega (arith, (let it : let a = c.args in a.apart * count_trailing_zeros 64 c.loop-rest.rest + a.first < length a.words.now = let l = c.loop-rest in c.requires (count_trailing_zeros 64 l.rest) (l.invariant.1 _ (trailing-here 64 l.rest c.loop-rest-test.true l.invariant.0)) in it))
+overflow_add-all c = omega (
+  arith,
+  inside c.args.words.now c.args.first c.args.apart c.args.set c.loop-rest.rest c.requires c.loop-rest.invariant.1 c.loop-rest-test.true c.loop-rest.invariant.0,
+)
 
 pub offset_bounds-words-apart : goal.offset_bounds-words-apart
-offset_bounds-words-apart c = omega (arith, (let it : let a = c.args in a.apart * count_trailing_zeros 64 c.loop-rest.rest + a.first < length a.words.now = let l = c.loop-rest in c.requires (count_trailing_zeros 64 l.rest) (l.invariant.1 _ (trailing-here 64 l.rest c.loop-rest-test.true l.invariant.0)) in it))
+offset_bounds-words-apart c = omega (
+  arith,
+  inside c.args.words.now c.args.first c.args.apart c.args.set c.loop-rest.rest c.requires c.loop-rest.invariant.1 c.loop-rest-test.true c.loop-rest.invariant.0,
+)
 
 pub bounds-words-apart : goal.bounds-words-apart
-bounds-words-apart c = (let it : let a = c.args in a.apart * count_trailing_zeros 64 c.loop-rest.rest + a.first < length a.words.now = let l = c.loop-rest in c.requires (count_trailing_zeros 64 l.rest) (l.invariant.1 _ (trailing-here 64 l.rest c.loop-rest-test.true l.invariant.0)) in it)
+bounds-words-apart c =
+    inside c.args.words.now c.args.first c.args.apart c.args.set c.loop-rest.rest c.requires c.loop-rest.invariant.1 c.loop-rest-test.true c.loop-rest.invariant.0
 
 pub loop-rest-smaller : goal.loop-rest-smaller
 loop-rest-smaller c =

@@ -9,22 +9,19 @@ returns-then-from-ge1024 c = next-beyond _ _ c.if-from-ge1024.true
 
 pub loop-word-init : goal.loop-word-init
 loop-word-init c =
-    let s = c in
-    (omega arith, passing-start s.args.words.now (λ i. omega (arith, c.shared_slice_known-1.given i)) s.requires s.args.from c.if-from-ge1024.false)
+    (omega arith, passing-start c.args.words.now (λ i. omega (arith, c.type_inv.words i)) c.requires c.args.from c.if-from-ge1024.false)
 
 pub returns-then-index-eq16 : goal.returns-then-index-eq16
 returns-then-index-eq16 c =
-    let s = c in
     let l = c.loop-word in
-    passing-none s.args.words.now (λ i. omega (arith, c.shared_slice_known-1.given i)) s.requires s.args.from l.index l.word
+    passing-none c.args.words.now (λ i. omega (arith, c.type_inv.words i)) c.requires c.args.from l.index l.word
     l.invariant.1 c.loop-word-test.true c.if-index-eq16.true
 
 pub loop-word-preserved : goal.loop-word-preserved
 loop-word-preserved c =
-    let s = c in
     let l = c.loop-word in (
-      omega (arith, c.shared_slice_known-in-loop-word-1.given (l.index + 1)),
-      passing-next s.args.words.now (λ i. omega (arith, c.shared_slice_known-in-loop-word-1.given i)) s.requires s.args.from l.index l.word
+      omega (arith, c.type_inv.words (l.index + 1)),
+      passing-next c.args.words.now (λ i. omega (arith, c.type_inv.words i)) c.requires c.args.from l.index l.word
           l.invariant.1 c.loop-word-test.true c.if-index-eq16.false,
     )
 
@@ -36,7 +33,6 @@ overflow_add-result c = omega (arith, trailing_le 64 c.loop-word.word, c.loop-wo
 
 pub returns : goal.returns
 returns c =
-    let s = c in
     let l = c.loop-word in
-    passing-found s.args.words.now (λ i. omega (arith, c.shared_slice_known-1.given i)) s.requires s.args.from l.index l.word
+    passing-found c.args.words.now (λ i. omega (arith, c.type_inv.words i)) c.requires c.args.from l.index l.word
     l.invariant.0 l.invariant.1 c.loop-word-test.false
