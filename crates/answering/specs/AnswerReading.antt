@@ -1,16 +1,16 @@
 -- The text of an answer's job, read into tables: they hold the automata of the job's expressions, and what the job leaves is what the text
 -- leaves.
-use Rattle.std.specs.Prelude.{◌≡◌, ℕ, suc, List, length, slice_index_or}
+use Rattle.std.specs.Prelude.{◌≡◌, ℕ, suc, Result, Ok, Err, List, length, slice_index_or}
 use Rattle.std.specs.Prelude.{refl}
-use Rattle.std.proofs.Common.{sym, ap, ap₂, ◌∙◌, subst, arith}
+use Rattle.std.proofs.Common.{sym, ap, ◌∙◌, subst, arith}
 use Rattle.theory.specs.Expression.{Expression, empty}
 use Rattle.theory.specs.Job.{Job, WellFormed}
 use Rattle.theory.specs.Automaton.{glushkov}
-use Rattle.syntax.specs.declared.refusal.Refusal.{Refusal}
 use Rattle.syntax.specs.Byte.{Bytes}
 use Rattle.reading.specs.JobText.{NamedJob, job_of}
-use Rattle.reading.specs.declared.answer.ReadAnswer.{ReadAnswer}
-use Rattle.reading.specs.Answering.{answer_of}
+use Rattle.reading.specs.declared.answer.Job.{Job as Counts}
+use Rattle.reading.specs.declared.answer.Refused.{Refused}
+use Rattle.reading.specs.Answering.{counts, refused_at, answer_of}
 use Rattle.reading.specs.Loading.{Loaded}
 use Rattle.reading.specs.Read.{Reading, read, job}
 use Rattle.reading.specs.ReadFacts.{ReadFacts, read-facts}
@@ -19,8 +19,7 @@ use Rattle.finding.specs.StoredAutomata.{Stored, row-stored}
 use Rattle.finding.specs.Operation.{job-told}
 use Rattle.syntax.specs.Reply.{refusing}
 use Rattle.answering.specs.Marked.{Chosen, query, list}
-use Rattle.answering.specs.MarkedLaws.{chosen-some}
-use Rattle.answering.specs.LinksOperation.{Outcome, outcome, by_reading, SizesFit, JobGiven}
+use Rattle.answering.specs.LinksOperation.{Outcome, outcome, by_reading, JobGiven}
 
 -- The tables of a text that is read.
 module _ (text : Bytes) (J : NamedJob) (T : Tables) (h : Holds text J T) (f : ReadFacts J) where
@@ -34,16 +33,9 @@ module _ (text : Bytes) (J : NamedJob) (T : Tables) (h : Holds text J T) (f : Re
   job-given : JobGiven (job_of J) T.follow T.enter T.sizes T.accepting (length J.labels) (length J.list_names)
   job-given = record { labels-told = refl; lists-told = f.as_many; stored = stored }
 
-module _ (text : Bytes) {r : ReadAnswer} {T : Tables} (l : Loaded text r T) where
-  pub read-sizes : {labels lists : ℕ} → r ≡ ReadAnswer.Job labels lists → SizesFit lists T.sizes
-  read-sizes e x h =
-      let (J, q, a, b) = job-told (read text) (sym l.answer ∙ e) in
-      let f = read-facts text q in
-      let (d, k) = chosen-some (job_of J) x (omega (arith, f.as_many)) in
-      (stored text J T (l.holds J q) f k).fits
-
+module _ (text : Bytes) {r : Result Counts Refused} {T : Tables} (l : Loaded text r T) where
   module _ (more : Job → Outcome) (before workspace : List ℕ) where
-    pub read-answered : {labels lists : ℕ} {o : Outcome} → r ≡ ReadAnswer.Job labels lists
+    pub read-answered : {labels lists : ℕ} {o : Outcome} → r ≡ Ok (counts labels lists)
         → ((J : Job) → WellFormed J → JobGiven J T.follow T.enter T.sizes T.accepting labels lists → o ≡ more J)
         → o ≡ by_reading more before workspace (read text)
     read-answered {labels} {lists} {o} e told =
@@ -54,14 +46,12 @@ module _ (text : Bytes) {r : ReadAnswer} {T : Tables} (l : Loaded text r T) wher
         (subst (JobGiven (job_of J) T.follow T.enter T.sizes T.accepting (length J.labels)) b g))
         ∙ ap (by_reading more before workspace) (sym q)
 
-    pub read-refused : {q : Refusal} {n : ℕ} → r ≡ ReadAnswer.Refused q n
-        → outcome (refusing q n) before workspace ≡ by_reading more before workspace (read text)
-    read-refused {q} {n} e = go (read text) (sym l.answer ∙ e)
+    pub read-refused : {e : Refused} → r ≡ Err e
+        → outcome (refusing e.refusal e.line) before workspace ≡ by_reading more before workspace (read text)
+    read-refused {e} told = go (read text) (sym l.answer ∙ told)
       where
-        go : (z : Reading) → answer_of z ≡ ReadAnswer.Refused q n
-            → outcome (refusing q n) before workspace ≡ by_reading more before workspace z
-        go (job J) e = let z : ◌≡◌ {A = ℕ} 0 1 = cc in absurd (omega arith)
-        go (Reading.refused p m) e =
-            let a : q ≡ p = cc in
-            let b : n ≡ m = cc in
-            ap₂ (λ q n. outcome (refusing q n) before workspace) a b
+        go : (z : Reading) → answer_of z ≡ Err e → outcome (refusing e.refusal e.line) before workspace ≡ by_reading more before workspace z
+        go (job J) f = let z : ◌≡◌ {A = ℕ} 0 1 = cc in absurd (omega arith)
+        go (Reading.refused p m) f =
+            let a : refused_at p m ≡ e = cc in
+            ap (λ (e : Refused). outcome (refusing e.refusal e.line) before workspace) (sym a)

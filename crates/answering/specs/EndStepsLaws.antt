@@ -50,9 +50,9 @@ pub record Coming (words : List ℕ) (source target : ℕ → ℕ) (set rest : �
   pub came : (t y : ℕ) → y < 256
       → Has 4 after t y ↔ (Has 4 before t y ⊎ ((p : ℕ) × Passed set rest p × Came words source target p t y))
 
-pub coming-none : {words : List ℕ} {source target : ℕ → ℕ} {set : ℕ} {before : List ℕ} → set < 2 ^ 64
-    → Coming words source target set set before before
-coming-none {set = set} h = record {
+pub coming-none : {words : List ℕ} {source target : ℕ → ℕ} {set rest : ℕ} {before : List ℕ} → set < 2 ^ 64 → rest ≡ set
+    → Coming words source target set rest before before
+coming-none {set = set} h e = rw e record {
   small = h;
   within = λ p m. m;
   words-kept = refl;

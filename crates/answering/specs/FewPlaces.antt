@@ -1,5 +1,5 @@
 -- Automata of few places: of at most six, with next places among these. They have at most 64 standings.
-use Rattle.std.specs.Prelude.{◌≡◌, ℕ, ◌^◌, ◌<◌, ◌≤◌, Bool, true, false, List, [], ◌∷◌, length, slice_index}
+use Rattle.std.specs.Prelude.{◌≡◌, ℕ, ◌^◌, ◌<◌, ◌≤◌, Bool, true, false, Option, None, is_some, List, [], ◌∷◌, length, slice_index}
 use Rattle.std.proofs.lemmas.Bool.{false≢true}
 use Rattle.std.proofs.Math.Option.{some-injective}
 use Rattle.std.specs.Prelude.{refl}
@@ -16,8 +16,6 @@ use Rattle.theory.proofs.AutomatonLaws.{member-nexts}
 use Rattle.theory.specs.Exploration.{System, Exploration, all, over}
 use Rattle.theory.specs.Explored.{value_at, Exceeds}
 use Rattle.theory.proofs.ExplorationLaws.{exceeded}
-use Rattle.finding.specs.declared.standings.Explored.{Explored}
-use Rattle.finding.specs.declared.standings.Explored.TheVariants.{All}
 use Rattle.finding.specs.Plain.{plain}
 use Rattle.finding.specs.Standings.{standing_system, standings}
 use Rattle.finding.specs.StandingsLaws.{standing-tests, standing-run}
@@ -101,26 +99,21 @@ few-places {follow} {enter} {labels} f = record {
   many = λ e. absurd (false≢true (sym e));
 }
 
-module _ (follow enter : List ℕ) (labels : ℕ) {r : Explored} (t : r ≡ count_standings follow enter labels 64) (row : labels ≤ 32)
+module _ (follow enter : List ℕ) (labels : ℕ) {r : Option ℕ} (t : r ≡ count_standings follow enter labels 64) (row : labels ≤ 32)
     (enters : labels ≤ length enter) where
   counts : r ≡ counted (standings (plain follow enter 0) labels 64)
   counts = t ∙ count-all follow enter labels 64 (omega arith) row enters
 
-  pub told-few : (states : ℕ) → r ≡ All states → FewStandings follow enter labels true
-  told-few states e = record {
-    few = λ d accepting o. different (sym e ∙ counts ∙ ap counted (sym (same-standings follow enter labels accepting) ∙ o));
-    many = λ e. absurd (false≢true (sym e));
+  -- Some number is told exactly where not too many are found.
+  pub told : FewStandings follow enter labels (is_some r)
+  told = record {
+    few = λ d accepting o. counted-none d (counts ∙ ap counted (sym (same-standings follow enter labels accepting) ∙ o));
+    many = λ d accepting. same-standings follow enter labels accepting ∙ none (standings (plain follow enter 0) labels 64) (ap is_some (sym counts) ∙ d);
   }
     where
-      different : ¬ (All states ≡ Explored.Over)
-      different e = let z : ◌≡◌ {A = ℕ} 0 1 = cc in omega arith
+      counted-none : is_some r ≡ true → ¬ (r ≡ None)
+      counted-none d e = false≢true (ap is_some (sym e) ∙ d)
 
-  pub told-many : r ≡ Explored.Over → FewStandings follow enter labels false
-  told-many e = record {
-    few = λ e. absurd (false≢true e);
-    many = λ d accepting. same-standings follow enter labels accepting ∙ none (standings (plain follow enter 0) labels 64) (sym counts ∙ e);
-  }
-    where
-      none : (x : Exploration ℕ) → counted x ≡ Explored.Over → x ≡ over
+      none : (x : Exploration ℕ) → is_some (counted x) ≡ false → x ≡ over
       none over p = refl
-      none (all l) p = absurd (let z : ◌≡◌ {A = ℕ} 0 1 = cc in omega arith)
+      none (all l) p = absurd (false≢true (sym p))

@@ -1,5 +1,5 @@
 -- What Find tells, and what it leaves in lent memory, on the tables of a job: what marking by its rewriting asks for (FoundGiven).
-use Rattle.std.specs.Prelude.{◌≡◌, ℕ, zero, suc, ◌+◌, ◌-◌, ◌*◌, ◌<◌, ◌≤◌, true, List, [], ◌∷◌, ◌++◌, map, length, drop, replicate, slice_index, slice_index_or}
+use Rattle.std.specs.Prelude.{◌≡◌, ℕ, zero, suc, ◌+◌, ◌-◌, ◌*◌, ◌<◌, ◌≤◌, true, Result, List, [], ◌∷◌, ◌++◌, map, length, drop, replicate, slice_index, slice_index_or}
 use Rattle.std.specs.Prelude.{refl}
 use Rattle.std.proofs.Math.Path.{sym, ap, subst}
 use Rattle.std.proofs.Common.{◌∙◌, arith, length-append}
@@ -9,12 +9,12 @@ use Rattle.theory.specs.Expression.{Expression, empty}
 use Rattle.theory.specs.Job.{Job, WellFormed}
 use Rattle.theory.specs.Graph.{Table}
 use Rattle.theory.specs.Automaton.{Automaton, glushkov}
-use Rattle.finding.specs.declared.answer.Finding.{Finding}
-use Rattle.finding.specs.declared.answer.FindAnswer.{FindAnswer}
+use Rattle.reading.specs.declared.answer.Refused.{Refused}
+use Rattle.finding.specs.declared.answer.Found.{Found as Told}
 use Rattle.finding.specs.Find.{Rewriting, found, find, find_automata}
 use Rattle.finding.specs.FoundSizes.{job-sizes}
 use Rattle.finding.specs.FindLaws.{find-finds, find-refusals}
-use Rattle.finding.specs.Outcome.{left, left_by}
+use Rattle.finding.specs.Outcome.{left, left_by, found_answer}
 use Rattle.finding.specs.Named.{written}
 use Rattle.finding.specs.StoredAutomata.{Stored}
 use Rattle.finding.specs.ListRows.{job_tables}
@@ -62,7 +62,7 @@ module _ (J : Job) (formed : WellFormed J) {follow enter sizes accepting : List 
             (g.stored (list k));
       }
 
-  module _ (few : lists ≤ 16) {next₀ flags₀ : List ℕ} {r : FindAnswer} {next flags : List ℕ}
+  module _ (few : lists ≤ 16) {next₀ flags₀ : List ℕ} {r : Result Told Refused} {next flags : List ℕ}
       (core : CoreTold follow enter sizes accepting labels lists 64 256 next₀ flags₀ r next flags) where
     leaves : left r next flags ≡ left_by (find J) next₀ flags₀
     unfolding find
@@ -71,16 +71,16 @@ module _ (J : Job) (formed : WellFormed J) {follow enter sizes accepting : List 
         ∙ ap (λ k. left_by (find_automata (glushkov J.query) k (map glushkov J.lists) 64 256) next₀ flags₀) (sym g.labels-told)
 
     module _ {table : Table} {N : ℕ} (proper : is_table N lists table ≡ true) where
-      pub found-given : FoundGiven (find J) lists r.finding next flags table N
+      pub found-given : FoundGiven (find J) lists r next flags table N
       unfolding left_by
       found-given =
           record {
             answered = answers;
-            refuses = λ r e. (ap (λ o. o.answer.finding) (leaves ∙ ap (λ F. left_by F next₀ flags₀) e), find-refusals J r e);
+            refuses = λ r e. (ap (λ o. o.answer) (leaves ∙ ap (λ F. left_by F next₀ flags₀) e), find-refusals J r e);
           }
         where
           answers : (R : Rewriting) → find J ≡ found R
-              → (r.finding ≡ Finding.Found R.standings R.states) × ListsGiven (rewritten R) lists next flags R.states table N
+              → (r ≡ found_answer R) × ListsGiven (rewritten R) lists next flags R.states table N
           answers R e =
               let s = leaves ∙ ap (λ F. left_by F next₀ flags₀) e in
               let t : next ≡ written 4096 R.table next₀ = ap (λ o. o.table) s in
@@ -90,7 +90,7 @@ module _ (J : Job) (formed : WellFormed J) {follow enter sizes accepting : List 
               let table-size = z.table (omega arith) in
               let flags-size = z.flags in
               let d = finds-decides J R (find-finds J formed (omega arith) R e) in (
-                ap (λ o. o.answer.finding) s,
+                ap (λ o. o.answer) s,
                 record {
                   is-table = proper;
                   few-lists = few;

@@ -57,6 +57,7 @@ pub mod StateSearch
 pub mod LinksCore
 pub mod LinksCoreLaws
 pub mod LinksOperation
+pub mod JobTables
 pub mod AnswerChecks
 pub mod AnswerReading
 pub mod LinksOperationLaws

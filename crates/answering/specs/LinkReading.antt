@@ -1,7 +1,6 @@
--- The links of a recording are read one after the other: the link read stands at the first triple that leaves the recording or a later one,
+-- The links of a recording are read one after the other: what is read stands at the first triple that leaves the recording or a later one,
 -- or behind it.
-use Rattle.std.specs.Prelude.{◌≡◌, ℕ, suc, ◌+◌, ◌*◌, ◌/◌, ◌<◌, ◌≤◌, true, false, ◌⊎◌, ◌∷◌, length, slice_index}
-use Rattle.std.proofs.lemmas.Bool.{false≢true}
+use Rattle.std.specs.Prelude.{◌≡◌, ℕ, suc, ◌+◌, ◌*◌, ◌/◌, ◌<◌, ◌≤◌, true, ◌⊎◌, Option, Some, None, ◌∷◌, length, slice_index}
 use Rattle.std.proofs.Common.{inl, inr, sym, ap, ◌∙◌, subst₂, add-one, arith}
 use Rattle.std.specs.Prelude.{refl}
 use Rattle.std.proofs.Math.Decide.{ℕ_discrete, dec_lt}
@@ -11,80 +10,57 @@ use Rattle.theory.specs.Graph.{Table, Linked}
 use Rattle.answering.specs.Table.{is_table}
 use Rattle.answering.specs.TableLaws.{is-table-exactly, table-ends, table-labels, linked-at}
 use Rattle.answering.specs.Links.{leaves, FirstLink, InRange}
-use Rattle.answering.specs.LinkAt.{link_at, place_after, FirstLeaving, place-next, link-place, link-there, link-beyond, link-other}
+use Rattle.answering.specs.LinkAt.{link_at, place_after, place-next, link-there, link-beyond, link-other}
 use Rattle.answering.specs.declared.links.Link.{Link}
 
-pub record Reading (t : Table) (x : ℕ) (link : Link) : Type 0 where
+pub record Reading (t : Table) (x i : ℕ) (leaving : Option Link) : Type 0 where
   pub first : ℕ
   pub begins : FirstLink t x first
-  pub onward : first ≤ link.at
-  pub reads : link ≡ link_at t link.at x
+  pub onward : first ≤ i
+  pub reads : leaving ≡ link_at t i x
 
--- A link of x stands at its place, and this is it.
-pub record Leaves (t : Table) (x : ℕ) (link : Link) : Type 0 where
-  pub within : link.at < length t / 3
-  pub from : leaves t link.at ≡ x
-  pub label : link.label ≡ slice_index t (3 * link.at + 1)
-  pub end : link.end ≡ slice_index t (3 * link.at + 2)
+-- A link of x stands at the place, and this is it.
+pub record Leaves (t : Table) (x i : ℕ) (link : Link) : Type 0 where
+  pub place : link.at ≡ i
+  pub within : i < length t / 3
+  pub from : leaves t i ≡ x
+  pub label : link.label ≡ slice_index t (3 * i + 1)
+  pub end : link.end ≡ slice_index t (3 * i + 2)
 
--- No link of x stands at its place.
-abbrev pub Ended : Table → ℕ → Link → Type 0
-Ended t x link = (length t / 3 ≤ link.at) ⊎ ((link.at < length t / 3) × ¬ (leaves t link.at ≡ x))
+-- No link of x stands at the place.
+abbrev pub Ended : Table → ℕ → ℕ → Type 0
+Ended t x i = (length t / 3 ≤ i) ⊎ ((i < length t / 3) × ¬ (leaves t i ≡ x))
 
-module _ {t : Table} {x : ℕ} {link : Link} where
-  pub first-place : (f : FirstLeaving t x link) → link.at ≡ f.first
-  first-place f = ap (λ l. l.at) f.reads ∙ link-place t f.first x
+module _ {t : Table} {x i : ℕ} {leaving : Option Link} (r : Reading t x i leaving) where
+  pub reading-leaves : {link : Link} → leaving ≡ Some link → Leaves t x i link
+  reading-leaves {link} told = go (dec_lt i (length t / 3)) (ℕ_discrete (leaves t i) x)
+    where
+      go : Dec (i < length t / 3) → Dec (leaves t i ≡ x) → Leaves t x i link
+      go (no h) d = let e = r.reads ∙ link-beyond t i x (omega arith) in cc
+      go (yes h) (no d) = let e = r.reads ∙ link-other t i x h d in cc
+      go (yes h) (yes q) =
+          let f = r.reads ∙ link-there t i x h q in
+          let e : link ≡ record { at = i; label = slice_index t (3 * i + 1); end = slice_index t (3 * i + 2) } = cc in
+          record { place = ap (λ l. l.at) e; within = h; from = q; label = ap (λ l. l.label) e; end = ap (λ l. l.end) e }
 
-  pub reading-first : FirstLeaving t x link → Reading t x link
-  reading-first f = record {
-    first = f.first;
-    begins = f.begins;
-    onward = omega (arith, first-place f);
-    reads = f.reads ∙ ap (λ i. link_at t i x) (sym (first-place f));
-  }
+  pub reading-ended : leaving ≡ None → Ended t x i
+  reading-ended told = go (dec_lt i (length t / 3)) (ℕ_discrete (leaves t i) x)
+    where
+      go : Dec (i < length t / 3) → Dec (leaves t i ≡ x) → Ended t x i
+      go (no h) d = inl (omega arith)
+      go (yes h) (no d) = inr (h, d)
+      go (yes h) (yes q) = let e = r.reads ∙ link-there t i x h q in cc
 
-  module _ (r : Reading t x link) where
-    told-by : Leaves t x link ⊎ Ended t x link → (link.leaves ≡ true → Leaves t x link) × (link.leaves ≡ false → Ended t x link)
-    told-by (inl h) =
-        let same = r.reads ∙ link-there t link.at x h.within h.from in
-        (λ e. h, λ e. absurd (false≢true (sym e ∙ ap (λ l. l.leaves) same)))
-    told-by (inr (inl h)) =
-        let same = r.reads ∙ link-beyond t link.at x h in
-        (λ e. absurd (false≢true (sym (ap (λ l. l.leaves) same) ∙ e)), λ e. inl h)
-    told-by (inr (inr (h, d))) =
-        let same = r.reads ∙ link-other t link.at x h d in
-        (λ e. absurd (false≢true (sym (ap (λ l. l.leaves) same) ∙ e)), λ e. inr (h, d))
-
-    cases : Leaves t x link ⊎ Ended t x link
-    cases = go (dec_lt link.at (length t / 3)) (ℕ_discrete (leaves t link.at) x)
-      where
-        go : Dec (link.at < length t / 3) → Dec (leaves t link.at ≡ x) → Leaves t x link ⊎ Ended t x link
-        go (no h) d = inr (inl (omega arith))
-        go (yes h) (no d) = inr (inr (h, d))
-        go (yes h) (yes e) =
-            let same = r.reads ∙ link-there t link.at x h e in
-            inl (record { within = h; from = e; label = ap (λ l. l.label) same; end = ap (λ l. l.end) same })
-
-    pub reading-leaves : link.leaves ≡ true → Leaves t x link
-    reading-leaves = (told-by cases).0
-
-    pub reading-ended : link.leaves ≡ false → Ended t x link
-    reading-ended = (told-by cases).1
-
-    -- The next link is read one place further.
-    module _ {next : Link} (leaving : link.leaves ≡ true) (read : next ≡ link_at t (place_after t link.at) x) where
-      one_further : place_after t link.at ≡ link.at + 1
-      one_further = place-next t link.at (reading-leaves leaving).within
-
-      pub next_place : next.at ≡ link.at + 1
-      next_place = ap (λ l. l.at) read ∙ link-place t (place_after t link.at) x ∙ one_further
-
-      pub reading-next : Reading t x next
-      reading-next = record {
+  -- The next link is read one place further.
+  pub reading-next : {link : Link} {next : Option Link} → leaving ≡ Some link → next ≡ link_at t (place_after t link.at) x
+      → Reading t x (i + 1) next
+  reading-next {link} told read =
+      let l = reading-leaves told in
+      record {
         first = r.first;
         begins = r.begins;
-        onward = omega (arith, r.onward, next_place);
-        reads = read ∙ ap (λ i. link_at t i x) (one_further ∙ sym next_place);
+        onward = omega (arith, r.onward);
+        reads = read ∙ ap (λ i. link_at t i x) (ap (place_after t) l.place ∙ place-next t i l.within);
       }
 
 -- The links of a table by the numbers of their triples.

@@ -1,5 +1,5 @@
 -- What the view of the links says, by its place.
-use Rattle.std.specs.Prelude.{ℕ, List}
+use Rattle.std.specs.Prelude.{ℕ, List, Option}
 use Rattle.std.specs.Borrow.{Bor}
 use Rattle.answering.specs.LinkAt.{link_at, place_after}
 use Rattle.answering.specs.declared.links.Link.{Link}
@@ -9,8 +9,8 @@ use Rattle.answering.specs.declared.link_view.LinkView.{LinkView}
 abbrev pub view_at : Bor (List ℕ) → ℕ → LinkView
 view_at t i = record { table = t; at = i }
 
--- What x has at the view's place.
-abbrev pub current : LinkView → ℕ → Link
+-- The link at the view's place, where it leaves x.
+abbrev pub current : LinkView → ℕ → Option Link
 current v x = link_at v.table.now v.at x
 
 -- The same triples at the place after.

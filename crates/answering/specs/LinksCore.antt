@@ -1,12 +1,10 @@
 -- What marking by the standings of an automaton promises (document 01, "Answer from links"): the marks of its standings as the states of a
 -- machine, or that there are more than 64 of them; the workspace is zero at the end.
-use Rattle.std.specs.Prelude.{◌≡◌, ℕ, ◌<◌, ◌≤◌, true, List, ◌++◌, length, drop, replicate}
+use Rattle.std.specs.Prelude.{◌≡◌, ℕ, ◌<◌, ◌≤◌, true, Option, Some, None, List, ◌++◌, length, drop, replicate}
 use Rattle.theory.specs.Graph.{Table}
 use Rattle.theory.specs.Automaton.{Automaton}
 use Rattle.theory.specs.Exploration.{Entry, all, over}
 use Rattle.finding.specs.Standings.{standings, values}
-use Rattle.answering.specs.declared.links_core.Links.{Links}
-use Rattle.answering.specs.declared.links_core.Links.TheVariants.{Marked, Over}
 use Rattle.answering.specs.Table.{is_table}
 use Rattle.answering.specs.Product.{Machine, marks}
 use Rattle.answering.specs.Marked.{ones}
@@ -37,10 +35,10 @@ pub record LinksGiven (enter : List ℕ) (labels : ℕ) (table : Table) (N : ℕ
   pub enters : labels ≤ length enter
   pub is-table : is_table N labels table ≡ true
 
-pub record LinksTold (A : Automaton) (labels N : ℕ) (table : Table) (start : ℕ) (before workspace : List ℕ) (r : Links)
+pub record LinksTold (A : Automaton) (labels N : ℕ) (table : Table) (start : ℕ) (before workspace : List ℕ) (r : Option ℕ)
     (after workspace' : List ℕ) : Type 0 where
-  pub told : (l : List (Entry ℕ)) → standings A labels 64 ≡ all l → r ≡ Marked (ones (marks (link_machine A (values l)) N table start))
+  pub told : (l : List (Entry ℕ)) → standings A labels 64 ≡ all l → r ≡ Some (ones (marks (link_machine A (values l)) N table start))
   pub marked : (l : List (Entry ℕ)) → standings A labels 64 ≡ all l → after ≡ marks (link_machine A (values l)) N table start ++ drop N before
-  pub is_over : standings A labels 64 ≡ over → r ≡ Over
+  pub is_over : standings A labels 64 ≡ over → r ≡ None
   pub unmarked : standings A labels 64 ≡ over → after ≡ replicate N 0 ++ drop N before
   pub cleared : workspace' ≡ replicate N 0 ++ drop N workspace

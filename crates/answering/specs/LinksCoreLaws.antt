@@ -1,5 +1,5 @@
 -- The steps of marking by the places of an automaton (LinksCore): what the search and the marks promise together, and the standings told.
-use Rattle.std.specs.Prelude.{◌≡◌, ℕ, ◌*◌, ◌^◌, ◌<◌, List, [], ◌∷◌, ◌++◌, drop, replicate, ◌≢◌, slice_index}
+use Rattle.std.specs.Prelude.{Some, None, ◌≡◌, ℕ, ◌*◌, ◌^◌, ◌<◌, List, [], ◌∷◌, ◌++◌, drop, replicate, ◌≢◌, slice_index}
 use Rattle.std.specs.Prelude.{refl}
 use Rattle.std.proofs.Common.{sym, ap, ap₂, ◌∙◌, subst, arith, take-append-drop}
 use Rattle.theory.specs.Graph.{Table}
@@ -8,7 +8,6 @@ use Rattle.theory.specs.Exploration.{Entry, Exploration, all, over}
 use Rattle.finding.specs.Standings.{standings, values}
 use Rattle.finding.specs.Plain.{plain}
 use Rattle.finding.specs.Cleared.{Cleared}
-use Rattle.answering.specs.declared.links_core.Links.TheVariants.{Marked, Over}
 use Rattle.answering.specs.Table.{IsTable}
 use Rattle.answering.specs.TableLaws.{is-table-exactly}
 use Rattle.answering.specs.Answer.{link_machine}
@@ -62,10 +61,10 @@ module _ (follow enter : List ℕ) (accepting labels : ℕ) where
 
     pub links-marked : {start : ℕ} {before workspace after workspace' : List ℕ} {r : ℕ} → ¬ (standings A labels 64 ≡ over)
         → StandingsMarked A labels N table start before workspace after workspace' r
-        → LinksTold A labels N table start before workspace (Marked r) after workspace'
+        → LinksTold A labels N table start before workspace (Some r) after workspace'
     links-marked {workspace = workspace} {workspace' = workspace'} few m =
         record {
-          told = λ l e. ap Marked (m l e).told;
+          told = λ l e. ap Some (m l e).told;
           marked = λ l e. (m l e).marked;
           is_over = λ e. absurd (few e);
           unmarked = λ e. absurd (few e);
@@ -78,7 +77,7 @@ module _ (follow enter : List ℕ) (accepting labels : ℕ) where
 
     pub links-over : {start : ℕ} {before workspace after workspace' : List ℕ} → standings A labels 64 ≡ over
         → Lent N start before workspace → Cleared N before after → Cleared N workspace workspace'
-        → LinksTold A labels N table start before workspace Over after workspace'
+        → LinksTold A labels N table start before workspace None after workspace'
     links-over o l c d =
         record {
           told = λ l e. absurd (not-all l e o);

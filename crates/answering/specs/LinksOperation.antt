@@ -1,6 +1,6 @@
 -- Answer from links (document 01): what is told and what the lent marks and words hold at the end, from the job text on; and what it shares
 -- with Answer from lists, whose workspace has more words.
-use Rattle.std.specs.Prelude.{◌≡◌, ℕ, ◌≤◌, true, false, ◌&&◌, ◌||◌, List, [], ◌∷◌, ◌++◌, length, drop, replicate, ◌==◌, nat_le, slice_index}
+use Rattle.std.specs.Prelude.{◌≡◌, ℕ, ◌≤◌, true, false, ◌&&◌, ◌||◌, List, [], ◌∷◌, ◌++◌, Result, length, drop, replicate, ◌==◌, nat_le}
 use Rattle.theory.specs.Expression.{Expression}
 use Rattle.theory.specs.Job.{Job}
 use Rattle.theory.specs.Graph.{Table}
@@ -9,12 +9,12 @@ use Rattle.syntax.specs.declared.refusal.Refusal.TheVariants.{BadRecordings, Buf
 use Rattle.syntax.specs.Byte.{Bytes}
 use Rattle.syntax.specs.Number.{number}
 use Rattle.syntax.specs.Reply.{Reply, given, refusing}
+use Rattle.reading.specs.declared.answer.Refused.{Refused}
+use Rattle.reading.specs.Answering.{value_reply}
 use Rattle.reading.specs.JobText.{job_of}
 use Rattle.reading.specs.Read.{Reading, job, read}
 use Rattle.finding.specs.Standings.{standings}
 use Rattle.finding.specs.StoredAutomata.{Stored}
-use Rattle.answering.specs.declared.links_operation.LinksAnswer.{LinksAnswer}
-use Rattle.answering.specs.declared.links_operation.LinksAnswer.TheVariants.{Marked, Refused}
 use Rattle.answering.specs.Marked.{Chosen}
 use Rattle.answering.specs.Marked.{ones}
 use Rattle.answering.specs.AnswerJob.{Marking, marked, refused, marked_links, links_job}
@@ -29,9 +29,8 @@ abbrev pub outcome : Reply → List ℕ → List ℕ → Outcome
 outcome r m w = record { reply = r; marks = m; workspace = w }
 
 -- The reply that an answer is: the number of ones.
-abbrev pub links_reply : LinksAnswer → Reply
-links_reply (Marked ones) = given (ones ∷ [])
-links_reply (Refused r n) = refusing r n
+abbrev pub links_reply : Result ℕ Refused → Reply
+links_reply = value_reply
 
 -- What a job's marks or refusal leave, where the named parts are N marks and so many words. Refusals 9 and 10 zero the named parts, every
 -- other refusal changes nothing, and what lies beyond the named parts never changes.
@@ -76,10 +75,6 @@ pub record Sized (N : ℕ) (before workspace : List ℕ) : Type 0 where
   pub few : N ≤ 4096
   pub marks-fit : N ≤ length before
   pub room : N ≤ length workspace
-
--- No expression of the tables has more occurrences than a row has room for.
-abbrev pub SizesFit : ℕ → List ℕ → Type 0
-SizesFit lists sizes = (x : ℕ) → x ≤ lists → slice_index sizes x ≤ 63
 
 -- The tables hold the automata of the job's expressions.
 pub record JobGiven (J : Job) (follow enter sizes accepting : List ℕ) (labels lists : ℕ) : Type 0 where

@@ -1,5 +1,5 @@
 -- The steps of Answer from links (LinksOperation).
-use Rattle.std.specs.Prelude.{◌≡◌, ℕ, suc, ◌+◌, ◌*◌, ◌<◌, ◌≤◌, true, false, List, [], ◌∷◌, length, take, drop, slice_index}
+use Rattle.std.specs.Prelude.{Result, ok_or, Option, ◌≡◌, ℕ, suc, ◌+◌, ◌*◌, ◌<◌, ◌≤◌, true, false, List, length, take, drop, slice_index}
 use Rattle.std.specs.Prelude.{refl}
 use Rattle.std.proofs.Common.{sym, ◌∙◌, subst, arith, length-take, length-drop}
 use Rattle.std.proofs.Math.Path.{ap}
@@ -11,8 +11,9 @@ use Rattle.theory.specs.Exploration.{Exploration, all, over}
 use Rattle.syntax.specs.declared.refusal.Refusal.TheVariants.{TooManyStandings, BadTable, BadStart, NoExpression}
 use Rattle.finding.specs.Standings.{standings}
 use Rattle.finding.specs.Plain.{plain}
-use Rattle.syntax.specs.Reply.{Reply, given, refusing}
-use Rattle.answering.specs.declared.links_core.Links.{Links}
+use Rattle.syntax.specs.Reply.{Reply, refusing}
+use Rattle.reading.specs.declared.answer.Refused.{Refused}
+use Rattle.reading.specs.Answering.{unlined, value_reply}
 use Rattle.answering.specs.Table.{is_table}
 use Rattle.answering.specs.AnswerJob.{Marking, checked, marked_links, links_of, links_job}
 use Rattle.answering.specs.MarkedLaws.{chosen-exactly, chosen-absent, chosen-within, chosen-some}
@@ -22,11 +23,10 @@ use Rattle.answering.specs.AnswerChecks.{bad-table, bad-start, both-proper}
 
 -- An expression.
 
-abbrev pub answered_of : Links → Reply
-answered_of (Links.Marked n) = given (n ∷ [])
-answered_of Links.Over = refusing TooManyStandings 0
+abbrev answered_of : Option ℕ → Reply
+answered_of r = value_reply (ok_or r (unlined TooManyStandings))
 
-module _ {labels : ℕ} {table : Table} {N start : ℕ} {before workspace after workspace' : List ℕ} {r : Links} where
+module _ {labels : ℕ} {table : Table} {N start : ℕ} {before workspace after workspace' : List ℕ} {r : Option ℕ} where
   links-left : (e : Expression) → LinksTold (glushkov e) labels N table start before workspace r after workspace'
       → outcome (answered_of r) after workspace' ≡ left N before workspace (marked_links e N table start (standings (glushkov e) labels 64))
   links-left e t = go (standings (glushkov e) labels 64) refl
@@ -42,9 +42,9 @@ module _ {labels : ℕ} {table : Table} {N start : ℕ} {before workspace after 
       (t : LinksGiven (take n (drop (32 * x) enter)) labels table N
       → LinksTold (plain (take m (drop (64 * x) follow)) (take n (drop (32 * x) enter)) (slice_index accepting x)) labels N table start
       before workspace r after workspace') where
-    expression-told : ExpressionTold follow enter sizes accepting x labels table N start before workspace
+    rows-told : ExpressionTold follow enter sizes accepting x labels table N start before workspace
         (outcome (answered_of r) after workspace')
-    expression-told =
+    rows-told =
         let g : LinksGiven (take n (drop (32 * x) enter)) labels table N = record {
           few-labels = few;
           enters = omega (arith, length-take n (drop (32 * x) enter), length-drop (32 * x) enter);
@@ -57,18 +57,13 @@ module _ {labels : ℕ} {table : Table} {N start : ℕ} {before workspace after 
           told = λ e s. links-left e (subst (λ B. LinksTold B labels N table start before workspace r after workspace') s.same u);
         }
 
-    pub expression-marked : {ones : ℕ} → r ≡ Links.Marked ones
-        → ExpressionTold follow enter sizes accepting x labels table N start before workspace (outcome (given (ones ∷ [])) after workspace')
-    expression-marked e =
-        subst (λ r. ExpressionTold follow enter sizes accepting x labels table N start before workspace (outcome (answered_of r) after workspace'))
-        e expression-told
-
-    pub expression-over : r ≡ Links.Over
-        → ExpressionTold follow enter sizes accepting x labels table N start before workspace
-        (outcome (refusing TooManyStandings 0) after workspace')
-    expression-over e =
-        subst (λ r. ExpressionTold follow enter sizes accepting x labels table N start before workspace (outcome (answered_of r) after workspace'))
-        e expression-told
+    pub expression-told : {answer : Result ℕ Refused} → answer ≡ ok_or r (unlined TooManyStandings)
+        → ExpressionTold follow enter sizes accepting x labels table N start before workspace (outcome (value_reply answer) after workspace')
+    expression-told e =
+        subst
+        (λ answer. ExpressionTold follow enter sizes accepting x labels table N start before workspace
+        (outcome (value_reply answer) after workspace'))
+        (sym e) rows-told
 
 -- A job.
 

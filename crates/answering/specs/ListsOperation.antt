@@ -1,25 +1,25 @@
 -- Answer from lists (document 01): what is told and what the lent marks and words, 4 for each recording, hold at the end, from the job text
 -- on.
-use Rattle.std.specs.Prelude.{◌≡◌, ℕ, ◌*◌, ◌≤◌, ◌⊎◌, List, [], ◌∷◌, length}
+use Rattle.std.specs.Prelude.{◌≡◌, ℕ, ◌*◌, ◌≤◌, ◌⊎◌, Result, List, length}
 use Rattle.theory.specs.Graph.{Table}
 use Rattle.syntax.specs.declared.refusal.Refusal.{Refusal}
 use Rattle.syntax.specs.declared.refusal.Refusal.TheVariants.{TooManyStandings, TooManyStates}
 use Rattle.syntax.specs.Byte.{Bytes}
-use Rattle.syntax.specs.Reply.{Reply, given, refusing}
+use Rattle.syntax.specs.Reply.{Reply}
 use Rattle.reading.specs.Read.{Reading, read}
-use Rattle.finding.specs.declared.answer.Finding.{Finding}
+use Rattle.reading.specs.declared.answer.Refused.{Refused}
+use Rattle.reading.specs.Answering.{value_reply}
+use Rattle.finding.specs.declared.answer.Found.{Found as Told}
 use Rattle.finding.specs.Find.{Rewriting, Found, found}
+use Rattle.finding.specs.Outcome.{found_answer, refused_with}
 use Rattle.finding.specs.Rewritten.{rewritten}
-use Rattle.answering.specs.declared.lists_operation.ListsAnswer.{ListsAnswer}
-use Rattle.answering.specs.declared.lists_operation.ListsAnswer.TheVariants.{Marked, Refused}
 use Rattle.answering.specs.AnswerJob.{Marking, lists_job}
 use Rattle.answering.specs.LinksOperation.{Outcome, left_of, by_reading, lent_checked}
 use Rattle.answering.specs.ListsCore.{ListsGiven}
 
 -- The reply that an answer is: the number of ones.
-abbrev pub lists_reply : ListsAnswer → Reply
-lists_reply (Marked ones) = given (ones ∷ [])
-lists_reply (Refused r n) = refusing r n
+abbrev pub lists_reply : Result ℕ Refused → Reply
+lists_reply = value_reply
 
 abbrev pub lists_left : ℕ → List ℕ → List ℕ → Marking → Outcome
 lists_left N = left_of N (4 * N)
@@ -39,8 +39,8 @@ pub record ListsSized (N : ℕ) (before workspace : List ℕ) : Type 0 where
   pub room : 4 * N ≤ length workspace
 
 -- What Find gives is told and left in the memory.
-pub record FoundGiven (F : Found) (lists : ℕ) (finding : Finding) (next flags : List ℕ) (table : Table) (N : ℕ) : Type 0 where
+pub record FoundGiven (F : Found) (lists : ℕ) (told : Result Told Refused) (next flags : List ℕ) (table : Table) (N : ℕ) : Type 0 where
   pub answered : (R : Rewriting) → F ≡ found R
-      → (finding ≡ Finding.Found R.standings R.states) × ListsGiven (rewritten R) lists next flags R.states table N
+      → (told ≡ found_answer R) × ListsGiven (rewritten R) lists next flags R.states table N
   pub refuses : (r : Refusal) → F ≡ Found.refused r
-      → (finding ≡ Finding.Refused r 0) × ((r ≡ TooManyStandings) ⊎ (r ≡ TooManyStates))
+      → (told ≡ refused_with r 0) × ((r ≡ TooManyStandings) ⊎ (r ≡ TooManyStates))

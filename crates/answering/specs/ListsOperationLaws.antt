@@ -1,5 +1,5 @@
 -- The steps of Answer from lists (ListsOperation).
-use Rattle.std.specs.Prelude.{◌≡◌, ℕ, ◌*◌, ◌<◌, ◌≤◌, true, false, ◌⊎◌, List, [], ◌∷◌, ◌++◌, length, drop, replicate}
+use Rattle.std.specs.Prelude.{Result, Ok, Err, ◌≡◌, ℕ, ◌*◌, ◌<◌, ◌≤◌, true, false, ◌⊎◌, List, [], ◌∷◌, ◌++◌, length, drop, replicate}
 use Rattle.std.proofs.Common.{inl, inr, sym, ◌∙◌, subst, arith}
 use Rattle.std.specs.Prelude.{refl}
 use Rattle.std.proofs.Math.Path.{ap}
@@ -7,7 +7,11 @@ use Rattle.theory.specs.Job.{Job}
 use Rattle.theory.specs.Graph.{Table}
 use Rattle.syntax.specs.declared.refusal.Refusal.{Refusal}
 use Rattle.syntax.specs.declared.refusal.Refusal.TheVariants.{TooManyStandings, TooManyStates, BadTable, BadStart}
-use Rattle.finding.specs.declared.answer.Finding.{Finding}
+use Rattle.reading.specs.declared.answer.Refused.{Refused}
+use Rattle.finding.specs.declared.answer.Found.{Found as Told}
+use Rattle.finding.specs.Outcome.{counted}
+use Rattle.reading.specs.Answering.{refused_at}
+use Rattle.finding.specs.WordTold.{first_word}
 use Rattle.finding.specs.Find.{Found, found, find}
 use Rattle.finding.specs.Cleared.{Cleared}
 use Rattle.finding.specs.Rewritten.{Rewritten, rewritten}
@@ -24,25 +28,25 @@ clash z = absurd (omega arith)
 
 -- What Find tells.
 
-module _ {F : Found} {lists : ℕ} {finding : Finding} {next flags : List ℕ} {table : Table} {N : ℕ}
-    (g : FoundGiven F lists finding next flags table N) {start : ℕ} {before workspace after workspace' : List ℕ} where
-  pub finding-marked : {m n r : ℕ} → finding ≡ Finding.Found m n
-      → ((R : Rewritten) → ListsGiven R lists next flags n table N → ListsMarked R N table start before workspace after workspace' r)
+module _ {F : Found} {lists : ℕ} {told : Result Told Refused} {next flags : List ℕ} {table : Table} {N : ℕ}
+    (g : FoundGiven F lists told next flags table N) {start : ℕ} {before workspace after workspace' : List ℕ} where
+  pub finding-marked : {t : Told} {r : ℕ} → told ≡ Ok t
+      → ((R : Rewritten) → ListsGiven R lists next flags t.states table N → ListsMarked R N table start before workspace after workspace' r)
       → outcome (given (r ∷ [])) after workspace' ≡ lists_left N before workspace (marked_lists N table start F)
-  finding-marked {m} {n} {r} e t = go F refl
+  finding-marked {t} {r} e marks = go F refl
     where
       go : (G : Found) → F ≡ G → outcome (given (r ∷ [])) after workspace' ≡ lists_left N before workspace (marked_lists N table start G)
       go (Found.refused q) f = let (a, b) = g.refuses q f in clash (cc)
       go (found R) f =
           let (a, b) = g.answered R f in
-          let same : R.states ≡ n = cc in
-          let u = t (rewritten R) (subst (λ n. ListsGiven (rewritten R) lists next flags n table N) same b) in
+          let same : counted R.standings R.states (first_word R.first) ≡ t = cc in
+          let u = marks (rewritten R) (subst (λ (t : Told). ListsGiven (rewritten R) lists next flags t.states table N) same b) in
           λ i. outcome (given ((u.told i) ∷ [])) (u.marked i) (u.cleared i)
 
-  pub finding-refused : {q : Refusal} {n : ℕ} → finding ≡ Finding.Refused q n → ListsLent N start before workspace
+  pub finding-refused : {q : Refused} → told ≡ Err q → ListsLent N start before workspace
       → Cleared N before after → Cleared (4 * N) workspace workspace'
-      → outcome (refusing q 0) after workspace' ≡ lists_left N before workspace (marked_lists N table start F)
-  finding-refused {q} {n} e l c d = go F refl
+      → outcome (refusing q.refusal q.line) after workspace' ≡ lists_left N before workspace (marked_lists N table start F)
+  finding-refused {q} e l c d = go F refl
     where
       zeroed : (r : Refusal) → (r ≡ TooManyStandings) ⊎ (r ≡ TooManyStates)
           → outcome (refusing r 0) (replicate N 0 ++ drop N before) (replicate (4 * N) 0 ++ drop (4 * N) workspace)
@@ -51,12 +55,12 @@ module _ {F : Found} {lists : ℕ} {finding : Finding} {next flags : List ℕ} {
       zeroed r (inr p) = rw p
 
       go : (G : Found) → F ≡ G
-          → outcome (refusing q 0) after workspace' ≡ lists_left N before workspace (marked_lists N table start G)
+          → outcome (refusing q.refusal q.line) after workspace' ≡ lists_left N before workspace (marked_lists N table start G)
       go (found R) f = let (a, b) = g.answered R f in clash (cc)
       go (Found.refused r) f =
           let (a, b) = g.refuses r f in
-          let same : q ≡ r = cc in
-          (λ i. outcome (refusing (same i) 0) (c.enough l.marks-fit i) (d.enough l.room i)) ∙ zeroed r b
+          let same : q ≡ refused_at r 0 = cc in
+          (λ i. outcome (refusing (same i).refusal (same i).line) (c.enough l.marks-fit i) (d.enough l.room i)) ∙ zeroed r b
 
 -- A job.
 

@@ -1,7 +1,7 @@
 -- The laws of marks from words (Marks): a word in common, and the marks one after the other.
 use Rattle.std.specs.Prelude.{◌≡◌, ℕ, zero, suc, ◌+◌, ◌*◌, ◌<◌, ◌≤◌, Bool, true, false, not, ◌||◌, List, [], ◌∷◌, ◌++◌, length, drop, set, ◌==◌, slice_index, slice_set}
 use Rattle.std.proofs.lemmas.Bool.{false≢true, eqb-false}
-use Rattle.std.proofs.Common.{append_assoc, sym, ap₂, ◌∙◌, subst, add-zero, add-one, drop-cons, eq-eqb, ne_eqb}
+use Rattle.std.proofs.Common.{append_assoc, sym, ap₂, ◌∙◌, subst, add-zero, add-one, drop-cons, ne_eqb}
 use Rattle.std.specs.Prelude.{refl}
 use Rattle.std.proofs.Math.Path.{ap}
 use Rattle.std.proofs.Math.Decide.{ℕ_discrete}
@@ -9,6 +9,7 @@ use native.Mathlib.Omega.{arith}
 use Rattle.std.proofs.lemmas.Nat.{and_le_r}
 use Rattle.std.specs.Int.Bits.{or_zero_l, or_add_and}
 use Rattle.std.proofs.lemmas.List.{set_at}
+use Rattle.std.specs.Int.{from_bool}
 use Rattle.theory.specs.Places.{union, intersection}
 use Rattle.answering.specs.Marked.{ones}
 use Rattle.answering.specs.MarksLaws.{mark_of}
@@ -36,12 +37,9 @@ unfolding meets
 meets_word l m y = ap (λ i. not (intersection (slice_index l i) (slice_index m 0) == 0)) (omega arith)
 
 -- The mark is 1 where something is in common.
-
-pub mark-none : (common : ℕ) → common ≡ 0 → 0 ≡ mark_of (not (common == 0))
-mark-none common e = rw (eq-eqb common 0 e)
-
-pub mark-some : (common : ℕ) → ¬ (common ≡ 0) → 1 ≡ mark_of (not (common == 0))
-mark-some common d = rw (ne_eqb common 0 d)
+pub mark-told : (b : Bool) → from_bool b ≡ mark_of b
+mark-told true = refl
+mark-told false = refl
 
 or-true : (a : Bool) → (a || true) ≡ true
 or-true true = refl
@@ -116,6 +114,9 @@ module _ (w : ℕ) (l m : List ℕ) (y : ℕ) (v : ℕ) (e : v ≡ mark_of (meet
       let b : ones (marks_of w l m (y + 1) 0) ≡ ones (marks_of w l m y 0 ++ (v ∷ [])) = ap ones marks-more in
       omega arith
 
-pub mark-at-most : (b : Bool) → mark_of b ≤ 1
+mark-at-most : (b : Bool) → mark_of b ≤ 1
 mark-at-most true = omega arith
 mark-at-most false = omega arith
+
+pub mark-small : {m : ℕ} (b : Bool) → m ≡ mark_of b → m ≤ 1
+mark-small b e = subst (λ n. n ≤ 1) (sym e) (mark-at-most b)

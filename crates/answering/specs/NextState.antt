@@ -1,5 +1,5 @@
 -- The states of a recording one after the other, in words (Pairs): the least from a state on, by the trailing zeros of a word.
-use Rattle.std.specs.Prelude.{◌≡◌, ℕ, ◌+◌, ◌*◌, ◌/◌, ◌%◌, ◌^◌, ◌<◌, ◌≤◌, ◌≢◌, ◌↔◌, List, slice_index}
+use Rattle.std.specs.Prelude.{◌≡◌, ℕ, ◌+◌, ◌*◌, ◌/◌, ◌%◌, ◌^◌, ◌<◌, ◌≤◌, ◌≢◌, ◌↔◌, Option, MatchOption, List, slice_index}
 use Rattle.std.proofs.Common.{subst, arith}
 use Rattle.std.proofs.Math.Decide.{dec_lt}
 use Rattle.std.specs.Int.Count.{count_trailing_zeros}
@@ -8,16 +8,20 @@ use Rattle.theory.specs.PlacesLaws.{member_below}
 use Rattle.places.specs.LeastPlace.{none_from, least-passed, least-here}
 use Rattle.answering.specs.Pairs.{place, Has}
 
--- r is the least state of the recording x from `from` on, of those below `most`; `most` where there is none.
-pub record NextState (w : ℕ) (l : List ℕ) (x from most r : ℕ) : Type 0 where
-  pub onward : from ≤ r
-  pub inside : r ≤ most
-  pub passed : (t : ℕ) → from ≤ t → t < r → ¬ Has w l x t
-  pub had : r < most → Has w l x r
-
 -- The recording has no state from `from` on and before s.
 abbrev pub Passed : ℕ → List ℕ → ℕ → ℕ → ℕ → Type 0
 Passed w l x from s = (t : ℕ) → from ≤ t → t < s → ¬ Has w l x t
+
+-- s is its least state from `from` on, of those below `most`.
+pub record LeastState (w : ℕ) (l : List ℕ) (x from most s : ℕ) : Type 0 where
+  pub onward : from ≤ s
+  pub inside : s < most
+  pub passed : Passed w l x from s
+  pub had : Has w l x s
+
+-- That state, where there is one.
+abbrev pub NextState : ℕ → List ℕ → ℕ → ℕ → ℕ → Option ℕ → Type 0
+NextState w l x from most r = MatchOption r (Passed w l x from most) (LeastState w l x from most)
 
 module _ (w : ℕ) (l : List ℕ) (x s : ℕ) where
   -- The word of the state s, and how far behind s its next state stands.
@@ -55,7 +59,7 @@ module _ (w : ℕ) (l : List ℕ) (x s : ℕ) where
           none_before (s + behind)
           (λ t a b m. least-passed word_of (s % 64) (t % 64) (omega arith) (omega arith) ((in-word t (omega arith)).0 m))
 
-      pub next-found : (most : ℕ) → from ≤ s → s + behind < most → NextState w l x from most (s + behind)
+      pub next-found : (most : ℕ) → from ≤ s → s + behind < most → LeastState w l x from most (s + behind)
       next-found most f h =
           let i = inside-word in
           let e : s % 64 + behind ≡ (s + behind) % 64 = omega arith in
@@ -63,18 +67,11 @@ module _ (w : ℕ) (l : List ℕ) (x s : ℕ) where
             onward = omega arith;
             inside = omega arith;
             passed = passed-behind;
-            had = λ k. (in-word (s + behind) (omega arith)).1 (subst (λ z. Member z word_of) e (least-here word_of (s % 64) small some));
+            had = (in-word (s + behind) (omega arith)).1 (subst (λ z. Member z word_of) e (least-here word_of (s % 64) small some));
           }
 
-      pub next-over : (most : ℕ) → from ≤ most → most ≤ s + behind → NextState w l x from most most
-      next-over most f h =
-          record {
-            onward = f;
-            inside = omega arith;
-            passed = λ t a b. passed-behind t a (omega arith);
-            had = λ k. absurd (omega arith);
-          }
+      pub next-over : (most : ℕ) → most ≤ s + behind → Passed w l x from most
+      next-over most h t a b = passed-behind t a (omega arith)
 
-pub next-none : (w : ℕ) (l : List ℕ) (x from most s : ℕ) → from ≤ most → most ≤ s → Passed w l x from s → NextState w l x from most most
-next-none w l x from most s f h p =
-    record { onward = f; inside = omega arith; passed = λ t a b. p t a (omega arith); had = λ k. absurd (omega arith) }
+pub next-none : (w : ℕ) (l : List ℕ) (x from most s : ℕ) → most ≤ s → Passed w l x from s → Passed w l x from most
+next-none w l x from most s h p t a b = p t a (omega arith)

@@ -1,6 +1,6 @@
 -- The steps of the search over sets of states (SetSearch): the next states of all that is pending at a recording, one link from these, and
 -- all links of the recording.
-use Rattle.std.specs.Prelude.{◌≡◌, ℕ, ◌+◌, ◌*◌, ◌/◌, ◌%◌, ◌<◌, ◌≤◌, true, false, ◌⊎◌, ◌↔◌, List, length, slice_index, slice_index_or, slice_set}
+use Rattle.std.specs.Prelude.{◌≡◌, ℕ, ◌+◌, ◌-◌, ◌*◌, ◌/◌, ◌%◌, ◌<◌, ◌≤◌, ◌⊎◌, ◌↔◌, Option, Some, None, MatchOption, List, refl, length, slice_index, slice_index_or, slice_set}
 use Rattle.std.proofs.Math.Logic.{inl, inr}
 use Rattle.std.proofs.Common.{sym, ap, ◌∙◌, subst₂, mul_assoc, mul-add, arith}
 use Rattle.std.proofs.Math.Path.{subst}
@@ -10,12 +10,13 @@ use Rattle.theory.specs.Places.{Member, union}
 use Rattle.theory.specs.PlacesLaws.{member-none, member_union, dec_member}
 use Rattle.theory.specs.PlacesWithin.{member-without}
 use Rattle.answering.specs.ProductLaws.{node-below}
-use Rattle.answering.specs.Links.{leaves, SortedByFrom}
-use Rattle.answering.specs.LinkAt.{link_at, place_after, FirstLeaving}
-use Rattle.answering.specs.LinkReading.{Reading, Ended, first-place, next_place, reading-leaves, reading-ended}
+use Rattle.answering.specs.Links.{leaves, FirstLink, SortedByFrom}
+use Rattle.answering.specs.LinkAt.{link_at, place_after}
+use Rattle.answering.specs.LinkReading.{Reading, Leaves, Ended, reading-leaves, reading-ended, reading-next}
 use Rattle.answering.specs.LinkReading.{linked-index, linked-triple}
 use Rattle.answering.specs.declared.links.Link.{Link}
 use Rattle.answering.specs.SetSearch.{Steps}
+use Rattle.answering.specs.NextState.{NextState}
 use Rattle.answering.specs.Pairs.{place, Has, row_below, room, room-less}
 use Rattle.answering.specs.WordsFrom.{SomeFrom, Zeroed}
 use Rattle.answering.specs.Waiting.{Waiting, waiting-free, row_stays, row-push}
@@ -105,6 +106,26 @@ spread-skip {w} {k} {Step} {x} {s} {r} {pending} {Image} h v d = record {
     below : (n : ℕ) → n < r → Has w pending x n → Dec (n < s) → n < s
     below n c p (yes e) = e
     below n c p (no e) = absurd (d n (omega arith) c p)
+
+-- The next states of those before the state that comes next, or of all where none comes.
+abbrev pub Spreads : ℕ → ℕ → (ℕ → ℕ → ℕ → Type 0) → ℕ → ℕ → List ℕ → (ℕ → ℕ → Type 0) → Option ℕ → Type 0
+Spreads w k Step x states pending Image next =
+    MatchOption next (Spread w k Step x states pending Image) (λ s. (s < states) × Has w pending x s × Spread w k Step x s pending Image)
+
+pub spread-next : {w k : ℕ} {Step : ℕ → ℕ → ℕ → Type 0} {x s states : ℕ} {pending : List ℕ} {Image : ℕ → ℕ → Type 0} (next : Option ℕ)
+    → s ≤ states → Spread w k Step x s pending Image → NextState w pending x s states next → Spreads w k Step x states pending Image next
+spread-next None h v p = spread-skip h v p
+spread-next (Some s) h v f = (f.inside, f.had, spread-skip f.onward v f.passed)
+
+-- How many states there are from the next one on.
+abbrev pub states_left : ℕ → Option ℕ → ℕ
+states_left states None = 0
+states_left states (Some s) = states - s
+
+pub states-less : (w : ℕ) (pending : List ℕ) (x : ℕ) {s states : ℕ} (next : Option ℕ) → s < states → NextState w pending x (s + 1) states next
+    → states_left states next < states - s
+states-less w pending x None h p = omega arith
+states-less w pending x (Some s) h f = omega (arith, f.onward, f.inside)
 
 -- The states of an image are added at one recording.
 
@@ -263,11 +284,11 @@ pub record RowsGoing (w N k : ℕ) (table : Table) (x : ℕ) (Image : ℕ → �
       → RowReached w (Image (slice_index table (3 * j + 1))) (slice_index table (3 * j + 2)) reached'
 
 module _ {w N k : ℕ} {table : Table} {x : ℕ} {Image : ℕ → ℕ → Type 0} {R P : List ℕ} {h : ℕ} where
-  pub rows_none : {link : Link} {S : List ℕ} → Ready w N R P S h → FirstLeaving table x link
-      → RowsGoing w N k table x Image link.at R P h R P S h
+  pub rows_none : {first : ℕ} {S : List ℕ} → Ready w N R P S h → FirstLink table x first
+      → RowsGoing w N k table x Image first R P h R P S h
   rows_none r f = record {
     grown = grown-none (ByRows N k table x Image) r;
-    all = λ sorted j l e. absurd (f.begins.before j (omega (arith, l, first-place f)) e);
+    all = λ sorted j l e. absurd (f.before j (omega arith) e);
   }
 
   row-followed : {i a y : ℕ} {R' P' S' R'' P'' S'' : List ℕ} {h' h'' : ℕ} → i < length table / 3 → leaves table i ≡ x
@@ -298,16 +319,6 @@ module _ {w N k : ℕ} {table : Table} {x : ℕ} {Image : ℕ → ℕ → Type 0
           (f.all (subst (λ a. a < k) qa c) (subst (λ y. y < N) qy m))
       reach sorted j b (no q) d c m = λ t o u. f.grown.kept _ _ (g.all sorted j (omega arith) d c m t o u)
 
-  pub rows_next : {link next : Link} {R' P' S' R'' P'' S'' : List ℕ} {h' h'' : ℕ} → Reading table x link → link.leaves ≡ true
-      → next ≡ link_at table (place_after table link.at) x
-      → RowsGoing w N k table x Image link.at R P h R' P' S' h'
-      → RowFollowed w N k Image link.label link.end R' P' h' R'' P'' S'' h''
-      → RowsGoing w N k table x Image next.at R P h R'' P'' S'' h''
-  rows_next {link} {next} {R'} {P'} {S'} {R''} {P''} {S''} {h'} {h''} r e read g f =
-      let l = reading-leaves r e in
-      subst (λ i. RowsGoing w N k table x Image i R P h R'' P'' S'' h'') (sym (next_place r e read))
-      (row-followed l.within l.from l.label l.end g f)
-
   -- The links of x have come to an end: the table has, or the next link leaves a later recording.
   rows-done : {i : ℕ} {R' P' S' : List ℕ} {h' : ℕ}
       → (SortedByFrom table → (j : ℕ) → i ≤ j → 3 * j + 2 < length table → ¬ (leaves table j ≡ x))
@@ -327,21 +338,67 @@ module _ {w N k : ℕ} {table : Table} {x : ℕ} {Image : ℕ → ℕ → Type 0
               (g.all sorted j b d (subst (λ a. a < k) (sym ea) c) (subst (λ y. y < N) (sym ey) m))
           go (no b) = absurd (no_more sorted j (omega arith) l d)
 
-  pub rows-ended : {link : Link} {R' P' S' : List ℕ} {h' : ℕ} → Reading table x link → link.leaves ≡ false
-      → RowsGoing w N k table x Image link.at R P h R' P' S' h'
+  pub rows-ended : {i : ℕ} {leaving : Option Link} {R' P' S' : List ℕ} {h' : ℕ} → Reading table x i leaving → leaving ≡ None
+      → RowsGoing w N k table x Image i R P h R' P' S' h'
       → RowsFollowed w N k table x Image R P h R' P' S' h'
-  rows-ended {link} {R'} {P'} {S'} {h'} r e = go (reading-ended r e)
+  rows-ended {i} {R' = R'} {P' = P'} {S' = S'} {h' = h'} r e = go (reading-ended r e)
     where
-      go : Ended table x link → RowsGoing w N k table x Image link.at R P h R' P' S' h'
-          → RowsFollowed w N k table x Image R P h R' P' S' h'
+      go : Ended table x i → RowsGoing w N k table x Image i R P h R' P' S' h' → RowsFollowed w N k table x Image R P h R' P' S' h'
       go (inl b) = rows-done (λ sorted j c m d. omega arith)
       go (inr (l, d)) =
           rows-done (λ sorted j c m q. d (
           let p = r.begins.there j (omega arith) q in
-          let s = sorted r.first link.at r.onward (omega arith) in
-          let u = sorted link.at j c m in
+          let s = sorted r.first i r.onward (omega arith) in
+          let u = sorted i j c m in
           omega arith
           ))
+
+-- Those before the link that was read were followed.
+pub record LinksGoing (w N k : ℕ) (table : Table) (x : ℕ) (Image : ℕ → ℕ → Type 0) (leaving : Option Link)
+    (reached pending : List ℕ) (h : ℕ) (reached' pending' stack' : List ℕ) (h' : ℕ) : Type 0 where
+  pub place : ℕ
+  pub reading : Reading table x place leaving
+  pub rows : RowsGoing w N k table x Image place reached pending h reached' pending' stack' h'
+
+-- How many triples there are from the link that was read on.
+abbrev pub links_left : Table → Option Link → ℕ
+links_left table None = 0
+links_left table (Some link) = length table / 3 - link.at
+
+module _ {w N k : ℕ} {table : Table} {x : ℕ} {Image : ℕ → ℕ → Type 0} {R P : List ℕ} {h : ℕ} where
+  pub links_none : {first : ℕ} {leaving : Option Link} {S : List ℕ} → Ready w N R P S h → FirstLink table x first
+      → leaving ≡ link_at table first x → LinksGoing w N k table x Image leaving R P h R P S h
+  links_none {first} r f e = record {
+    place = first;
+    reading = record { first = first; begins = f; onward = omega arith; reads = e };
+    rows = rows_none r f;
+  }
+
+  module _ {leaving : Option Link} {link : Link} {R' P' S' : List ℕ} {h' : ℕ}
+      (g : LinksGoing w N k table x Image leaving R P h R' P' S' h') (told : leaving ≡ Some link) where
+    pub links-leaves : Leaves table x g.place link
+    links-leaves = reading-leaves g.reading told
+
+    pub links-next : {next : Option Link} → next ≡ link_at table (place_after table link.at) x → {R'' P'' S'' : List ℕ} {h'' : ℕ}
+        → RowFollowed w N k Image link.label link.end R' P' h' R'' P'' S'' h''
+        → LinksGoing w N k table x Image next R P h R'' P'' S'' h''
+    links-next read f =
+        let l = links-leaves in
+        record { place = g.place + 1; reading = reading-next g.reading told read; rows = row-followed l.within l.from l.label l.end g.rows f }
+
+    pub links-less : {next : Option Link} → next ≡ link_at table (place_after table link.at) x → links_left table next < links_left table leaving
+    links-less {next} read = subst (λ z. links_left table next < links_left table z) (sym told) (go next refl)
+      where
+        go : (z : Option Link) → next ≡ z → links_left table z < length table / 3 - link.at
+        go None e = let l = links-leaves in omega (arith, l.within, l.place)
+        go (Some further) e =
+            let l = links-leaves in
+            let m = reading-leaves (reading-next g.reading told read) e in
+            omega (arith, l.within, l.place, m.within, m.place)
+
+  pub links-ended : {leaving : Option Link} {R' P' S' : List ℕ} {h' : ℕ} → LinksGoing w N k table x Image leaving R P h R' P' S' h'
+      → leaving ≡ None → RowsFollowed w N k table x Image R P h R' P' S' h'
+  links-ended g e = rows-ended g.reading e g.rows
 
 -- The images may be told in another way.
 pub rows_same : {w N k : ℕ} {table : Table} {x : ℕ} {Image Other : ℕ → ℕ → Type 0} {R P : List ℕ} {h : ℕ} {R' P' S' : List ℕ} {h' : ℕ}

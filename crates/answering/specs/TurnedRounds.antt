@@ -1,5 +1,5 @@
 -- The rounds of the search by sets of recordings (TurnedRun): all words are taken, again and again until nothing is new in any.
-use Rattle.std.specs.Prelude.{◌≡◌, ℕ, suc, ◌+◌, ◌*◌, ◌<◌, ◌≤◌, Bool, true, false, ◌⊎◌, List, length, slice_index, slice_index_or}
+use Rattle.std.specs.Prelude.{◌≡◌, ℕ, ◌+◌, ◌*◌, ◌<◌, ◌≤◌, Bool, true, false, ◌⊎◌, List, length, slice_index, slice_index_or}
 use Rattle.std.proofs.lemmas.Bool.{false≢true}
 use Rattle.std.proofs.Common.{inl, inr, sym, ap, subst, subst₂, arith}
 use Rattle.std.specs.Prelude.{refl}
@@ -64,11 +64,6 @@ pub words-all : {rows : List ℕ} {k states N : ℕ} {ends : List ℕ} {n : ℕ}
     → WordsTaken rows k states N ends n sets done sets' done' r → RoundTaken rows k states N ends sets done sets' done' r
 words-all e g = record { lent = g.lent; going = g.going; more = g.more; settled = λ f i l. g.settled f i (omega arith) }
 
--- How many rounds may follow: each but the last does more, for which there is room.
-abbrev pub rounds_left : Bool → List ℕ → ℕ
-rounds_left true done = suc (room done)
-rounds_left false done = 0
-
 -- The rounds from a start; after the last, all words are done.
 pub record RoundsTaken (rows : List ℕ) (k states N : ℕ) (ends : List ℕ) (start : ℕ) (sets done : List ℕ) (more : Bool) : Type 0 where
   pub lent : TurnedRoom states N sets done
@@ -122,14 +117,6 @@ pub rounds-more : {rows : List ℕ} {k states N : ℕ} {ends : List ℕ} {start 
     → RoundsTaken rows k states N ends start sets done b → RoundTaken rows k states N ends sets done sets' done' r
     → RoundsTaken rows k states N ends start sets' done' r
 rounds-more {start = start} g a = record { lent = a.lent; going = a.going start g.going; settled = a.settled }
-
-pub rounds-less : {rows : List ℕ} {k states N : ℕ} {ends : List ℕ} {sets done sets' done' : List ℕ} {b r : Bool}
-    → RoundTaken rows k states N ends sets done sets' done' r → b ≡ true → rounds_left r done' < rounds_left b done
-rounds-less {done = done} {done' = done'} {r = r} a e = subst (λ q. rounds_left r done' < rounds_left q done) (sym e) (go r refl)
-  where
-    go : (q : Bool) → r ≡ q → rounds_left q done' < rounds_left true done
-    go true f = let l = a.more f in omega arith
-    go false f = omega arith
 
 -- All that is reached is done, so that all that is found is reached.
 module _ {rows : List ℕ} {k states N : ℕ} {ends : List ℕ} {start : ℕ} {sets done : List ℕ} {more : Bool} (t : Turnable rows k states)

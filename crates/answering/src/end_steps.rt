@@ -2,22 +2,19 @@
 ghost use Rattle.std.specs.Prelude.{ℕ, ◌+◌, ◌*◌, ◌<◌, ◌≤◌, length};
 ghost use Rattle.theory.specs.Places.{Member};
 ghost use Rattle.answering.specs.Pairs.{Has};
-ghost use Rattle.answering.specs.Ends.{EndsFit};
-ghost use Rattle.answering.specs.EndSteps.{Turnable, InRows, RowsThere, RowsJoined, Given, MembersFollowed};
+ghost use Rattle.answering.specs.EndSteps.{InRows, RowsThere, RowsJoined, Given, MembersFollowed};
 
+use super::end_rows::EndRows;
 use super::rows::unite;
-use super::sizes::Sizes;
+use places::Places;
 
 // The four words get the ends in the rows of the members of a set, the rows beginning with the number `row`.
 fn join_ends(ends: &[u64], row: usize, set: u64, joined: &mut [u64])
     requires { RowsThere ends.now row set × (4 ≤ length joined.old) }
     ensures { RowsJoined ends.now row set joined.old joined.new }
 {
-    let mut rest = set;
-    while rest != 0 {
-        let p = u64::trailing_zeros(rest) as usize;
+    for p in Places(set).members() {
         unite(joined, 0, ends, 4 * (row + p), 4);
-        rest = rest & (rest - 1);
     }
 }
 
@@ -26,11 +23,8 @@ fn give_ends(joined: &[u64], image: u64, sets: &mut [u64])
     requires { RowsThere sets.old 0 image × (4 ≤ length joined.now) }
     ensures { Given (Has 4 joined.now 0) image sets.old sets.new }
 {
-    let mut rest = image;
-    while rest != 0 {
-        let t = u64::trailing_zeros(rest) as usize;
+    for t in Places(image).members() {
         unite(sets, 4 * t, joined, 0, 4);
-        rest = rest & (rest - 1);
     }
 }
 
@@ -48,30 +42,21 @@ fn follow_symbol(ends: &[u64], row: usize, set: u64, image: u64, sets: &mut [u64
 }
 
 // All links of the members of a set, which count recordings from `from` on, are followed from the state s.
-pub(super) fn follow_members(
-    rows: &[u64],
-    sizes: Sizes,
-    ends: &[u64],
-    from: usize,
-    set: u64,
-    s: usize,
-    sets: &mut [u64],
-)
-    requires { Turnable rows.now sizes.symbols sizes.states × EndsFit sizes.symbols sizes.recordings ends.now
-        × (s < sizes.states) × ((p : ℕ) → Member p set → from + p < sizes.recordings) × (from ≤ 256)
-        × (4 * sizes.states ≤ length sets.old) }
-    ensures { MembersFollowed rows.now sizes.symbols sizes.recordings ends.now from set s
+pub(super) fn follow_members(turned: EndRows<'_>, from: usize, set: u64, s: usize, sets: &mut [u64])
+    requires { (s < turned.sizes.states) × ((p : ℕ) → Member p set → from + p < turned.sizes.recordings) × (from ≤ 256)
+        × (4 * turned.sizes.states ≤ length sets.old) }
+    ensures { let T = turned.entry in MembersFollowed T.rows.now T.sizes.symbols T.sizes.recordings T.ends.now from set s
         sets.old sets.new }
 {
-    let mut a = 0;
-    while a < sizes.symbols {
+    let sizes = turned.sizes;
+    let rows = turned.rows;
+    for a in 0..sizes.symbols {
         follow_symbol(
-            ends,
+            turned.ends,
             sizes.recordings * a + from,
             set,
             rows[sizes.symbols * s + a],
             sets,
         );
-        a += 1;
     }
 }

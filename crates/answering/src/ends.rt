@@ -4,7 +4,6 @@ ghost use Rattle.answering.specs.Ends.{EndsFit, NoEnds, Ends};
 
 use super::pairs::put;
 use super::sizes::Sizes;
-use super::table::index;
 
 // The ends of all links of a table.
 pub(super) fn fill_ends(table: &[u16], sizes: Sizes, ends: &mut [u64])
@@ -12,12 +11,10 @@ pub(super) fn fill_ends(table: &[u16], sizes: Sizes, ends: &mut [u64])
         × NoEnds ends.old }
     ensures { Ends table.now sizes.symbols sizes.recordings ends.new }
 {
-    let mut at = 0;
-    while at < table.len() / 3 {
-        let x = index(table[3 * at]);
-        let a = index(table[3 * at + 1]);
-        let y = index(table[3 * at + 2]);
+    for at in 0..table.len() / 3 {
+        let x = usize::from(table[3 * at]);
+        let a = usize::from(table[3 * at + 1]);
+        let y = usize::from(table[3 * at + 2]);
         put(ends, 4, sizes.recordings * a + x, y);
-        at += 1;
     }
 }

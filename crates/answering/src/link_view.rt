@@ -8,9 +8,9 @@ ghost use Rattle.answering.specs.LinkView.{view_at, current, moved};
 use super::links::{Link, link_at, place_after};
 
 #[derive(Clone, Copy)]
-struct LinkView<'a> {
-    table: &'a [u16],
-    at: usize,
+pub(super) struct LinkView<'a> {
+    pub(super) table: &'a [u16],
+    pub(super) at: usize,
 }
 
 impl<'a> LinkView<'a> {
@@ -21,8 +21,8 @@ impl<'a> LinkView<'a> {
         LinkView { table, at: place }
     }
 
-    // What x has at the view's place.
-    fn current(self, x: u64) -> Link
+    // The link at the view's place, where it leaves x.
+    fn current(self, x: u64) -> Option<Link>
         ensures { result ≡ current self.entry x }
     {
         link_at(self.table, self.at, x)
@@ -39,15 +39,15 @@ impl<'a> LinkView<'a> {
     }
 }
 
-// What x has at a place.
-pub(super) fn leaving_at(table: &[u16], place: usize, x: u64) -> Link
+// The link at a place, where it leaves x.
+pub(super) fn leaving_at(table: &[u16], place: usize, x: u64) -> Option<Link>
     ensures { result ≡ link_at table.now place x }
 {
     LinkView::at(table, place).current(x)
 }
 
-// The next link that leaves x, behind the one at a place, or that there is none.
-pub(super) fn next_leaving(table: &[u16], place: usize, x: u64) -> Link
+// The next link that leaves x, behind the one at a place.
+pub(super) fn next_leaving(table: &[u16], place: usize, x: u64) -> Option<Link>
     ensures { result ≡ link_at table.now (place_after table.now place) x }
 {
     LinkView::at(table, place).moved().current(x)

@@ -2,37 +2,24 @@
 ghost use Rattle.std.specs.Prelude.{◌≡◌};
 ghost use Rattle.answering.specs.LinkAt.{link_at, place_after};
 
-use super::table::{index, wide};
-
-// What a recording has at a place among the triples: whether a link that leaves it stands there, the place, and that link's label and end.
-#[derive(Clone, Copy)]
+// A link that leaves a recording: its place among the triples, its label and its end.
+#[derive(Clone, Copy, Debug, PartialEq, Eq)]
 pub(super) struct Link {
-    pub(super) leaves: bool,
     pub(super) at: usize,
     pub(super) label: usize,
     pub(super) end: usize,
 }
 
-// What x has at the place.
-pub(super) fn link_at(table: &[u16], at: usize, x: u64) -> Link
+// The link at the place, where one that leaves x stands there.
+pub(super) fn link_at(table: &[u16], at: usize, x: u64) -> Option<Link>
     ensures { result ≡ link_at table.now at x }
 {
-    if at < table.len() / 3 && wide(table[3 * at]) == x {
-        let label = index(table[3 * at + 1]);
-        let end = index(table[3 * at + 2]);
-        Link {
-            leaves: true,
-            at,
-            label,
-            end,
-        }
+    if at < table.len() / 3 && u64::from(table[3 * at]) == x {
+        let label = usize::from(table[3 * at + 1]);
+        let end = usize::from(table[3 * at + 2]);
+        Some(Link { at, label, end })
     } else {
-        Link {
-            leaves: false,
-            at,
-            label: 0,
-            end: 0,
-        }
+        None
     }
 }
 

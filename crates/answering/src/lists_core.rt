@@ -1,14 +1,14 @@
 // Marks by the states of a rewriting, on plain data: its next states and flags, a table of links over lists and a start.
 ghost use Rattle.std.specs.Prelude.{◌≡◌, ◌*◌, ◌<◌, ◌≤◌, true, ◌↔◌, length};
 ghost use Rattle.finding.specs.Rewritten.{Rewritten};
-ghost use Rattle.answering.specs.Links.{InRange};
-ghost use Rattle.answering.specs.LinkBegins.{LinkBegins};
 ghost use Rattle.answering.specs.ListsCore.{ListsLent, ListsGiven, ListsMarked};
 
+use super::indexed::Indexed;
 use super::marks::mark;
+use super::ranked::Ranked;
 use super::ranks::{accept_ranks, rank_states};
 use super::state_search::search_states;
-use finding::clear::clear_words;
+use finding::clear::clear;
 
 // Whether there are states, at most 256 of them, and at most 16 lists, with a row of next states for each state.
 fn has_rows(next: &[u16], states: u64, lists: u64) -> bool
@@ -32,24 +32,20 @@ pub(super) fn mark_lists(
     next: &[u16],
     flags: &[u8; 256],
     states: u64,
-    lists: u64,
-    table: &[u16],
-    begins: &[u16],
-    recordings: u64,
+    links: Indexed<'_>,
     start: u64,
     marks: &mut [u8],
     workspace: &mut [u64],
 ) -> u64
-    requires { InRange lists recordings table.now × LinkBegins table.now recordings begins.now }
-    ensures { ListsLent recordings start marks.old workspace.old → (R : Rewritten)
-        → ListsGiven R lists next.now flags.now states table.now recordings
-        → ListsMarked R recordings table.now start marks.old workspace.old
+    ensures { ListsLent links.entry.recordings start marks.old workspace.old → (R : Rewritten)
+        → ListsGiven R links.entry.symbols next.now flags.now states links.entry.table.now links.entry.recordings
+        → ListsMarked R links.entry.recordings links.entry.table.now start marks.old workspace.old
         marks.new workspace.new result }
 {
-    if 4096 < recordings {
+    if 4096 < links.recordings {
         return 0;
     }
-    if !has_rows(next, states, lists) {
+    if !has_rows(next, states, links.symbols) {
         return 0;
     }
     let mut ranks: [u16; 256] = [0; 256];
@@ -57,29 +53,30 @@ pub(super) fn mark_lists(
     let count = rank_states(
         next,
         flags,
-        lists as usize,
+        links.symbols as usize,
         states as usize,
         &mut ranks,
         &mut kept,
     );
     let mut accepts: [u64; 4] = [0; 4];
     accept_ranks(flags, &kept, count, &mut accepts);
-    let words = (count as u64 + 63) / 64;
-    search_states(
+    let ranked = Ranked {
         next,
-        lists,
-        states,
-        words,
-        &ranks,
-        &kept,
-        count as u64,
-        table,
-        begins,
-        recordings,
-        start,
+        lists: links.symbols as usize,
+        states: states as usize,
+        ranks: &ranks,
+        kept: &kept,
+        count,
+        words: (count + 63) / 64,
+    };
+    search_states(ranked, links, start, workspace);
+    let ones = mark(
         workspace,
+        ranked.words as u64,
+        &accepts,
+        links.recordings,
+        marks,
     );
-    let ones = mark(workspace, words, &accepts, recordings, marks);
-    clear_words(workspace, (4 * recordings) as usize);
+    clear(workspace, (4 * links.recordings) as usize);
     ones
 }

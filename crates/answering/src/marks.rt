@@ -25,12 +25,10 @@ fn mark_of(reached: &[u64], base: usize, words: usize, accepting: &[u64; 4]) -> 
     ensures { result ≡ mark_of (meets reached.now accepting.now base words) }
 {
     let mut common: u64 = 0;
-    let mut k = 0;
-    while k < words {
-        common = common | (reached[base + k] & accepting[k]);
-        k += 1;
+    for k in 0..words {
+        common |= reached[base + k] & accepting[k];
     }
-    if common == 0 { 0 } else { 1 }
+    u8::from(common != 0)
 }
 
 // The marks where each recording has one word: whether one is set decides a number, not a branch.
@@ -41,12 +39,10 @@ fn mark_words(reached: &[u64], accepting: &[u64; 4], recordings: usize, marks: &
 {
     let accepts = accepting[0];
     let mut count = 0;
-    let mut y = 0;
-    while y < recordings {
-        let m: u8 = if reached[y] & accepts == 0 { 0 } else { 1 };
+    for y in 0..recordings {
+        let m = u8::from(reached[y] & accepts != 0);
         marks[y] = m;
-        count += m as u64;
-        y += 1;
+        count += u64::from(m);
     }
     count
 }
@@ -72,12 +68,10 @@ pub fn mark(
         return mark_words(reached, accepting, end, marks);
     }
     let mut count = 0;
-    let mut y = 0;
-    while y < end {
+    for y in 0..end {
         let m = mark_of(reached, per * y, per, accepting);
         marks[y] = m;
-        count += m as u64;
-        y += 1;
+        count += u64::from(m);
     }
     count
 }

@@ -5,6 +5,7 @@ ghost use Rattle.theory.specs.Places.{Member};
 ghost use Rattle.answering.specs.FewPlaces.{FewPlaces};
 ghost use Rattle.answering.specs.PlaceRows.{LeadOf, LeadPlaces, RowPlaced, RowsPlaced};
 
+use super::rows::sets_within;
 use places::joined::join;
 
 // Whether there are at most six places, and all next places are among these.
@@ -12,18 +13,7 @@ pub(super) fn few_places(follow: &[u64]) -> bool
     ensures { result ≡ true → FewPlaces follow.now }
 {
     let count = follow.len();
-    if 6 < count {
-        return false;
-    }
-    let end: u64 = 1 << count;
-    let mut p = 0;
-    while p < count {
-        if end <= follow[p] {
-            return false;
-        }
-        p += 1;
-    }
-    true
+    count <= 6 && sets_within(follow, count)
 }
 
 // Whether there are few places, and few rows of them.
@@ -44,12 +34,10 @@ fn alike_place(follow: &[u64], accepting: u64, p: usize) -> usize
     requires { (p < length follow.now) × (length follow.now ≤ 64) }
     ensures { LeadOf follow.now accepting p result }
 {
-    let mut q = 0;
-    while q < p {
+    for q in 0..p {
         if follow[q] == follow[p] && (accepting >> q) & 1 == (accepting >> p) & 1 {
             return q;
         }
-        q += 1;
     }
     p
 }
@@ -59,10 +47,8 @@ fn lead_places(follow: &[u64], accepting: u64, leads: &mut [u64])
     requires { (length follow.now ≤ length leads.old) × (length follow.now ≤ 64) }
     ensures { LeadPlaces follow.now accepting (length follow.now) leads.new }
 {
-    let mut p = 0;
-    while p < follow.len() {
+    for p in 0..follow.len() {
         leads[p] = 1 << alike_place(follow, accepting, p);
-        p += 1;
     }
 }
 
@@ -72,10 +58,8 @@ fn place_row(after: u64, enter: &[u64], labels: usize, leads: &[u64], rows: &mut
         × (from + labels ≤ length rows.old) }
     ensures { RowPlaced leads.now after enter.now labels from rows.old rows.new }
 {
-    let mut a = 0;
-    while a < labels {
+    for a in 0..labels {
         rows[from + a] = join(leads, 0, 1, after & enter[a]);
-        a += 1;
     }
 }
 
@@ -92,9 +76,7 @@ pub(super) fn place_rows(
 {
     let mut leads: [u64; 16] = [0; 16];
     lead_places(follow, accepting, &mut leads);
-    let mut p = 0;
-    while p < follow.len() {
+    for p in 0..follow.len() {
         place_row(follow[p], enter, labels, &leads, rows, labels * p);
-        p += 1;
     }
 }

@@ -6,23 +6,21 @@ ghost use Rattle.answering.specs.LinkBegins.{LinkBegins};
 ghost use Rattle.answering.specs.SetSearchRun.{SetStarting, SetAllFound};
 ghost use Rattle.answering.specs.PlaceSteps.{PlaceCount, PlacesSearchable, PlacesSearched};
 ghost use Rattle.answering.specs.FewPlaces.{FewPlaces};
-ghost use Rattle.answering.specs.WordSteps.{rows_of, WordStep};
+ghost use Rattle.answering.specs.WordSteps.{WordStep};
 
+use super::indexed::Indexed;
 use super::place_rows::{few_rows, place_rows};
 use super::sizes::Sizes;
+use super::step_rows::StepRows;
 use super::turned_search::{search_turned, turnable};
 use super::word_search::follow_all_words;
-use finding::clear::clear_words;
+use finding::clear::clear;
 
 // How many places are searched: all of them, of at most 64.
 fn place_count(follow: &[u64]) -> usize
     ensures { PlaceCount follow.now result }
 {
-    let count = follow.len();
-    if count > 64 {
-        return 64;
-    }
-    count
+    follow.len().min(64)
 }
 
 // The words that the labels enter are copied.
@@ -30,71 +28,30 @@ fn load_enter(enter: &[u64], labels: usize, images: &mut [u64])
     requires { (labels ≤ length enter.now) × (labels ≤ length images.old) }
     ensures { (a : ℕ) → a < labels → slice_index images.new a ≡ slice_index enter.now a }
 {
-    let mut a = 0;
-    while a < labels {
-        images[a] = enter[a];
-        a += 1;
-    }
+    images[..labels].copy_from_slice(&enter[..labels]);
 }
 
-// The search with room for a few recordings.
-fn search_few(
-    rows: &[u64],
-    cut: bool,
-    sizes: Sizes,
+// The search with ROOM words for what is pending, and STACK numbers for the recordings that wait.
+fn search_in<const ROOM: usize, const STACK: usize>(
+    steps: StepRows<'_>,
     table: &[u16],
     begins: &[u16],
     start: usize,
     reached: &mut [u64],
     images: &mut [u64],
 )
-    requires { SetStarting 1 sizes.symbols sizes.states sizes.recordings start reached.old
-        × (rows_of cut sizes.symbols sizes.states ≤ length rows.now) × (sizes.symbols ≤ length images.old)
-        × (sizes.recordings ≤ 256) × InRange sizes.symbols sizes.recordings table.now
-        × LinkBegins table.now sizes.recordings begins.now }
-    ensures { SetAllFound 1 (WordStep cut rows.now sizes.symbols images.old) sizes.symbols
-        sizes.states table.now sizes.recordings start reached.old reached.new }
+    requires { SetStarting 1 steps.sizes.symbols steps.sizes.states steps.sizes.recordings start reached.old
+        × (steps.sizes.symbols ≤ length images.old)
+        × (steps.sizes.recordings ≤ ROOM) × (ROOM ≤ 16384) × (2 * steps.sizes.recordings < STACK) × (STACK ≤ 16384)
+        × InRange steps.sizes.symbols steps.sizes.recordings table.now
+        × LinkBegins table.now steps.sizes.recordings begins.now }
+    ensures { let S = steps.entry in SetAllFound 1 (WordStep S.cut S.rows.now S.sizes.symbols images.old) S.sizes.symbols
+        S.sizes.states table.now S.sizes.recordings start reached.old reached.new }
 {
-    let mut pending: [u64; 256] = [0; 256];
-    let mut stack: [u16; 513] = [0; 513];
+    let mut pending: [u64; ROOM] = [0; ROOM];
+    let mut stack: [u16; STACK] = [0; STACK];
     follow_all_words(
-        rows,
-        cut,
-        sizes,
-        table,
-        begins,
-        start,
-        reached,
-        images,
-        &mut pending,
-        &mut stack,
-    );
-}
-
-// The search with room for as many recordings as there may be.
-fn search_many(
-    rows: &[u64],
-    cut: bool,
-    sizes: Sizes,
-    table: &[u16],
-    begins: &[u16],
-    start: usize,
-    reached: &mut [u64],
-    images: &mut [u64],
-)
-    requires { SetStarting 1 sizes.symbols sizes.states sizes.recordings start reached.old
-        × (rows_of cut sizes.symbols sizes.states ≤ length rows.now) × (sizes.symbols ≤ length images.old)
-        × InRange sizes.symbols sizes.recordings table.now
-        × LinkBegins table.now sizes.recordings begins.now }
-    ensures { SetAllFound 1 (WordStep cut rows.now sizes.symbols images.old) sizes.symbols
-        sizes.states table.now sizes.recordings start reached.old reached.new }
-{
-    let mut pending: [u64; 4096] = [0; 4096];
-    let mut stack: [u16; 8193] = [0; 8193];
-    follow_all_words(
-        rows,
-        cut,
-        sizes,
+        steps,
         table,
         begins,
         start,
@@ -108,28 +65,26 @@ fn search_many(
 // The search with as much room as the recordings need: to zero room for many takes longer than to search a table of few. Few states and
 // recordings are searched by sets of recordings.
 fn search_words(
-    rows: &[u64],
-    cut: bool,
-    sizes: Sizes,
+    steps: StepRows<'_>,
     table: &[u16],
     begins: &[u16],
     start: usize,
     reached: &mut [u64],
     images: &mut [u64],
 )
-    requires { SetStarting 1 sizes.symbols sizes.states sizes.recordings start reached.old
-        × (rows_of cut sizes.symbols sizes.states ≤ length rows.now) × (sizes.symbols ≤ length images.old)
-        × InRange sizes.symbols sizes.recordings table.now
-        × LinkBegins table.now sizes.recordings begins.now }
-    ensures { SetAllFound 1 (WordStep cut rows.now sizes.symbols images.old) sizes.symbols
-        sizes.states table.now sizes.recordings start reached.old reached.new }
+    requires { SetStarting 1 steps.sizes.symbols steps.sizes.states steps.sizes.recordings start reached.old
+        × (steps.sizes.symbols ≤ length images.old)
+        × InRange steps.sizes.symbols steps.sizes.recordings table.now
+        × LinkBegins table.now steps.sizes.recordings begins.now }
+    ensures { let S = steps.entry in SetAllFound 1 (WordStep S.cut S.rows.now S.sizes.symbols images.old) S.sizes.symbols
+        S.sizes.states table.now S.sizes.recordings start reached.old reached.new }
 {
-    if !cut && turnable(rows, sizes) {
-        search_turned(rows, sizes, table, start, reached);
-    } else if sizes.recordings <= 256 {
-        search_few(rows, cut, sizes, table, begins, start, reached, images);
+    if !steps.cut && turnable(steps.rows, steps.sizes) {
+        search_turned(steps.rows, steps.sizes, table, start, reached);
+    } else if steps.sizes.recordings <= 256 {
+        search_in::<256, 513>(steps, table, begins, start, reached, images);
     } else {
-        search_many(rows, cut, sizes, table, begins, start, reached, images);
+        search_in::<4096, 8193>(steps, table, begins, start, reached, images);
     }
 }
 
@@ -154,38 +109,31 @@ fn fitting(enter: &[u64], labels: u64, recordings: u64, start: u64, reached: &[u
 
 // All pairs of a recording and a place that are reached from the start in place 0, as bits of a word for each recording; where the sizes do
 // not fit, nothing is changed.
-fn search_places(
-    follow: &[u64],
-    enter: &[u64],
-    labels: u64,
-    table: &[u16],
-    begins: &[u16],
-    recordings: u64,
-    start: u64,
-    reached: &mut [u64],
-)
-    requires { InRange labels recordings table.now × LinkBegins table.now recordings begins.now }
-    ensures { (accepting : ℕ) → PlacesSearched follow.now enter.now accepting labels table.now
-        recordings start reached.old reached.new }
+fn search_places(follow: &[u64], enter: &[u64], links: Indexed<'_>, start: u64, reached: &mut [u64])
+    ensures { (accepting : ℕ) → PlacesSearched follow.now enter.now accepting links.entry.symbols
+        links.entry.table.now links.entry.recordings start reached.old reached.new }
 {
-    if !fitting(enter, labels, recordings, start, reached) {
+    if !fitting(enter, links.symbols, links.recordings, start, reached) {
         return;
     }
-    clear_words(reached, recordings as usize);
+    clear(reached, links.recordings as usize);
     let sizes = Sizes {
-        symbols: labels as usize,
+        symbols: links.symbols as usize,
         states: place_count(follow),
         words: 1,
-        recordings: recordings as usize,
+        recordings: links.recordings as usize,
     };
     let mut images: [u64; 32] = [0; 32];
     load_enter(enter, sizes.symbols, &mut images);
-    search_words(
-        follow,
-        true,
+    let steps = StepRows {
         sizes,
-        table,
-        begins,
+        rows: follow,
+        cut: true,
+    };
+    search_words(
+        steps,
+        links.table,
+        links.begins,
         start as usize,
         reached,
         &mut images,
@@ -197,37 +145,36 @@ fn search_merged(
     follow: &[u64],
     enter: &[u64],
     accepting: u64,
-    labels: u64,
-    table: &[u16],
-    begins: &[u16],
-    recordings: u64,
+    links: Indexed<'_>,
     start: u64,
     reached: &mut [u64],
 )
-    requires { InRange labels recordings table.now × LinkBegins table.now recordings begins.now × FewPlaces follow.now
-        × (labels * length follow.now ≤ 48) }
-    ensures { PlacesSearched follow.now enter.now accepting labels table.now recordings start
-        reached.old reached.new }
+    requires { FewPlaces follow.now × (links.symbols * length follow.now ≤ 48) }
+    ensures { PlacesSearched follow.now enter.now accepting links.entry.symbols links.entry.table.now
+        links.entry.recordings start reached.old reached.new }
 {
-    if !fitting(enter, labels, recordings, start, reached) {
+    if !fitting(enter, links.symbols, links.recordings, start, reached) {
         return;
     }
-    clear_words(reached, recordings as usize);
+    clear(reached, links.recordings as usize);
     let sizes = Sizes {
-        symbols: labels as usize,
+        symbols: links.symbols as usize,
         states: follow.len(),
         words: 1,
-        recordings: recordings as usize,
+        recordings: links.recordings as usize,
     };
     let mut rows: [u64; 48] = [0; 48];
     place_rows(follow, enter, accepting, sizes.symbols, &mut rows);
     let mut images: [u64; 32] = [0; 32];
-    search_words(
-        &rows,
-        false,
+    let steps = StepRows {
         sizes,
-        table,
-        begins,
+        rows: &rows,
+        cut: false,
+    };
+    search_words(
+        steps,
+        links.table,
+        links.begins,
         start as usize,
         reached,
         &mut images,
@@ -240,24 +187,16 @@ pub(super) fn search_any(
     follow: &[u64],
     enter: &[u64],
     accepting: u64,
-    labels: u64,
-    table: &[u16],
-    begins: &[u16],
-    recordings: u64,
+    links: Indexed<'_>,
     start: u64,
     reached: &mut [u64],
 )
-    requires { InRange labels recordings table.now × LinkBegins table.now recordings begins.now }
-    ensures { PlacesSearched follow.now enter.now accepting labels table.now recordings start
-        reached.old reached.new }
+    ensures { PlacesSearched follow.now enter.now accepting links.entry.symbols links.entry.table.now
+        links.entry.recordings start reached.old reached.new }
 {
-    if few_rows(follow, labels) {
-        search_merged(
-            follow, enter, accepting, labels, table, begins, recordings, start, reached,
-        );
+    if few_rows(follow, links.symbols) {
+        search_merged(follow, enter, accepting, links, start, reached);
     } else {
-        search_places(
-            follow, enter, labels, table, begins, recordings, start, reached,
-        );
+        search_places(follow, enter, links, start, reached);
     }
 }

@@ -4,7 +4,6 @@ ghost use Rattle.std.specs.Prelude.{◌≡◌, ℕ, ◌+◌, ◌*◌, ◌<◌, �
 ghost use Rattle.answering.specs.Ranks.{LeadsNowhere, RankRoom, Ranks, AcceptedRanks};
 
 use super::pairs::put;
-use super::table::index;
 
 // Whether a state leads nowhere: it is not accepting, and over each list it is its own next state.
 fn leads_nowhere(next: &[u16], flags: &[u8; 256], lists: usize, s: usize) -> bool
@@ -14,12 +13,10 @@ fn leads_nowhere(next: &[u16], flags: &[u8; 256], lists: usize, s: usize) -> boo
     if flags[s] == 1 {
         return false;
     }
-    let mut v = 0;
-    while v < lists {
-        if index(next[16 * s + v]) != s {
+    for v in 0..lists {
+        if usize::from(next[16 * s + v]) != s {
             return false;
         }
-        v += 1;
     }
     true
 }
@@ -38,8 +35,7 @@ pub(super) fn rank_states(
     ensures { Ranks next.now lists states flags.now ranks.new kept.new result }
 {
     let mut count = 1;
-    let mut s = 1;
-    while s < states {
+    for s in 1..states {
         if leads_nowhere(next, flags, lists, s) {
             ranks[s] = 256;
         } else {
@@ -47,7 +43,6 @@ pub(super) fn rank_states(
             kept[count] = s as u16;
             count += 1;
         }
-        s += 1;
     }
     count
 }
@@ -58,11 +53,9 @@ pub(super) fn accept_ranks(flags: &[u8; 256], kept: &[u16], count: usize, accept
         × (4 ≤ length accepts.old) × AcceptedRanks flags.now kept.now 0 accepts.old }
     ensures { AcceptedRanks flags.now kept.now count accepts.new }
 {
-    let mut r = 0;
-    while r < count {
-        if flags[index(kept[r])] == 1 {
+    for r in 0..count {
+        if flags[usize::from(kept[r])] == 1 {
             put(accepts, 4, 0, r);
         }
-        r += 1;
     }
 }

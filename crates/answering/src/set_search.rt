@@ -9,14 +9,15 @@ ghost use Rattle.answering.specs.SetSearch.{Steps, SetFitting, SetSearched};
 ghost use Rattle.answering.specs.SetSteps.{Spreading, Spread, StatesAdded, RowFollowed, RowsFollowed};
 ghost use Rattle.answering.specs.SetSearchRun.{SetBeginning, ImagesBlank, SetStarting, SetAllFound};
 
-use super::link_view::{leaving_at, next_leaving};
+use super::indexed::Indexed;
+use super::link_view::{LinkView, leaving_at, next_leaving};
 use super::pairs::{any_from, next_state, put, zero_from};
 use super::rows::{brings, unite, unite_new};
 use super::sizes::Sizes;
-use super::table::index;
+use super::step_rows::StepRows;
 use super::turned_search::{search_turned, turnable};
 use super::word_search::follow_all_words;
-use finding::clear::clear_words;
+use finding::clear::clear;
 
 // The next states, over each symbol, of all states that are pending at the recording x.
 fn spread(sets: &[u64], sizes: Sizes, x: usize, pending: &[u64], images: &mut [u64])
@@ -26,10 +27,10 @@ fn spread(sets: &[u64], sizes: Sizes, x: usize, pending: &[u64], images: &mut [u
 {
     let row = sizes.words * sizes.symbols;
     zero_from(images, 0, row);
-    let mut s = next_state(pending, sizes.words, x, 0, sizes.states);
-    while s < sizes.states {
+    let mut next = next_state(pending, sizes.words, x, 0, sizes.states);
+    while let Some(s) = next {
         unite(images, 0, sets, row * s, row);
-        s = next_state(pending, sizes.words, x, s + 1, sizes.states);
+        next = next_state(pending, sizes.words, x, s + 1, sizes.states);
     }
 }
 
@@ -91,13 +92,12 @@ fn follow_link(
     add_states(sizes, images, a, y, reached, pending, stack, height)
 }
 
-// All links that leave x are followed, `images` having the next states over each symbol, and `first` being the first triple that leaves x.
+// All links that leave x are followed, `images` having the next states over each symbol, and `links` being at the first triple that leaves x.
 // The height of the stack is returned.
 fn follow_links(
     images: &[u64],
     sizes: Sizes,
-    table: &[u16],
-    first: usize,
+    links: LinkView<'_>,
     x: usize,
     reached: &mut [u64],
     pending: &mut [u64],
@@ -105,19 +105,19 @@ fn follow_links(
     height: usize,
 ) -> usize
     requires { Ready sizes.words sizes.recordings reached.old pending.old stack.old height
-        × (sizes.words * sizes.symbols ≤ length images.now) × FirstLink table.now x first }
-    ensures { RowsFollowed sizes.words sizes.recordings sizes.symbols table.now x
+        × (sizes.words * sizes.symbols ≤ length images.now) × FirstLink links.table.now x links.at }
+    ensures { RowsFollowed sizes.words sizes.recordings sizes.symbols links.entry.table.now x
         (Has sizes.words images.now) reached.old pending.old height
         reached.new pending.new stack.new result }
 {
     let from = x as u64;
     let mut top = height;
-    let mut link = leaving_at(table, first, from);
-    while link.leaves {
+    let mut leaving = leaving_at(links.table, links.at, from);
+    while let Some(link) = leaving {
         top = follow_link(
             images, sizes, link.label, link.end, reached, pending, stack, top,
         );
-        link = next_leaving(table, link.at, from);
+        leaving = next_leaving(links.table, link.at, from);
     }
     top
 }
@@ -145,13 +145,17 @@ fn follow_all(
     let words = sizes.words;
     put(images, words, 0, 0);
     let mut top = add_states(sizes, images, 0, start, reached, pending, stack, 0);
+    // A work list: recordings are added while one is taken.
     while 0 < top {
         top -= 1;
-        let x = index(stack[top]);
+        let x = usize::from(stack[top]);
         spread(sets, sizes, x, pending, images);
         zero_from(pending, words * x, words);
-        let first = index(begins[x]);
-        top = follow_links(images, sizes, table, first, x, reached, pending, stack, top);
+        let links = LinkView {
+            table,
+            at: usize::from(begins[x]),
+        };
+        top = follow_links(images, sizes, links, x, reached, pending, stack, top);
     }
 }
 
@@ -176,9 +180,12 @@ fn search_from(
         table.now sizes.recordings start reached.old reached.new }
 {
     if sizes.words == 1 {
-        follow_all_words(
-            sets, false, sizes, table, begins, start, reached, images, pending, stack,
-        );
+        let steps = StepRows {
+            sizes,
+            rows: sets,
+            cut: false,
+        };
+        follow_all_words(steps, table, begins, start, reached, images, pending, stack);
     } else {
         follow_all(
             sets, sizes, table, begins, start, reached, images, pending, stack,
@@ -186,8 +193,8 @@ fn search_from(
     }
 }
 
-// The search with room for a few recordings.
-fn search_few(
+// The search with ROOM words for what is pending, and STACK numbers for the recordings that wait.
+fn search_in<const ROOM: usize, const STACK: usize>(
     sets: &[u64],
     sizes: Sizes,
     table: &[u16],
@@ -197,78 +204,15 @@ fn search_few(
 )
     requires { SetStarting sizes.words sizes.symbols sizes.states sizes.recordings start reached.old
         × (sizes.words * (sizes.symbols * sizes.states) ≤ length sets.now)
-        × (sizes.words * sizes.recordings ≤ 256) × InRange sizes.symbols sizes.recordings table.now
-        × LinkBegins table.now sizes.recordings begins.now }
-    ensures { SetAllFound sizes.words (Steps sets.now sizes.symbols sizes.words) sizes.symbols sizes.states
-        table.now sizes.recordings start reached.old reached.new }
-{
-    let mut images: [u64; 128] = [0; 128];
-    let mut pending: [u64; 256] = [0; 256];
-    let mut stack: [u16; 513] = [0; 513];
-    search_from(
-        sets,
-        sizes,
-        table,
-        begins,
-        start,
-        reached,
-        &mut images,
-        &mut pending,
-        &mut stack,
-    );
-}
-
-// The search with room for as many recordings as there may be, of one word each.
-fn search_middle(
-    sets: &[u64],
-    sizes: Sizes,
-    table: &[u16],
-    begins: &[u16],
-    start: usize,
-    reached: &mut [u64],
-)
-    requires { SetStarting sizes.words sizes.symbols sizes.states sizes.recordings start reached.old
-        × (sizes.words * (sizes.symbols * sizes.states) ≤ length sets.now)
-        × (sizes.words * sizes.recordings ≤ 4096) × InRange sizes.symbols sizes.recordings table.now
-        × LinkBegins table.now sizes.recordings begins.now }
-    ensures { SetAllFound sizes.words (Steps sets.now sizes.symbols sizes.words) sizes.symbols sizes.states
-        table.now sizes.recordings start reached.old reached.new }
-{
-    let mut images: [u64; 128] = [0; 128];
-    let mut pending: [u64; 4096] = [0; 4096];
-    let mut stack: [u16; 8193] = [0; 8193];
-    search_from(
-        sets,
-        sizes,
-        table,
-        begins,
-        start,
-        reached,
-        &mut images,
-        &mut pending,
-        &mut stack,
-    );
-}
-
-// The search with room for as many recordings as there may be. The local arrays take about 145 KiB of the thread's stack.
-fn search_many(
-    sets: &[u64],
-    sizes: Sizes,
-    table: &[u16],
-    begins: &[u16],
-    start: usize,
-    reached: &mut [u64],
-)
-    requires { SetStarting sizes.words sizes.symbols sizes.states sizes.recordings start reached.old
-        × (sizes.words * (sizes.symbols * sizes.states) ≤ length sets.now)
+        × (sizes.words * sizes.recordings ≤ ROOM) × (ROOM ≤ 16384) × (2 * sizes.recordings < STACK) × (STACK ≤ 16384)
         × InRange sizes.symbols sizes.recordings table.now
         × LinkBegins table.now sizes.recordings begins.now }
     ensures { SetAllFound sizes.words (Steps sets.now sizes.symbols sizes.words) sizes.symbols sizes.states
         table.now sizes.recordings start reached.old reached.new }
 {
     let mut images: [u64; 128] = [0; 128];
-    let mut pending: [u64; 16384] = [0; 16384];
-    let mut stack: [u16; 8193] = [0; 8193];
+    let mut pending: [u64; ROOM] = [0; ROOM];
+    let mut stack: [u16; STACK] = [0; STACK];
     search_from(
         sets,
         sizes,
@@ -320,41 +264,66 @@ fn fitting(
 
 // All pairs of a recording and a state that are reached from the start in state 0, as bits of the first words × recordings words; where the
 // sizes do not fit, nothing is changed. `sets` has the next states of each state over each symbol, `words` words for each. To zero room for
-// many recordings takes longer than to search a table of few, so these have less room. Few states and recordings are searched by sets of
-// recordings.
+// many recordings takes longer than to search a table of few, so these have less room; the most takes about 145 KiB of the thread's stack.
+// Few states and recordings are searched by sets of recordings.
 pub(super) fn search_sets(
     sets: &[u64],
-    symbols: u64,
     words: u64,
     states: u64,
-    table: &[u16],
-    begins: &[u16],
-    recordings: u64,
+    links: Indexed<'_>,
     start: u64,
     reached: &mut [u64],
 )
-    requires { InRange symbols recordings table.now × LinkBegins table.now recordings begins.now }
-    ensures { SetSearched sets.now symbols words states table.now recordings start
-        reached.old reached.new }
+    ensures { SetSearched sets.now links.entry.symbols words states links.entry.table.now links.entry.recordings
+        start reached.old reached.new }
 {
-    if !fitting(sets, symbols, words, states, recordings, start, reached) {
+    if !fitting(
+        sets,
+        links.symbols,
+        words,
+        states,
+        links.recordings,
+        start,
+        reached,
+    ) {
         return;
     }
-    let all = (words * recordings) as usize;
-    clear_words(reached, all);
+    let all = (words * links.recordings) as usize;
+    clear(reached, all);
     let sizes = Sizes {
-        symbols: symbols as usize,
+        symbols: links.symbols as usize,
         states: states as usize,
         words: words as usize,
-        recordings: recordings as usize,
+        recordings: links.recordings as usize,
     };
     if words == 1 && turnable(sets, sizes) {
-        search_turned(sets, sizes, table, start as usize, reached);
+        search_turned(sets, sizes, links.table, start as usize, reached);
     } else if all <= 256 {
-        search_few(sets, sizes, table, begins, start as usize, reached);
+        search_in::<256, 513>(
+            sets,
+            sizes,
+            links.table,
+            links.begins,
+            start as usize,
+            reached,
+        );
     } else if all <= 4096 {
-        search_middle(sets, sizes, table, begins, start as usize, reached);
+        search_in::<4096, 8193>(
+            sets,
+            sizes,
+            links.table,
+            links.begins,
+            start as usize,
+            reached,
+        );
     } else {
-        search_many(sets, sizes, table, begins, start as usize, reached);
+        search_in::<16384, 8193>(
+            sets,
+            sizes,
+            links.table,
+            links.begins,
+            start as usize,
+            reached,
+        );
     }
 }

@@ -1,83 +1,49 @@
 // The next states of a deterministic automaton as words, for the search over sets of states: rows and next states go by ranks.
 ghost use Rattle.std.specs.Prelude.{◌+◌, ◌*◌, ◌<◌, ◌≤◌, length};
-ghost use Rattle.answering.specs.StateSets.{RankedStep, StatesLent, StepPut, Filled, StateSets};
+ghost use Rattle.answering.specs.StateSets.{RankedStep, StepPut, Filled, StateSets};
 
 use super::pairs::put;
-use super::table::index;
+use super::ranked::Ranked;
 
 // The next state, over the list v, of the state with rank r is put into its row, where it is kept.
-fn put_step(
-    next: &[u16],
-    lists: usize,
-    states: usize,
-    words: usize,
-    ranks: &[u16],
-    kept: &[u16],
-    count: usize,
-    r: usize,
-    v: usize,
-    sets: &mut [u64],
-)
-    requires { StatesLent next.now lists states words ranks.now kept.now count
-        × (words * (lists * count) ≤ length sets.old) × (r < count) × (v < lists) }
-    ensures { StepPut words (RankedStep next.now states ranks.now kept.now count)
-        r v (lists * r + v) sets.old sets.new }
+fn put_step(ranked: Ranked<'_>, r: usize, v: usize, sets: &mut [u64])
+    requires { (ranked.words * (ranked.lists * ranked.count) ≤ length sets.old) × (r < ranked.count) × (v < ranked.lists) }
+    ensures { let R = ranked.entry in StepPut R.words (RankedStep R.next.now R.states R.ranks.now R.kept.now R.count)
+        r v (R.lists * r + v) sets.old sets.new }
 {
-    let t = index(next[16 * index(kept[r]) + v]);
-    if states <= t {
+    let t = usize::from(ranked.next[16 * usize::from(ranked.kept[r]) + v]);
+    if ranked.states <= t {
         return;
     }
-    let q = index(ranks[t]);
-    if q < count {
-        put(sets, words, lists * r + v, q);
+    let q = usize::from(ranked.ranks[t]);
+    if q < ranked.count {
+        put(sets, ranked.words, ranked.lists * r + v, q);
     }
 }
 
 // The next states of the state with rank r are put into their rows.
-fn put_row(
-    next: &[u16],
-    lists: usize,
-    states: usize,
-    words: usize,
-    ranks: &[u16],
-    kept: &[u16],
-    count: usize,
-    r: usize,
-    sets: &mut [u64],
-)
-    requires { StatesLent next.now lists states words ranks.now kept.now count
-        × (words * (lists * count) ≤ length sets.old) × (r < count)
-        × Filled lists words (RankedStep next.now states ranks.now kept.now count) (lists * r) sets.old }
-    ensures { Filled lists words (RankedStep next.now states ranks.now kept.now count)
-        (lists * r + lists) sets.new }
+fn put_row(ranked: Ranked<'_>, r: usize, sets: &mut [u64])
+    requires { (ranked.words * (ranked.lists * ranked.count) ≤ length sets.old) × (r < ranked.count)
+        × Filled ranked.lists ranked.words
+        (RankedStep ranked.next.now ranked.states ranked.ranks.now ranked.kept.now ranked.count)
+        (ranked.lists * r) sets.old }
+    ensures { let R = ranked.entry in Filled R.lists R.words (RankedStep R.next.now R.states R.ranks.now R.kept.now R.count)
+        (R.lists * r + R.lists) sets.new }
 {
-    let mut v = 0;
-    while v < lists {
-        put_step(next, lists, states, words, ranks, kept, count, r, v, sets);
-        v += 1;
+    for v in 0..ranked.lists {
+        put_step(ranked, r, v, sets);
     }
 }
 
 // The words, which hold nothing before, get the next states of all states that are kept.
-pub(super) fn put_rows(
-    next: &[u16],
-    lists: usize,
-    states: usize,
-    words: usize,
-    ranks: &[u16],
-    kept: &[u16],
-    count: usize,
-    sets: &mut [u64],
-)
-    requires { StatesLent next.now lists states words ranks.now kept.now count
-        × (words * (lists * count) ≤ length sets.old)
-        × Filled lists words (RankedStep next.now states ranks.now kept.now count) 0 sets.old }
-    ensures { StateSets lists words count (RankedStep next.now states ranks.now kept.now count)
-        sets.new }
+pub(super) fn put_rows(ranked: Ranked<'_>, sets: &mut [u64])
+    requires { (ranked.words * (ranked.lists * ranked.count) ≤ length sets.old)
+        × Filled ranked.lists ranked.words
+        (RankedStep ranked.next.now ranked.states ranked.ranks.now ranked.kept.now ranked.count) 0 sets.old }
+    ensures { let R = ranked.entry in StateSets R.lists R.words R.count
+        (RankedStep R.next.now R.states R.ranks.now R.kept.now R.count) sets.new }
 {
-    let mut r = 0;
-    while r < count {
-        put_row(next, lists, states, words, ranks, kept, count, r, sets);
-        r += 1;
+    for r in 0..ranked.count {
+        put_row(ranked, r, sets);
     }
 }

@@ -7,20 +7,6 @@ ghost use Rattle.answering.specs.LinkBegins.{Unlisted, LinkBegins};
 // The most links or lists of a table.
 const MOST_LINKS: usize = 16384;
 
-// A lent number at 64 bits.
-pub(super) fn wide(number: u16) -> u64
-    ensures { result ≡ number }
-{
-    number as u64
-}
-
-// A lent number as an index.
-pub(super) fn index(number: u16) -> usize
-    ensures { result ≡ number }
-{
-    number as usize
-}
-
 // A triple as one number: these are in the order of the triples.
 fn number_of(x: u64, a: u64, y: u64) -> u64
     requires { (x < 65536) × (a < 65536) × (y < 65536) }
@@ -45,12 +31,10 @@ pub(super) fn index_table(table: &[u16], recordings: u64, symbols: u64, begins: 
         return false;
     }
     let mut after = number_of(recordings, 0, 0);
-    let mut at = table.len() / 3;
-    while 0 < at {
-        at -= 1;
-        let x = wide(table[3 * at]);
-        let a = wide(table[3 * at + 1]);
-        let y = wide(table[3 * at + 2]);
+    for at in (0..table.len() / 3).rev() {
+        let x = u64::from(table[3 * at]);
+        let a = u64::from(table[3 * at + 1]);
+        let y = u64::from(table[3 * at + 2]);
         if recordings <= y {
             return false;
         }

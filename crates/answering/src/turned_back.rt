@@ -5,17 +5,15 @@ ghost use Rattle.answering.specs.TurnedBack.{WordTurned, Turning, TurnedBack};
 
 use super::pairs::put;
 use super::sizes::Sizes;
+use places::Places;
 
 // The members of a word, which count recordings from `from` on, get the state s.
 fn turn_word(set: u64, from: usize, s: usize, reached: &mut [u64])
     requires { (s < 64) × (from ≤ 256) × ((p : ℕ) → Member p set → from + p < length reached.old) }
     ensures { WordTurned set from s reached.old reached.new }
 {
-    let mut rest = set;
-    while rest != 0 {
-        let p = u64::trailing_zeros(rest) as usize;
+    for p in Places(set).members() {
         put(reached, 1, from + p, s);
-        rest = rest & (rest - 1);
     }
 }
 
@@ -24,9 +22,7 @@ pub(super) fn turn_back(sizes: Sizes, sets: &[u64], reached: &mut [u64])
     requires { Turning sizes.states sizes.recordings sets.now reached.old }
     ensures { TurnedBack sizes.states sizes.recordings sets.now reached.old reached.new }
 {
-    let mut i = 0;
-    while i < 4 * sizes.states {
+    for i in 0..4 * sizes.states {
         turn_word(sets[i], 64 * (i % 4), i / 4, reached);
-        i += 1;
     }
 }

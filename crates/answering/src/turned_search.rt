@@ -1,34 +1,19 @@
 // The search of an automaton of few states over few recordings: for each state the set of the recordings that are reached in it, so that
 // links are followed from all recordings of a word at once, by their ends (ends).
-ghost use Rattle.std.specs.Prelude.{◌≡◌, ℕ, ◌*◌, ◌^◌, ◌<◌, ◌≤◌, true, length, slice_index};
+ghost use Rattle.std.specs.Prelude.{◌≡◌, ◌*◌, ◌<◌, ◌≤◌, true, length};
 ghost use Rattle.answering.specs.Links.{InRange};
-ghost use Rattle.answering.specs.Ends.{EndsFit, NoEnds, EndsBelow};
 ghost use Rattle.answering.specs.EndSteps.{Turnable};
 ghost use Rattle.answering.specs.SetSearch.{Steps};
 ghost use Rattle.answering.specs.SetSearchRun.{SetStarting, SetAllFound};
 ghost use Rattle.answering.specs.TurnedRun.{TurnedRoom, TurnedBlank, WordTaken, RoundTaken, TurnedFound};
 
+use super::end_rows::EndRows;
 use super::end_steps::follow_members;
 use super::ends::fill_ends;
 use super::pairs::put;
+use super::rows::sets_within;
 use super::sizes::Sizes;
 use super::turned_back::turn_back;
-
-// Whether the states of all rows are below `states`.
-fn rows_within(rows: &[u64], count: usize, states: usize) -> bool
-    requires { (count ≤ length rows.now) × (states ≤ 16) }
-    ensures { result ≡ true → (i : ℕ) → i < count → slice_index rows.now i < 2 ^ states }
-{
-    let end: u64 = 1 << states;
-    let mut i = 0;
-    while i < count {
-        if end <= rows[i] {
-            return false;
-        }
-        i += 1;
-    }
-    true
-}
 
 // Whether the search by sets of recordings serves: for few states, which lead to one another, and few recordings.
 pub(super) fn turnable(rows: &[u64], sizes: Sizes) -> bool
@@ -48,22 +33,13 @@ pub(super) fn turnable(rows: &[u64], sizes: Sizes) -> bool
     if 768 < sizes.symbols * sizes.recordings {
         return false;
     }
-    rows_within(rows, sizes.symbols * sizes.states, sizes.states)
+    sets_within(&rows[..sizes.symbols * sizes.states], sizes.states)
 }
 
 // The links of those recordings of a word that are new are followed, and these are done. Whether there are any is returned.
-fn take_word(
-    rows: &[u64],
-    sizes: Sizes,
-    ends: &[u64],
-    i: usize,
-    sets: &mut [u64],
-    done: &mut [u64],
-) -> bool
-    requires { Turnable rows.now sizes.symbols sizes.states × EndsFit sizes.symbols sizes.recordings ends.now
-        × EndsBelow sizes.symbols sizes.recordings ends.now
-        × TurnedRoom sizes.states sizes.recordings sets.old done.old × (i < 4 * sizes.states) }
-    ensures { WordTaken rows.now sizes.symbols sizes.states sizes.recordings ends.now i
+fn take_word(turned: EndRows<'_>, i: usize, sets: &mut [u64], done: &mut [u64]) -> bool
+    requires { TurnedRoom turned.sizes.states turned.sizes.recordings sets.old done.old × (i < 4 * turned.sizes.states) }
+    ensures { let T = turned.entry in WordTaken T.rows.now T.sizes.symbols T.sizes.states T.sizes.recordings T.ends.now i
         sets.old done.old sets.new done.new result }
 {
     let all = sets[i];
@@ -72,70 +48,61 @@ fn take_word(
         return false;
     }
     done[i] = all;
-    follow_members(rows, sizes, ends, 64 * (i % 4), new, i / 4, sets);
+    follow_members(turned, 64 * (i % 4), new, i / 4, sets);
     true
 }
 
 // Each word is taken once. Whether one of them had something new is returned.
-fn take_words(rows: &[u64], sizes: Sizes, ends: &[u64], sets: &mut [u64], done: &mut [u64]) -> bool
-    requires { Turnable rows.now sizes.symbols sizes.states × EndsFit sizes.symbols sizes.recordings ends.now
-        × EndsBelow sizes.symbols sizes.recordings ends.now
-        × TurnedRoom sizes.states sizes.recordings sets.old done.old }
-    ensures { RoundTaken rows.now sizes.symbols sizes.states sizes.recordings ends.now
+fn take_words(turned: EndRows<'_>, sets: &mut [u64], done: &mut [u64]) -> bool
+    requires { TurnedRoom turned.sizes.states turned.sizes.recordings sets.old done.old }
+    ensures { let T = turned.entry in RoundTaken T.rows.now T.sizes.symbols T.sizes.states T.sizes.recordings T.ends.now
         sets.old done.old sets.new done.new result }
 {
     let mut more = false;
-    let mut i = 0;
-    while i < 4 * sizes.states {
-        if take_word(rows, sizes, ends, i, sets, done) {
+    for i in 0..4 * turned.sizes.states {
+        if take_word(turned, i, sets, done) {
             more = true;
         }
-        i += 1;
     }
     more
 }
 
 // The sets of all recordings that are reached from the start in state 0, by rounds until nothing is new.
-fn find_sets(
-    rows: &[u64],
-    sizes: Sizes,
-    ends: &[u64],
-    start: usize,
-    sets: &mut [u64],
-    done: &mut [u64],
-)
-    requires { Turnable rows.now sizes.symbols sizes.states × EndsFit sizes.symbols sizes.recordings ends.now
-        × EndsBelow sizes.symbols sizes.recordings ends.now
-        × TurnedBlank sizes.states sets.old done.old × (start < sizes.recordings) }
-    ensures { TurnedFound rows.now sizes.symbols sizes.states sizes.recordings ends.now start
+fn find_sets(turned: EndRows<'_>, start: usize, sets: &mut [u64], done: &mut [u64])
+    requires { TurnedBlank turned.sizes.states sets.old done.old × (start < turned.sizes.recordings) }
+    ensures { let T = turned.entry in TurnedFound T.rows.now T.sizes.symbols T.sizes.states T.sizes.recordings T.ends.now start
         sets.new }
 {
     put(sets, 4, 0, start);
-    let mut more = true;
-    while more {
-        more = take_words(rows, sizes, ends, sets, done);
-    }
+    // Nothing is counted: rounds go on until one brings nothing new.
+    while take_words(turned, sets, done) {}
 }
 
-// The search, with lent words for the ends.
-fn search_lent(
+// The search, with ROOM words for the ends.
+fn search_in<const ROOM: usize>(
     rows: &[u64],
     sizes: Sizes,
     table: &[u16],
     start: usize,
     reached: &mut [u64],
-    ends: &mut [u64],
 )
     requires { Turnable rows.now sizes.symbols sizes.states × InRange sizes.symbols sizes.recordings table.now
-        × EndsFit sizes.symbols sizes.recordings ends.old × NoEnds ends.old
+        × (sizes.recordings ≤ 256) × (sizes.symbols * sizes.recordings ≤ 768)
+        × (4 * (sizes.symbols * sizes.recordings) ≤ ROOM) × (ROOM ≤ 16384)
         × SetStarting 1 sizes.symbols sizes.states sizes.recordings start reached.old }
     ensures { SetAllFound 1 (Steps rows.now sizes.symbols 1) sizes.symbols sizes.states table.now
         sizes.recordings start reached.old reached.new }
 {
-    fill_ends(table, sizes, ends);
+    let mut ends: [u64; ROOM] = [0; ROOM];
+    fill_ends(table, sizes, &mut ends);
+    let turned = EndRows {
+        sizes,
+        rows,
+        ends: &ends,
+    };
     let mut sets: [u64; 64] = [0; 64];
     let mut done: [u64; 64] = [0; 64];
-    find_sets(rows, sizes, ends, start, &mut sets, &mut done);
+    find_sets(turned, start, &mut sets, &mut done);
     turn_back(sizes, &sets, reached);
 }
 
@@ -155,10 +122,8 @@ pub(super) fn search_turned(
         sizes.recordings start reached.old reached.new }
 {
     if sizes.symbols * sizes.recordings <= 256 {
-        let mut ends: [u64; 1024] = [0; 1024];
-        search_lent(rows, sizes, table, start, reached, &mut ends);
+        search_in::<1024>(rows, sizes, table, start, reached);
     } else {
-        let mut ends: [u64; 3072] = [0; 3072];
-        search_lent(rows, sizes, table, start, reached, &mut ends);
+        search_in::<3072>(rows, sizes, table, start, reached);
     }
 }

@@ -1,7 +1,5 @@
-// The search of an automaton of at most 64 states (set_search): each set of states is one word. The next states are given by rows: each state
-// has a row of words, one for each symbol; or, where the rows are `cut`, each state has one word for all symbols, and of that each symbol
-// takes those states that its own word has. The links are known to be in range, so that nothing of a link is tested: whether it brings
-// something new decides numbers, not branches.
+// The search of an automaton of at most 64 states (set_search): each set of states is one word. The next states are given by rows (step_rows).
+// The links are known to be in range, so that nothing of a link is tested: whether it brings something new decides numbers, not branches.
 ghost use Rattle.std.specs.Prelude.{◌≡◌, ℕ, ◌+◌, ◌-◌, ◌*◌, ◌^◌, ◌<◌, ◌≤◌, length, slice_index};
 ghost use Rattle.theory.specs.Places.{Member};
 ghost use Rattle.places.specs.Joined.{joined};
@@ -9,12 +7,12 @@ ghost use Rattle.answering.specs.Links.{FirstLink, InRange};
 ghost use Rattle.answering.specs.LinkBegins.{LinkBegins};
 ghost use Rattle.answering.specs.SetSteps.{StatesAdded, RowFollowed, RowsFollowed};
 ghost use Rattle.answering.specs.SetSearchRun.{SetBeginning, SetAllFound};
-ghost use Rattle.answering.specs.WordSteps.{rows_of, WordStep, WordImage, NextRoom, NextImages, WordRoom, Raised};
+ghost use Rattle.answering.specs.WordSteps.{WordStep, WordImage, NextRoom, NextImages, WordRoom, Raised};
 ghost use Rattle.answering.specs.WordsPending.{pending_of, WordsReady, LinksFollowed, Alone};
 
-use super::link_view::{leaving_at, next_leaving};
+use super::link_view::{LinkView, leaving_at, next_leaving};
 use super::sizes::Sizes;
-use super::table::index;
+use super::step_rows::StepRows;
 use places::joined::join;
 
 // The states below n.
@@ -23,7 +21,7 @@ fn states_below(n: usize) -> u64
     ensures { result ≡ 2 ^ n - 1 }
 {
     if n == 64 {
-        return 18446744073709551615;
+        return u64::MAX;
     }
     (1 << n) - 1
 }
@@ -33,10 +31,8 @@ fn spread_word(rows: &[u64], symbols: usize, states: u64, images: &mut [u64])
     requires { ((s a : ℕ) → Member s states → a < symbols → symbols * s + a < length rows.now) × (symbols ≤ length images.old) }
     ensures { (a : ℕ) → a < symbols → slice_index images.new a ≡ joined rows.now a symbols states }
 {
-    let mut a = 0;
-    while a < symbols {
+    for a in 0..symbols {
         images[a] = join(rows, a, symbols, states);
-        a += 1;
     }
 }
 
@@ -49,7 +45,7 @@ fn next_images(rows: &[u64], cut: bool, symbols: usize, states: u64, images: &mu
         return join(rows, 0, 1, states);
     }
     spread_word(rows, symbols, states, images);
-    18446744073709551615
+    u64::MAX
 }
 
 // One more where nothing waited and something is new.
@@ -108,14 +104,13 @@ fn follow_word(
     add_word(images[a] & next, y, reached, done, stack, height)
 }
 
-// All links that leave x are followed, `images` and `next` having the next states over each symbol, and `first` being the first triple that
-// leaves x. The height of the stack is returned.
+// All links that leave x are followed, `images` and `next` having the next states over each symbol, and `links` being at the first triple
+// that leaves x. The height of the stack is returned.
 fn follow_word_links(
     images: &[u64],
     next: u64,
     sizes: Sizes,
-    table: &[u16],
-    first: usize,
+    links: LinkView<'_>,
     x: usize,
     reached: &mut [u64],
     done: &[u64],
@@ -123,20 +118,20 @@ fn follow_word_links(
     height: usize,
 ) -> usize
     requires { WordsReady sizes.recordings reached.old done.now stack.old height
-        × (sizes.symbols ≤ length images.now) × FirstLink table.now x first
-        × InRange sizes.symbols sizes.recordings table.now }
-    ensures { RowsFollowed 1 sizes.recordings sizes.symbols table.now x (WordImage images.now next)
+        × (sizes.symbols ≤ length images.now) × FirstLink links.table.now x links.at
+        × InRange sizes.symbols sizes.recordings links.table.now }
+    ensures { RowsFollowed 1 sizes.recordings sizes.symbols links.entry.table.now x (WordImage images.now next)
         reached.old (pending_of reached.old done.now) height
         reached.new (pending_of reached.new done.now) stack.new result }
 {
     let from = x as u64;
     let mut top = height;
-    let mut link = leaving_at(table, first, from);
-    while link.leaves {
+    let mut leaving = leaving_at(links.table, links.at, from);
+    while let Some(link) = leaving {
         top = follow_word(
             images, next, sizes, link.label, link.end, reached, done, stack, top,
         );
-        link = next_leaving(table, link.at, from);
+        leaving = next_leaving(links.table, link.at, from);
     }
     top
 }
@@ -154,12 +149,9 @@ fn alone(states: u64) -> bool
 // All links that leave x are followed from the states. The row of one state alone serves as its images at once, where the rows are not cut.
 // Where they are, `images` has the words of the symbols, and keeps them. The height of the stack is returned.
 fn follow_states(
-    rows: &[u64],
-    cut: bool,
+    steps: StepRows<'_>,
     states: u64,
-    sizes: Sizes,
-    table: &[u16],
-    first: usize,
+    links: LinkView<'_>,
     x: usize,
     images: &mut [u64],
     reached: &mut [u64],
@@ -167,21 +159,21 @@ fn follow_states(
     stack: &mut [u16],
     height: usize,
 ) -> usize
-    requires { NextRoom cut sizes.symbols rows.now states images.old
-        × WordsReady sizes.recordings reached.old done.now stack.old height × FirstLink table.now x first
-        × InRange sizes.symbols sizes.recordings table.now }
-    ensures { LinksFollowed cut sizes.recordings sizes.symbols table.now x
-        rows.now states images.old images.new
+    requires { NextRoom steps.cut steps.sizes.symbols steps.rows.now states images.old
+        × WordsReady steps.sizes.recordings reached.old done.now stack.old height × FirstLink links.table.now x links.at
+        × InRange steps.sizes.symbols steps.sizes.recordings links.table.now }
+    ensures { let S = steps.entry in LinksFollowed S.cut S.sizes.recordings S.sizes.symbols links.entry.table.now x
+        S.rows.now states images.old images.new
         reached.old done.now height reached.new stack.new result }
 {
-    if !cut && alone(states) {
+    let sizes = steps.sizes;
+    if !steps.cut && alone(states) {
         let from = sizes.symbols * (u64::trailing_zeros(states) as usize);
         return follow_word_links(
-            &rows[from..],
-            18446744073709551615,
+            &steps.rows[from..],
+            u64::MAX,
             sizes,
-            table,
-            first,
+            links,
             x,
             reached,
             done,
@@ -189,10 +181,8 @@ fn follow_states(
             height,
         );
     }
-    let next = next_images(rows, cut, sizes.symbols, states, images);
-    follow_word_links(
-        images, next, sizes, table, first, x, reached, done, stack, height,
-    )
+    let next = next_images(steps.rows, steps.cut, sizes.symbols, states, images);
+    follow_word_links(images, next, sizes, links, x, reached, done, stack, height)
 }
 
 // The numbers from the place `head` on, `count` of them, come to the front.
@@ -200,11 +190,7 @@ fn move_front(stack: &mut [u16], head: usize, count: usize)
     requires { head + count ≤ length stack.old }
     ensures { (i : ℕ) → i < count → slice_index stack.new i ≡ slice_index stack.old (head + i) }
 {
-    let mut i = 0;
-    while i < count {
-        stack[i] = stack[head + i];
-        i += 1;
-    }
+    stack.copy_within(head..head + count, 0);
 }
 
 // All that is reached from the start in state 0: while something is pending, the recording that waits longest, at `head`, is taken with its
@@ -212,9 +198,7 @@ fn move_front(stack: &mut [u16], head: usize, count: usize)
 // Those that wait come to the front when the head has gone on by as many places as there are recordings. What has been followed of each
 // recording is kept in `done`, nothing to begin with. Where the rows are cut, `images` has the words of the symbols.
 pub(super) fn follow_all_words(
-    rows: &[u64],
-    cut: bool,
-    sizes: Sizes,
+    steps: StepRows<'_>,
     table: &[u16],
     begins: &[u16],
     start: usize,
@@ -223,31 +207,32 @@ pub(super) fn follow_all_words(
     done: &mut [u64],
     stack: &mut [u16],
 )
-    requires { SetBeginning 1 sizes.symbols sizes.states sizes.recordings start reached.old done.old stack.old
-        × (rows_of cut sizes.symbols sizes.states ≤ length rows.now) × (sizes.symbols ≤ length images.old)
-        × LinkBegins table.now sizes.recordings begins.now × (2 * sizes.recordings < length stack.old)
-        × InRange sizes.symbols sizes.recordings table.now }
-    ensures { SetAllFound 1 (WordStep cut rows.now sizes.symbols images.old) sizes.symbols sizes.states
-        table.now sizes.recordings start reached.old reached.new }
+    requires { SetBeginning 1 steps.sizes.symbols steps.sizes.states steps.sizes.recordings start reached.old done.old stack.old
+        × (steps.sizes.symbols ≤ length images.old)
+        × LinkBegins table.now steps.sizes.recordings begins.now × (2 * steps.sizes.recordings < length stack.old)
+        × InRange steps.sizes.symbols steps.sizes.recordings table.now }
+    ensures { let S = steps.entry in SetAllFound 1 (WordStep S.cut S.rows.now S.sizes.symbols images.old) S.sizes.symbols
+        S.sizes.states table.now S.sizes.recordings start reached.old reached.new }
 {
-    let known = states_below(sizes.states);
+    let known = states_below(steps.sizes.states);
     let mut top = add_word(1, start, reached, done, stack, 0);
     let mut head: usize = 0;
+    // A work list: recordings are added while one is taken.
     while 0 < top {
-        let x = index(stack[head]);
+        let x = usize::from(stack[head]);
         top -= 1;
         head += 1;
         let all = reached[x];
         let states = (all ^ done[x]) & known;
         done[x] = all;
-        let first = index(begins[x]);
-        top = follow_states(
-            rows,
-            cut,
-            states,
-            sizes,
+        let links = LinkView {
             table,
-            first,
+            at: usize::from(begins[x]),
+        };
+        top = follow_states(
+            steps,
+            states,
+            links,
             x,
             images,
             reached,
@@ -255,7 +240,7 @@ pub(super) fn follow_all_words(
             &mut stack[head..],
             top,
         );
-        if head == sizes.recordings {
+        if head == steps.sizes.recordings {
             move_front(stack, head, top);
             head = 0;
         }

@@ -4,10 +4,11 @@ ghost use Rattle.std.specs.Prelude.{◌≤◌};
 use crate::explore::explore;
 use crate::images::put_all_lists;
 use crate::label_tables::{put_all_places, put_all_standings};
-use reading::{ReadAnswer, load};
+use reading::load;
+use syntax::Span;
 
 // What Find has a limit for.
-#[derive(Clone, Copy)]
+#[derive(Clone, Copy, Debug, PartialEq, Eq)]
 pub(super) enum Limited {
     Standings,
     States,
@@ -78,7 +79,7 @@ fn count_in(
 pub(super) fn count(text: &[u8], kind: Limited) -> usize
     ensures { result ≤ 512 }
 {
-    let mut names = [0; 96];
+    let mut names = [Span::EMPTY; 48];
     let mut follow = [0; 1088];
     let mut enter = [0; 544];
     let mut sizes = [0; 17];
@@ -92,14 +93,14 @@ pub(super) fn count(text: &[u8], kind: Limited) -> usize
         &mut accepting,
     );
     match told {
-        ReadAnswer::Job(labels, lists) => count_in(
+        Ok(job) => count_in(
             &follow,
             &enter,
             &accepting,
-            labels as usize,
-            lists as usize,
+            job.labels as usize,
+            job.lists as usize,
             kind,
         ),
-        ReadAnswer::Refused(_, _) => 0,
+        Err(_) => 0,
     }
 }

@@ -3,8 +3,7 @@ ghost use Rattle.std.specs.Prelude.{◌≤◌, length};
 
 use crate::count::{Limited, count};
 use listed::{Listed, put_case};
-use output::number::put_number;
-use output::put::put_part;
+use output::Writer;
 use std::io;
 use std::io::{Stdout, Write};
 
@@ -12,9 +11,11 @@ use std::io::{Stdout, Write};
 fn put_count(out: &mut [u8], number: usize, word: &[u8]) -> usize
     ensures { result ≤ length out.new }
 {
-    let opened = put_part(out, 0, b"counted ");
-    let counted = put_number(out, opened, number as u64);
-    put_part(out, counted, word)
+    let mut w = Writer::new(out);
+    w.put_part(b"counted ");
+    w.put_number(number as u64);
+    w.put_part(word);
+    w.at
 }
 
 fn write_count(mut to: Stdout, number: usize, word: &[u8]) -> io::Result<()> {

@@ -21,14 +21,10 @@ pub(super) fn place_of(found: &[u64], n: usize, set: u64) -> usize
     requires { n ≤ length found.now }
     ensures { result ≤ n }
 {
-    let mut i = 0;
-    while i < n {
-        if found[i] == set {
-            return i;
-        }
-        i += 1;
-    }
-    n
+    found[..n]
+        .iter()
+        .position(|known| *known == set)
+        .unwrap_or(n)
 }
 
 // A set goes behind the n that are found, where it is not among them and there is room. How many are found then is returned.
@@ -36,10 +32,7 @@ fn add(found: &mut [u64], n: usize, set: u64) -> usize
     requires { n ≤ length found.old }
     ensures { (n ≤ result) × (result ≤ length found.new) }
 {
-    if place_of(found, n, set) < n {
-        return n;
-    }
-    if n == found.len() {
+    if found[..n].contains(&set) || n == found.len() {
         return n;
     }
     found[n] = set;
@@ -53,10 +46,8 @@ fn extend(table: &Table, symbols: usize, i: usize, n: usize, found: &mut [u64]) 
 {
     let set = found[i];
     let mut m = n;
-    let mut a = 0;
-    while a < symbols {
+    for a in 0..symbols {
         m = add(found, m, next_set(table, a, set));
-        a += 1;
     }
     m
 }
@@ -69,6 +60,7 @@ pub(super) fn explore(table: &Table, symbols: usize, found: &mut [u64]) -> usize
     found[0] = Places::START.0;
     let mut n = 1;
     let mut i = 0;
+    // No `for`: the list grows while it is gone through.
     while i < n {
         n = extend(table, symbols, i, n, found);
         i += 1;

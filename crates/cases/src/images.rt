@@ -14,14 +14,12 @@ const MOST_PAIRS: u64 = 4096;
 // Adds the standings to those reached at the places; whether one of them is new.
 fn add_at(places: u64, standings: u64, reached: &mut [u64; 64]) -> bool {
     let mut new = false;
-    let mut p = 0;
-    while p < 64 {
+    for p in 0..64 {
         let all = reached[p] | standings;
         if Places(places).has(p as u64) && all != reached[p] {
             reached[p] = all;
             new = true;
         }
-        p += 1;
     }
     new
 }
@@ -37,13 +35,9 @@ fn follow_labels(
     requires { (labels ≤ 32) × (p < 64) }
 {
     let mut new = false;
-    let mut a = 0;
-    while a < labels {
+    for a in 0..labels {
         let to = next_set(query, a, reached[p]);
-        if add_at(list[64 * a + p], to, reached) {
-            new = true;
-        }
-        a += 1;
+        new |= add_at(list[64 * a + p], to, reached);
     }
     new
 }
@@ -53,12 +47,8 @@ fn follow_pairs(list: &Table, query: &Table, labels: usize, reached: &mut [u64; 
     requires { labels ≤ 32 }
 {
     let mut new = false;
-    let mut p = 0;
-    while p < 64 {
-        if follow_labels(list, query, labels, p, reached) {
-            new = true;
-        }
-        p += 1;
+    for p in 0..64 {
+        new |= follow_labels(list, query, labels, p, reached);
     }
     new
 }
@@ -67,12 +57,10 @@ fn follow_pairs(list: &Table, query: &Table, labels: usize, reached: &mut [u64; 
 fn reach(list: &Table, query: &Table, labels: usize, reached: &mut [u64; 64])
     requires { labels ≤ 32 }
 {
-    let mut rounds = 0;
-    while rounds < MOST_PAIRS {
+    for _ in 0..MOST_PAIRS {
         if !follow_pairs(list, query, labels, reached) {
             return;
         }
-        rounds += 1;
     }
 }
 
@@ -103,10 +91,8 @@ fn put_images(
 )
     requires { (labels ≤ 32) × (n ≤ 64) × (v < 16) }
 {
-    let mut s = 0;
-    while s < n {
+    for s in 0..n {
         images[64 * v + s] = image(list, query, labels, accepting, s);
-        s += 1;
     }
 }
 
@@ -142,9 +128,7 @@ pub(super) fn put_all_lists(
 )
     requires { (labels ≤ 32) × (lists ≤ 16) × (n ≤ 64) }
 {
-    let mut v = 0;
-    while v < lists {
+    for v in 0..lists {
         put_list(follow, enter, accepting, query, labels, n, v, images);
-        v += 1;
     }
 }

@@ -8,10 +8,8 @@ use places::Places;
 fn put_places(follow: &[u64; 1088], entered: u64, x: usize, a: usize, table: &mut Table)
     requires { (x < 17) × (a < 32) }
 {
-    let mut p = 0;
-    while p < 64 {
+    for p in 0..64 {
         table[64 * a + p] = follow[64 * x + p] & entered;
-        p += 1;
     }
 }
 
@@ -25,10 +23,8 @@ pub(super) fn put_all_places(
 )
     requires { (x < 17) × (labels ≤ 32) }
 {
-    let mut a = 0;
-    while a < labels {
+    for a in 0..labels {
         put_places(follow, enter[32 * x + a], x, a, table);
-        a += 1;
     }
 }
 
@@ -36,11 +32,9 @@ pub(super) fn put_all_places(
 fn put_standings(places: &Table, found: &[u64; 64], n: usize, a: usize, table: &mut Table)
     requires { (a < 32) × (n ≤ 64) }
 {
-    let mut s = 0;
-    while s < n {
+    for s in 0..n {
         let to = place_of(found, n, next_set(places, a, found[s]));
         table[64 * a + s] = Places::one(to as u64).0;
-        s += 1;
     }
 }
 
@@ -54,9 +48,7 @@ pub(super) fn put_all_standings(
 )
     requires { (labels ≤ 32) × (n ≤ 64) }
 {
-    let mut a = 0;
-    while a < labels {
+    for a in 0..labels {
         put_standings(places, found, n, a, table);
-        a += 1;
     }
 }

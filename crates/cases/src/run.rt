@@ -2,8 +2,7 @@
 ghost use Rattle.std.specs.Prelude.{◌≤◌, length};
 
 use listed::{Listed, put_case};
-use output::number::put_number;
-use output::put::put_part;
+use output::Writer;
 use printing::print_at;
 use std::io;
 use std::io::{Stdout, Write};
@@ -12,11 +11,13 @@ use std::io::{Stdout, Write};
 fn put_title(out: &mut [u8], title: &[u8], allowance: u64) -> usize
     ensures { result ≤ length out.new }
 {
-    let opened = put_part(out, 0, b"case ");
-    let titled = put_part(out, opened, title);
-    let worded = put_part(out, titled, b", allowance ");
-    let numbered = put_number(out, worded, allowance);
-    put_part(out, numbered, b"\n")
+    let mut w = Writer::new(out);
+    w.put_part(b"case ");
+    w.put_part(title);
+    w.put_part(b", allowance ");
+    w.put_number(allowance);
+    w.put(b'\n');
+    w.at
 }
 
 pub(super) fn run(mut to: Stdout, title: &[u8], case: Listed, allowance: u64) -> io::Result<()> {

@@ -12,7 +12,8 @@ use Rattle.reading.specs.Read.{Reading, job, refused, read}
 use Rattle.reading.specs.ReadFacts.{read-facts}
 use Rattle.finding.specs.Find.{Found, found, find, refused as unfound}
 use Rattle.finding.specs.FindCourse.{FindCourse, many-standings, many-states, answered}
-use Rattle.keeping.specs.declared.operation.KeepAnswer.TheVariants.{Refused}
+use Rattle.std.specs.Prelude.{Err}
+use Rattle.reading.specs.Answering.{unlined}
 use Rattle.keeping.specs.Kept.{kept_length, kept}
 use Rattle.keeping.specs.KeptLaws.{kept-fits}
 use Rattle.keeping.specs.KeepOperation.{Outcome, left, left_by, left_by_reading, outcome, written}
@@ -64,7 +65,7 @@ module _ (text out : Bytes) where
   keep-listed = measured (ltb (length out) kept_length) refl
     where
       measured : (b : Bool) → ltb (length out) kept_length ≡ b → KeepListed (elim b as (λ b. Outcome) [
-        | true ↦ left (Refused BufferTooShort 0) out
+        | true ↦ left (Err (unlined BufferTooShort)) out
         | false ↦ left_by_reading (read text) out
       ])
       measured true e =

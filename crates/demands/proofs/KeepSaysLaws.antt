@@ -14,7 +14,8 @@ use Rattle.reading.specs.ReadFacts.{read-facts}
 use Rattle.finding.specs.Find.{Found, found, find, refused as unfound}
 use Rattle.finding.specs.FindsUnique.{finds-unique}
 use Rattle.finding.specs.FindCourse.{FindCourse, many-standings, many-states, answered}
-use Rattle.keeping.specs.declared.operation.KeepAnswer.TheVariants.{Refused}
+use Rattle.std.specs.Prelude.{Err}
+use Rattle.reading.specs.Answering.{unlined}
 use Rattle.keeping.specs.Kept.{kept_length, kept}
 use Rattle.keeping.specs.KeptFileLaws.{file-lists, file-states, file-name, file-sound}
 use Rattle.keeping.specs.KeepOperation.{Outcome, left, left_by, left_by_reading, outcome, written}
@@ -54,10 +55,10 @@ module _ (text out : Bytes) where
   keep-says = measured (ltb (length out) kept_length)
     where
       measured : (b : Bool) → (elim b as (λ b. Outcome) [
-        | true ↦ left (Refused BufferTooShort 0) out
+        | true ↦ left (Err (unlined BufferTooShort)) out
         | false ↦ left_by_reading (read text) out
       ]).reply.number ≡ 0 → Says (elim b as (λ b. Outcome) [
-        | true ↦ left (Refused BufferTooShort 0) out
+        | true ↦ left (Err (unlined BufferTooShort)) out
         | false ↦ left_by_reading (read text) out
       ])
       measured true z = absurd (omega arith)

@@ -13,7 +13,8 @@ use Rattle.finding.specs.FindsUnique.{finds-unique}
 use Rattle.finding.specs.FindCourse.{many-standings, many-states}
 use Rattle.finding.specs.Outcome.{left_by as find_left}
 use Rattle.finding.specs.Rewritten.{rewritten}
-use Rattle.verdict.specs.declared.operation.VerdictAnswer.TheVariants.{Refused}
+use Rattle.std.specs.Prelude.{Err}
+use Rattle.reading.specs.Answering.{unlined}
 use Rattle.verdict.specs.Verdict.{Verdict}
 use Rattle.verdict.specs.Verdicts.{cover_places, DistinctPairs, CountsPairs}
 use Rattle.verdict.specs.PairLaws.{distinct-at-most}
@@ -51,7 +52,7 @@ module _ (text : Bytes) (allowance : ℕ) (table flags path workspace : List ℕ
   abbrev Short : Type 0
   Short = (length table < 4096) ⊎ ((length flags < 256) ⊎ ((length path < allowance) ⊎ (length workspace < 18 * allowance)))
 
-  out_of_range : OutOfRange → VerdictListed (left (Refused BadAllowance 0) table flags path workspace)
+  out_of_range : OutOfRange → VerdictListed (left (Err (unlined BadAllowance)) table flags path workspace)
   out_of_range h =
       listed-unchanged _ _ (refuses-first _ (refuses-under 11 (lit≤ tt) h)) refl eleven-keeps (refl, (refl, (refl, (refl, tt))))
 
@@ -63,7 +64,7 @@ module _ (text : Bytes) (allowance : ℕ) (table flags path workspace : List ℕ
         side (inl h) = omega arith
         side (inr h) = omega arith
 
-    too_short : Short → VerdictListed (left (Refused BufferTooShort 0) table flags path workspace)
+    too_short : Short → VerdictListed (left (Err (unlined BufferTooShort)) table flags path workspace)
     too_short h =
         listed-unchanged _ _ (refuses-later in-range (refuses-first _ (refuses-under 8 (lit≤ tt) h))) refl eight-keeps
         (refl, (refl, (refl, (refl, tt))))

@@ -20,7 +20,8 @@ use Rattle.finding.specs.Outcome.{left_by as find_left}
 use Rattle.finding.specs.Named.{written}
 use Rattle.finding.specs.WrittenLaws.{written-within}
 use Rattle.finding.specs.Rewritten.{rewritten}
-use Rattle.verdict.specs.declared.operation.VerdictAnswer.TheVariants.{Refused}
+use Rattle.std.specs.Prelude.{Err}
+use Rattle.reading.specs.Answering.{unlined}
 use Rattle.verdict.specs.Verdict.{Verdict}
 use Rattle.verdict.specs.Verdicts.{CountsPairs}
 use Rattle.verdict.specs.PairLaws.{counts-unique}
@@ -94,15 +95,15 @@ module _ (text : Bytes) (allowance : ℕ) (table flags path workspace : List ℕ
   verdict-says = ranged (allowed allowance) (enough allowance table flags path workspace)
     where
       ranged : (a b : Bool) → (elim a as (λ a. Outcome) [
-        | false ↦ left (Refused BadAllowance 0) table flags path workspace
+        | false ↦ left (Err (unlined BadAllowance)) table flags path workspace
         | true ↦ elim b [
-          | false ↦ left (Refused BufferTooShort 0) table flags path workspace
+          | false ↦ left (Err (unlined BufferTooShort)) table flags path workspace
           | true ↦ left_by_reading (read text) allowance table flags path workspace
         ]
       ]).reply.number ≡ 0 → Says (elim a as (λ a. Outcome) [
-        | false ↦ left (Refused BadAllowance 0) table flags path workspace
+        | false ↦ left (Err (unlined BadAllowance)) table flags path workspace
         | true ↦ elim b [
-          | false ↦ left (Refused BufferTooShort 0) table flags path workspace
+          | false ↦ left (Err (unlined BufferTooShort)) table flags path workspace
           | true ↦ left_by_reading (read text) allowance table flags path workspace
         ]
       ])

@@ -1,5 +1,5 @@
 -- What the code compares and stores while it refines classes is what a split says (theory: Splitting).
-use Rattle.std.specs.Prelude.{◌≡◌, ℕ, ◌+◌, ◌-◌, ◌<◌, ◌≤◌, Bool, true, ◌⊎◌, List, length, take, nat_eq, slice_index}
+use Rattle.std.specs.Prelude.{◌≡◌, ℕ, zero, suc, ◌+◌, ◌-◌, ◌<◌, ◌≤◌, Bool, true, ◌⊎◌, List, length, take, nat_eq, slice_index}
 use Rattle.std.proofs.Common.{inl, inr, sym, ap, ◌∙◌, arith, length-take-le, get_or-take}
 use Rattle.std.specs.Prelude.{refl}
 use Rattle.theory.specs.Deterministic.{Deterministic, Complete}
@@ -12,11 +12,15 @@ use Rattle.theory.proofs.ClassesOnly.{classes-only}
 use Rattle.theory.specs.Level.{level-coarse}
 use Rattle.finding.specs.Find.{deterministic}
 use Rattle.finding.specs.Table.{flag_same}
-use Rattle.finding.specs.TableLent.{TableLent, rows-complete}
+use Rattle.finding.specs.TableLent.{StatesLent, rows-complete}
 use Rattle.finding.specs.LevelTold.{level_at, Levelled}
 use Rattle.finding.specs.ClassesTold.{key_at, Classed, SameRows, SplitKey, SplitKeys, Refined}
 
-module _ {states lists : ℕ} {table flags : List ℕ} (T : TableLent states lists table flags) (classes : List ℕ) where
+none-or-one : (f : ℕ) → f ≤ 1 → (f ≡ 0) ⊎ (f ≡ 1)
+none-or-one zero h = inl refl
+none-or-one (suc f) h = inr (omega arith)
+
+module _ {states lists : ℕ} {table flags : List ℕ} (T : StatesLent states lists table flags) (classes : List ℕ) where
   pub rows_alike : (s t : ℕ) → SameRows table flags lists classes s t
       → Alike (deterministic states lists table flags) (class_at classes) s t
   rows_alike s t same = record { flag = ap (λ f. nat_eq f 1) same.flag; next = same.next }
@@ -24,7 +28,7 @@ module _ {states lists : ℕ} {table flags : List ℕ} (T : TableLent states lis
   pub alike-rows : (s t : ℕ) → s < states → t < states → Alike (deterministic states lists table flags) (class_at classes) s t
       → SameRows table flags lists classes s t
   alike-rows s t h k a =
-      record { flag = flag_same (slice_index flags s) (slice_index flags t) (T.flag s h) (T.flag t k) a.flag; next = a.next }
+      record { flag = flag_same (slice_index flags s) (slice_index flags t) (none-or-one _ (T.flag s h)) (none-or-one _ (T.flag t k)) a.flag; next = a.next }
 
   pub split-keyed : (keys : List ℕ) → Led states (class_at classes)
       → ((s : ℕ) → s < states → SplitKey table flags lists classes s (key_at keys s))
@@ -59,7 +63,7 @@ key-leaves (inr (e, differ)) below h = e
 pub classed-led : {keys classes : List ℕ} {states : ℕ} → Classed keys states classes → Led states (class_at classes)
 classed-led {keys} {classes} {states} C = led-agree (first-led states (key_at keys)) (λ q h. sym (C.at q h))
 
-module _ {states lists : ℕ} {table flags : List ℕ} (T : TableLent states lists table flags) where
+module _ {states lists : ℕ} {table flags : List ℕ} (T : StatesLent states lists table flags) where
   -- All states in one class.
   pub one_class : (classes : List ℕ) → ((s : ℕ) → s < states → class_at classes s ≡ 0)
       → Led states (class_at classes) × Coarse (deterministic states lists table flags) (class_at classes)
@@ -95,7 +99,7 @@ module _ {states lists : ℕ} {table flags : List ℕ} (T : TableLent states lis
         )
 
 -- Where each state is like the first of its class, the classes are those of states with the same continuations.
-pub classes-refined : {states lists : ℕ} {table flags : List ℕ} → TableLent states lists table flags → (classes' : List ℕ)
+pub classes-refined : {states lists : ℕ} {table flags : List ℕ} → StatesLent states lists table flags → (classes' : List ℕ)
     → length classes' ≡ 256 → Led states (class_at classes') → Coarse (deterministic states lists table flags) (class_at classes')
     → ((s : ℕ) → s < states → Alike (deterministic states lists table flags) (class_at classes') (class_at classes' s) s)
     → Refined table flags lists states classes'

@@ -1,14 +1,13 @@
 -- What the code for Find promises on the tables of a job: it leaves what Find (find_automata) gives on the automata that the tables hold, and
 -- before states are merged what exploration gives (explore_automata).
-use Rattle.std.specs.Prelude.{◌≡◌, ℕ, ◌≤◌, List, [], length, take}
+use Rattle.std.specs.Prelude.{◌≡◌, ℕ, ◌≤◌, List, [], length, take, Option, Some, None, Result}
 use Rattle.std.proofs.Math.Path.{refl, sym, ap}
 use Rattle.std.proofs.Common.{ap₂, ◌∙◌, subst}
 use Rattle.theory.specs.Automaton.{Automaton}
 use Rattle.theory.specs.Exploration.{Entry, Exploration, all, over}
 use Rattle.syntax.specs.declared.refusal.Refusal.TheVariants.{TooManyStandings}
-use Rattle.finding.specs.declared.standings.Explored.{Explored}
-use Rattle.finding.specs.declared.standings.Explored.TheVariants.{All, Over}
-use Rattle.finding.specs.declared.answer.FindAnswer.{FindAnswer}
+use Rattle.reading.specs.declared.answer.Refused.{Refused}
+use Rattle.finding.specs.declared.answer.Found.{Found as Told}
 use Rattle.finding.specs.Standings.{standings, values}
 use Rattle.finding.specs.ListImage.{image_table}
 use Rattle.finding.specs.States.{accepting_standings}
@@ -19,6 +18,13 @@ use Rattle.finding.specs.Named.{cleared}
 use Rattle.finding.specs.QueryTold.{Queried, QueryTold}
 use Rattle.finding.specs.StatesPart.{clash, Holding, Room, StatesPart}
 
+-- What the callers ask for and lend: there is room for 64 standings and 256 states, and the lent parts are long enough.
+pub record Lent (most_standings most_states : ℕ) (table flags : List ℕ) : Type 0 where
+  pub standings : most_standings ≤ 64
+  pub states : most_states ≤ 256
+  pub rows : 4096 ≤ length table
+  pub marks : 256 ≤ length flags
+
 -- The tables hold the automata of a query and of lists.
 pub record HoldsJob (follow enter sizes accepting : List ℕ) (labels lists : ℕ) : Type 0 where
   pub query : Automaton
@@ -26,12 +32,12 @@ pub record HoldsJob (follow enter sizes accepting : List ℕ) (labels lists : �
   pub holding : Holding (job_tables [] 0 labels follow enter sizes accepting) query listed lists
 
 -- A and Bs are the automata that the tables hold.
-pub record UnmergedTold (follow enter sizes accepting : List ℕ) (labels lists most_a most_b : ℕ) (table flags : List ℕ) (r : FindAnswer)
+pub record UnmergedTold (follow enter sizes accepting : List ℕ) (labels lists most_a most_b : ℕ) (table flags : List ℕ) (r : Result Told Refused)
     (table' flags' : List ℕ) : Type 0 where
   pub told : (A : Automaton) (Bs : List Automaton) → Holding (job_tables [] 0 labels follow enter sizes accepting) A Bs lists
       → left r table' flags' ≡ left_by (explore_automata A labels Bs most_a most_b) table flags
 
-pub record CoreTold (follow enter sizes accepting : List ℕ) (labels lists most_a most_b : ℕ) (table flags : List ℕ) (r : FindAnswer)
+pub record CoreTold (follow enter sizes accepting : List ℕ) (labels lists most_a most_b : ℕ) (table flags : List ℕ) (r : Result Told Refused)
     (table' flags' : List ℕ) : Type 0 where
   pub told : (A : Automaton) (Bs : List Automaton) → Holding (job_tables [] 0 labels follow enter sizes accepting) A Bs lists
       → left r table' flags' ≡ left_by (find_automata A labels Bs most_a most_b) table flags
@@ -46,9 +52,9 @@ standings-found : (A : Automaton) (k : ℕ) (Bs : List Automaton) (most_a most_b
 unfolding explore_automata
 standings-found A k Bs most_a most_b l e = rw (explore_automata, e)
 
-module _ (follow enter sizes accepting : List ℕ) (labels lists most_a most_b : ℕ) (table flags : List ℕ) (e : Explored) (found moves : List ℕ)
+module _ (follow enter sizes accepting : List ℕ) (labels lists most_a most_b : ℕ) (table flags : List ℕ) (e : Option ℕ) (found moves : List ℕ)
     (query : QueryTold follow enter sizes labels most_a e found moves) (room : Room labels lists most_b table flags) (few : most_a ≤ 64) where
-  pub core-over : (r : FindAnswer) (table' flags' : List ℕ) → e ≡ Over → (4096 ≤ length table → table' ≡ cleared 4096 table)
+  pub core-over : (r : Result Told Refused) (table' flags' : List ℕ) → e ≡ None → (4096 ≤ length table → table' ≡ cleared 4096 table)
       → (256 ≤ length flags → flags' ≡ cleared 256 flags) → r ≡ refused_with TooManyStandings 0
       → UnmergedTold follow enter sizes accepting labels lists most_a most_b table flags r table' flags'
   unfolding left_by
@@ -62,9 +68,9 @@ module _ (follow enter sizes accepting : List ℕ) (labels lists most_a most_b :
           ap (λ u. left u table' flags') o
           ∙ (ap₂ (λ u v. left (refused_with TooManyStandings 0) u v) (t room.table) (f room.flags)
           ∙ ap (λ x. left_by x table flags) (sym (standings-refused A labels Bs most_a most_b s)))
-      there A Bs q (all l) s = let c : All (length l) ≡ Over = sym (q.count l s) ∙ p in clash (cc)
+      there A Bs q (all l) s = let c : Some (length l) ≡ None = sym (q.count l s) ∙ p in clash (cc)
 
-  pub core_all : (count : ℕ) (r : FindAnswer) (table' flags' : List ℕ) → e ≡ All count
+  pub core_all : (count : ℕ) (r : Result Told Refused) (table' flags' : List ℕ) → e ≡ Some count
       → StatesPart (job_tables moves count labels follow enter sizes accepting) lists most_b found table flags r table' flags'
       → UnmergedTold follow enter sizes accepting labels lists most_a most_b table flags r table' flags'
   core_all count r table' flags' p part =
@@ -74,9 +80,9 @@ module _ (follow enter sizes accepting : List ℕ) (labels lists most_a most_b :
           → Holding (job_tables [] 0 labels follow enter sizes accepting) A Bs lists → Queried A labels most_a e found moves
           → (s : Exploration ℕ) → standings A labels most_a ≡ s
           → left r table' flags' ≡ left_by (explore_automata A labels Bs most_a most_b) table flags
-      there A Bs h q over s = let c : All count ≡ Over = sym p ∙ q.is_over s in clash (cc)
+      there A Bs h q over s = let c : Some count ≡ None = sym p ∙ q.is_over s in clash (cc)
       there A Bs h q (all l) s =
-          let c : All count ≡ All (length l) = sym p ∙ q.count l s in
+          let c : Some count ≡ Some (length l) = sym p ∙ q.count l s in
           let k : count ≡ length l = cc in
           let n : take count found ≡ values l = ap (λ i. take i found) k ∙ q.numbers l s in
           let m : Moves A (take count found) (job_tables moves count labels follow enter sizes accepting) =

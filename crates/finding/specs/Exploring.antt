@@ -1,7 +1,7 @@
 -- What a loop holds that explores a system of numbers (theory, Exploration): the numbers found, and the table of where each symbol leads
 -- (MoveTable). The entries of the exploration have trails besides: what a loop keeps of them is said by a predicate on the entries. What is
 -- left gives what the whole gives.
-use Rattle.std.specs.Prelude.{◌≡◌, ℕ, suc, ◌+◌, ◌-◌, ◌*◌, ◌<◌, ◌≤◌, true, false, List, [], ◌∷◌, ◌++◌, length, take, ◌≢◌, slice_index, slice_index_or, slice_set}
+use Rattle.std.specs.Prelude.{◌≡◌, ℕ, suc, ◌+◌, ◌-◌, ◌*◌, ◌<◌, ◌≤◌, true, false, List, [], ◌∷◌, ◌++◌, length, take, ◌≢◌, slice_index, slice_index_or, slice_set, Option, Some, None}
 use Rattle.std.proofs.Math.Option.{some}
 use Rattle.std.proofs.Math.Path.{refl, sym, ap, subst}
 use Rattle.std.proofs.Common.{◌∙◌, add-zero, add-one, take-suc-set, get_or-take, eq-eqb, ne_eqb, eqb}
@@ -14,8 +14,6 @@ use Rattle.theory.specs.Exploration.{System, Entry, Exploration, all, over, know
 use Rattle.theory.specs.Explored.{entry_at}
 use Rattle.theory.proofs.ExplorationSteps.{grow-known, grow-new, grow-over, extend-some, row-end, row_on, row-over}
 use Rattle.theory.proofs.ExplorationSteps.{sweep-end, sweep-on, sweep-over, explore-some}
-use Rattle.finding.specs.declared.standings.Explored.{Explored}
-use Rattle.finding.specs.declared.standings.Explored.TheVariants.{All, Over}
 use Rattle.finding.specs.Numbers.{length-values, get_or-values, values-append}
 use Rattle.finding.specs.Standings.{values, place_from, place_of}
 use Rattle.finding.specs.PlaceOfLaws.{place-first, place-later, place-new}
@@ -56,18 +54,18 @@ SweepLeft T Beside i n found table =
     Explores T Beside (λ l. sweep (system T) T.limit (T.limit - i) i l) (explored T) (T.width * i) n found table
 
 -- By what was told: more than the limit, or what holds of the count.
-abbrev pub Outcome : Exploration ℕ → Explored → (ℕ → Type 0) → Type 0
-Outcome whole (All n) holds = holds n
-Outcome whole Over holds = whole ≡ over
+abbrev pub Outcome : Exploration ℕ → Option ℕ → (ℕ → Type 0) → Type 0
+Outcome whole (Some n) holds = holds n
+Outcome whole None holds = whole ≡ over
 
-pub outcome-all : (whole : Exploration ℕ) {r : Explored} {m : ℕ} (holds : ℕ → Type 0) → r ≡ All m → Outcome whole r holds → holds m
+pub outcome-all : (whole : Exploration ℕ) {r : Option ℕ} {m : ℕ} (holds : ℕ → Type 0) → r ≡ Some m → Outcome whole r holds → holds m
 outcome-all whole holds q o = subst (λ r. Outcome whole r holds) q o
 
-pub outcome-over : (whole : Exploration ℕ) {r : Explored} (holds : ℕ → Type 0) → r ≡ Over → Outcome whole r holds → whole ≡ over
+pub outcome-over : (whole : Exploration ℕ) {r : Option ℕ} (holds : ℕ → Type 0) → r ≡ None → Outcome whole r holds → whole ≡ over
 outcome-over whole holds q o = subst (λ r. Outcome whole r holds) q o
 
 -- From the symbol a to the symbol b of the row of entry i.
-abbrev pub Turns : Task → (List (Entry ℕ) → Type 0) → (List (Entry ℕ) → Type 0) → ℕ → ℕ → ℕ → ℕ → List ℕ → List ℕ → Explored → List ℕ → List ℕ
+abbrev pub Turns : Task → (List (Entry ℕ) → Type 0) → (List (Entry ℕ) → Type 0) → ℕ → ℕ → ℕ → ℕ → List ℕ → List ℕ → Option ℕ → List ℕ → List ℕ
     → Type 0
 Turns T Beside Beside' i a b n found table r found' table' =
     (whole : Exploration ℕ) → RowLeft T Beside whole i a n found table → Outcome whole r (λ m. RowLeft T Beside' whole i b m found' table')
@@ -252,7 +250,7 @@ module _ {T : Task} {Beside : List (Entry ℕ) → Type 0} (i n : ℕ) {found ta
   sweep-whole = let q : suc (T.limit - suc i) ≡ T.limit - i = omega arith in rw q s.left
 
   pub sweep-more : {Beside' : List (Entry ℕ) → Type 0} {m : ℕ} {found' table' : List ℕ} → T.symbols ≤ T.width
-      → Turns T Beside Beside' i 0 T.symbols n found table (All m) found' table' → SweepLeft T Beside' (i + 1) m found' table'
+      → Turns T Beside Beside' i 0 T.symbols n found table (Some m) found' table' → SweepLeft T Beside' (i + 1) m found' table'
   unfolding first-row
   sweep-more wide told =
       let t = told first-row entered in
@@ -316,5 +314,5 @@ entries-same o l m p q = cc
 pub not-both : (o : Exploration ℕ) (l : List (Entry ℕ)) → o ≡ all l → o ≢ over
 not-both o l p q = let z : ◌≡◌ {A = ℕ} 0 1 = cc in omega arith
 
-pub not-all : (n : ℕ) → All n ≢ Over
+pub not-all : (n : ℕ) → Some n ≢ None
 not-all n p = let z : ◌≡◌ {A = ℕ} 0 1 = cc in omega arith

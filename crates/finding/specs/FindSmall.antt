@@ -1,6 +1,6 @@
 -- What Find tells is small: no more standings and states than the limits, a first word shorter than there are states, and no line over one
 -- more than the most bytes of a text.
-use Rattle.std.specs.Prelude.{◌≡◌, ℕ, suc, ◌<◌, ◌≤◌, Bool, true, false, ◌||◌, List, length, nat_lt, slice_index_or}
+use Rattle.std.specs.Prelude.{◌≡◌, ℕ, suc, ◌<◌, ◌≤◌, Bool, true, false, ◌||◌, List, length, nat_lt, slice_index_or, IfSome}
 use Rattle.std.proofs.Math.Option.{Option, some, none}
 use Rattle.std.specs.Prelude.{refl}
 use Rattle.std.proofs.Common.{arith}
@@ -23,19 +23,19 @@ pub record Small (o : Outcome) : Type 0 where
   pub line : o.reply.line ≤ suc most_text
   pub standings : slice_index_or o.reply.values 0 0 ≤ most_standings
   pub states : slice_index_or o.reply.values 1 0 ≤ most_states
-  pub short : o.first.length < most_states
+  pub short : IfSome o.first (λ f. f.length < most_states)
 
 refused-small : (r : Refusal) (n : ℕ) (table flags : List ℕ) → n ≤ suc most_text → Small (told (left (refused_with r n) table flags))
 unfolding first_word
-refused-small r n table flags h = record { line = h; standings = omega arith; states = omega arith; short = omega arith }
+refused-small r n table flags h = record { line = h; standings = omega arith; states = omega arith; short = tt }
 
 told-small : (n : ℕ) (R : Rewriting) (table flags : List ℕ) → Sizes n most_standings most_states R → Small (told (left (found_answer R) table flags))
 unfolding first_word
 told-small n R table flags s =
     record { line = omega arith; standings = s.few-standings; states = s.few-states; short = word R.first refl }
   where
-    word : (o : Option Word) → R.first ≡ o → (first_word o).length < most_states
-    word none e = omega arith
+    word : (o : Option Word) → R.first ≡ o → IfSome (first_word o) (λ f. f.length < most_states)
+    word none e = tt
     word (some w) e = omega (arith, s.short w e)
 
 pub find-small : (text : Bytes) (table flags : List ℕ) → Small (outcome text table flags)

@@ -1,5 +1,5 @@
 -- The first accepted word, read off the trails (Trailed) of the states: what the code that follows the parents back holds and tells.
-use Rattle.std.specs.Prelude.{◌≡◌, ℕ, suc, ◌+◌, ◌-◌, ◌<◌, ◌≤◌, Bool, true, false, List, [], ◌∷◌, ◌++◌, map, reverse, length, get_or, take, drop, replicate, slice_index, slice_index_or, slice_set}
+use Rattle.std.specs.Prelude.{◌≡◌, ℕ, suc, ◌+◌, ◌-◌, ◌<◌, ◌≤◌, Bool, true, false, List, [], ◌∷◌, ◌++◌, map, reverse, length, get_or, take, drop, replicate, slice_index, slice_index_or, slice_set, ◌==◌, position, Option, Some, None}
 use mathlib.Core.List.{reverse_aux-eq, append-nil}
 use Rattle.std.proofs.Math.Option.{some, none}
 use Rattle.std.proofs.Math.Path.{refl, sym, ap, ap₂}
@@ -12,7 +12,7 @@ use Rattle.std.proofs.Math.Seq.{slice, slice_empty, slice-cons, take-set-lt}
 use Rattle.theory.specs.Exploration.{Entry}
 use Rattle.finding.specs.declared.first.FirstWord.{FirstWord}
 use Rattle.finding.specs.Standings.{values, place_from, place_of}
-use Rattle.finding.specs.PlaceOfLaws.{place-first, place-later, place-low}
+use Rattle.finding.specs.PlaceOfLaws.{place-first, place-later, place-low, place-met, place-unmet}
 use Rattle.finding.specs.States.{state_accepts, first_accepted}
 use Rattle.finding.specs.Find.{flag}
 use Rattle.finding.specs.Numbers.{length-values}
@@ -21,7 +21,7 @@ use Rattle.finding.specs.Trailed.{Trailed, trails, length-trails}
 use Rattle.finding.specs.WordTold.{first_word}
 
 -- For the states l with these flags and these trails, r is the first accepted word.
-pub record FirstTold (flags : List ℕ) (count : ℕ) (parents symbols : List ℕ) (r : FirstWord) : Type 0 where
+pub record FirstTold (flags : List ℕ) (count : ℕ) (parents symbols : List ℕ) (r : Option FirstWord) : Type 0 where
   pub told : (accepting : ℕ) (l : List (Entry ℕ)) → count ≡ length l → count ≤ 256
       → take count flags ≡ map (λ X. flag (state_accepts accepting X)) (values l) → Trailed parents symbols (trails l)
       → r ≡ first_word (first_accepted accepting l)
@@ -220,45 +220,60 @@ module _ (accepting : ℕ) where
       go true q ih = absurd (omega (arith, mark-here i e l q))
       go false q ih = first-later e l q ∙ ih (omega (arith, mark-later i e l q))
 
+marked-length : (accepting : ℕ) (l : List (Entry ℕ)) → length (map (λ X. flag (state_accepts accepting X)) (values l)) ≡ length l
+marked-length accepting l = length-map (values l) (λ X. flag (state_accepts accepting X)) ∙ length-values l
+
+-- A trail that is spelled into zeros.
+spelled : (trail word : List ℕ) (size : ℕ) → size ≡ length trail → word ≡ reverse trail ++ drop size (replicate 256 0)
+    → ◌≡◌ {A = Option FirstWord} (Some (record { length = size; word = word })) (first_word (some (reverse trail)))
+unfolding first_word
+spelled trail word size exact e =
+    let r : length (reverse trail) ≡ size = length-reverse trail ∙ sym exact in
+    ap₂ (λ n w. Some (record { length = n; word = w })) (sym r)
+    (e ∙ ap (λ b. reverse trail ++ b) (drop-replicate size 256 0 ∙ ap (λ q. replicate (256 - q) 0) (sym r)))
+
 -- What is told: without a flag, and with one, from the length and the letters of the trail.
 module _ (flags : List ℕ) (count : ℕ) (parents symbols : List ℕ) where
-  pub first-none : (state : ℕ) (r : FirstWord) → state ≡ place_of 1 (take count flags) → count ≤ state → r ≡ first_word none
-      → FirstTold flags count parents symbols r
-  unfolding place_of marks
-  first-none state r e h w =
+  pub first-none : position (λ flag. flag == 1) (take count flags) ≡ None → FirstTold flags count parents symbols None
+  unfolding place_of first_word marks
+  first-none e =
+      let h = place-unmet 1 (take count flags) e in
       record {
-        told = λ accepting l n c f t. w ∙ ap first_word (sym (none_from accepting 0 l (omega (arith, ap (place_from 0 1) f))));
+        told = λ accepting l n c f t.
+            ap first_word (sym (none_from accepting 0 l (omega (arith, ap (place_from 0 1) f, ap length f, marked-length accepting l))));
       }
 
-  pub first-word : (state size : ℕ) (word : List ℕ) → state ≡ place_of 1 (take count flags) → state < count → TrailLength parents state size
+  pub first-word : (state size : ℕ) (word : List ℕ) → position (λ flag. flag == 1) (take count flags) ≡ Some state → TrailLength parents state size
       → Spelled parents symbols state size (replicate 256 0) word
-      → FirstTold flags count parents symbols (record { any = true; length = size; word = word })
+      → FirstTold flags count parents symbols (Some (record { length = size; word = word }))
   unfolding place_of first_word marks
-  first-word state size word e h m s =
+  first-word state size word q m s =
       record { told = λ accepting l n c f t. same accepting l n f t }
     where
+      e : state ≡ place_of 1 (take count flags)
+      e = (place-met 1 (take count flags) state q).1
+
+      h : state < count
+      h = omega (arith, (place-met 1 (take count flags) state q).0, length-take count flags)
+
       same : (accepting : ℕ) (l : List (Entry ℕ)) → count ≡ length l
           → take count flags ≡ map (λ X. flag (state_accepts accepting X)) (values l) → Trailed parents symbols (trails l)
-          → ◌≡◌ {A = FirstWord} (record { any = true; length = size; word = word }) (first_word (first_accepted accepting l))
+          → ◌≡◌ {A = Option FirstWord} (Some (record { length = size; word = word })) (first_word (first_accepted accepting l))
       same accepting l n f t =
           let p : place_from 0 1 (marks accepting (values l)) ≡ state = sym (e ∙ ap (place_from 0 1) f) in
           let z : place_from 0 1 (marks accepting (values l)) - 0 ≡ state = omega arith in
-          let inside : state < length (trails l) = omega (arith, length-trails l) in
+          let inside : state < length (trails l) = omega (arith, h, length-trails l) in
           let first : first_accepted accepting l ≡ some (reverse (slice_index_or (trails l) state [])) =
-          found_from accepting 0 l (omega arith) ∙ ap (λ q. some (reverse (slice_index_or (trails l) q []))) z in
+          found_from accepting 0 l (omega (arith, h)) ∙ ap (λ q. some (reverse (slice_index_or (trails l) q []))) z in
           let exact : size ≡ length (slice_index_or (trails l) state []) = m.exact symbols (trails l) t inside in
-          let r : length (reverse (slice_index_or (trails l) state [])) ≡ size = length-reverse (slice_index_or (trails l) state []) ∙ sym exact in
-          ap₂ (λ n w. record { any = true; length = n; word = w }) (sym r)
-          (s.told (trails l) t inside exact ∙ ap (λ b. reverse (slice_index_or (trails l) state []) ++ b) (drop-replicate size 256 0
-          ∙ ap (λ q. replicate (256 - q) 0) (sym r)))
-          ∙ ap first_word (sym first)
+          spelled (slice_index_or (trails l) state []) word size exact (s.told (trails l) t inside exact) ∙ ap first_word (sym first)
 
   -- There are no such states.
-  pub first-many : (r : FirstWord) → 256 < count → FirstTold flags count parents symbols r
-  first-many r h = record { told = λ accepting l n c f t. absurd (omega arith) }
+  pub first-many : {r : Option FirstWord} → 256 < count → FirstTold flags count parents symbols r
+  first-many h = record { told = λ accepting l n c f t. absurd (omega arith) }
 
-  pub first_short : (r : FirstWord) → length flags < count → FirstTold flags count parents symbols r
-  first_short r h =
+  pub first_short : {r : Option FirstWord} → length flags < count → FirstTold flags count parents symbols r
+  first_short h =
       record {
         told = λ accepting l n c f t.
             absurd

@@ -1,11 +1,10 @@
 -- What the code for the answer promises, where all states are found: the counts, the first accepted word and the flags.
-use Rattle.std.specs.Prelude.{◌≡◌, ℕ, ◌-◌, ◌≤◌, List, ◌++◌, map, length, take, drop, replicate}
+use Rattle.std.specs.Prelude.{◌≡◌, ℕ, ◌-◌, ◌≤◌, List, ◌++◌, map, length, take, drop, replicate, Option}
 use Rattle.std.proofs.Common.{sym, ap, ap₂, ◌∙◌, arith, length-append, length-drop}
 use Rattle.std.proofs.lemmas.List.{length-replicate}
 use Rattle.theory.specs.Automaton.{Automaton}
 use Rattle.theory.specs.Exploration.{Entry}
-use Rattle.finding.specs.declared.answer.FindAnswer.{FindAnswer}
-use Rattle.finding.specs.declared.answer.Finding.TheVariants.{Found as Told}
+use Rattle.finding.specs.declared.answer.Found.{Found as Told}
 use Rattle.finding.specs.declared.first.FirstWord.{FirstWord}
 use Rattle.finding.specs.Standings.{values}
 use Rattle.finding.specs.States.{accepting_standings, state_accepts, first_accepted}
@@ -13,14 +12,15 @@ use Rattle.finding.specs.Find.{flag}
 use Rattle.finding.specs.Trailed.{Trailed, trails}
 use Rattle.finding.specs.WordTold.{first_word}
 use Rattle.finding.specs.FirstWords.{FirstTold}
+use Rattle.finding.specs.Outcome.{counted}
 use Rattle.finding.specs.Padded.{states-flags, flags-front}
 use Rattle.finding.specs.Named.{cleared}
 
 cleared-length : (n : ℕ) (lent : List ℕ) → n ≤ length lent → length (cleared n lent) ≡ length lent
 cleared-length n lent h = simp (length-append, length-replicate, length-drop) (omega arith)
 
-abbrev pub found_with : ℕ → ℕ → ℕ → List (Entry ℕ) → FindAnswer
-found_with count n good l = record { finding = Told count n; first = first_word (first_accepted good l) }
+abbrev pub found_with : ℕ → ℕ → ℕ → List (Entry ℕ) → Told
+found_with count n good l = counted count n (first_word (first_accepted good l))
 
 abbrev pub marked : ℕ → List (Entry ℕ) → List ℕ → List ℕ
 marked good l lent = (map (λ X. flag (state_accepts good X)) (values l) ++ replicate (256 - length l) 0) ++ drop 256 lent
@@ -35,13 +35,13 @@ pub record Reached (explored : List ℕ) (n : ℕ) (parents symbols flags : List
   pub clear : flags ≡ cleared 256 lent
 
 pub record FoundTold (found : List ℕ) (count accepting : ℕ) (explored : List ℕ) (n : ℕ) (parents symbols flags : List ℕ)
-    (r : FindAnswer) (flags' : List ℕ) : Type 0 where
+    (r : Told) (flags' : List ℕ) : Type 0 where
   pub answer : count ≤ 64 → count ≤ length found → (A : Automaton) → A.accepting ≡ accepting → (l : List (Entry ℕ)) (lent : List ℕ)
       → Reached explored n parents symbols flags l lent → r ≡ found_with count n (accepting_standings A (take count found)) l
   pub marks : count ≤ 64 → count ≤ length found → (A : Automaton) → A.accepting ≡ accepting → (l : List (Entry ℕ)) (lent : List ℕ)
       → Reached explored n parents symbols flags l lent → flags' ≡ marked (accepting_standings A (take count found)) l lent
 
-module _ (found : List ℕ) (count accepting : ℕ) (explored : List ℕ) (n : ℕ) (parents symbols flags flags' : List ℕ) (good : ℕ) (word : FirstWord)
+module _ (found : List ℕ) (count accepting : ℕ) (explored : List ℕ) (n : ℕ) (parents symbols flags flags' : List ℕ) (good : ℕ) (word : Option FirstWord)
     (goods : (A : Automaton) → A.accepting ≡ accepting → count ≤ 64 → count ≤ length found → good ≡ accepting_standings A (take count found))
     (flagged : n ≤ length explored → n ≤ length flags
     → flags' ≡ map (λ X. flag (state_accepts good X)) (take n explored) ++ drop n flags)
@@ -57,11 +57,11 @@ module _ (found : List ℕ) (count accepting : ℕ) (explored : List ℕ) (n : �
       first.told good l h.size h.most
       (ap (λ i. take i flags') h.size ∙ flags-front good l lent flags' (marks-left l lent h)) h.trailed
 
-  pub found-told : FoundTold found count accepting explored n parents symbols flags (record { finding = Told count n; first = word }) flags'
+  pub found-told : FoundTold found count accepting explored n parents symbols flags (counted count n word) flags'
   found-told =
       record {
         answer = λ c b A a l lent h.
-            ap {A = FirstWord} {B = FindAnswer} (λ u. record { finding = Told count n; first = u })
+            ap (counted count n)
             (word-told l lent h ∙ ap (λ i. first_word (first_accepted i l)) (goods A a c b));
         marks = λ c b A a l lent h. marks-left l lent h ∙ ap (λ i. marked i l lent) (goods A a c b);
       }

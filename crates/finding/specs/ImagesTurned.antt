@@ -1,15 +1,13 @@
 -- The images of the standings are read off the sources of pairs (Sources): each standing is added to the images of its sources together
 -- with an accepting place.
-use Rattle.std.specs.Prelude.{◌≡◌, ℕ, ◌+◌, ◌-◌, ◌*◌, ◌%◌, ◌^◌, ◌<◌, ◌≤◌, ◌≢◌, ◌⊎◌, ◌↔◌, List, ◌++◌, length, drop, replicate, bit_and, slice_index, slice_set}
-use Rattle.std.proofs.Common.{inl, inr, sym, ◌∙◌, subst, arith, length-set, length-append, length-drop, drop-set-lt}
+use Rattle.std.specs.Prelude.{◌≡◌, ℕ, ◌+◌, ◌*◌, ◌%◌, ◌^◌, ◌<◌, ◌≤◌, ◌⊎◌, ◌↔◌, List, ◌++◌, length, drop, replicate, slice_index, slice_set}
+use Rattle.std.proofs.Common.{inl, inr, ⊎_elim, sym, ◌∙◌, subst, arith, length-set, length-append, length-drop, drop-set-lt}
 use Rattle.std.specs.Prelude.{refl}
 use Rattle.std.proofs.Math.Decide.{ℕ_discrete}
-use Rattle.std.specs.Int.Count.{count_trailing_zeros}
 use Rattle.std.proofs.lemmas.List.{length-replicate}
 use Rattle.theory.specs.Places.{Member, one, union}
 use Rattle.theory.specs.PlacesLaws.{member-none, member-one, member_union, member_below, member-union_over}
 use Rattle.theory.specs.PlacesShift.{member-cut}
-use Rattle.places.specs.Followed.{Passed, passed_none, passed-turn, passed-all}
 use Rattle.places.specs.Joined.{joined}
 use Rattle.finding.specs.Padded.{cleared-zero, cleared-behind}
 use Rattle.finding.specs.Sources.{sources_of}
@@ -43,81 +41,63 @@ pub record Added (Those : ℕ → Type 0) (to : ℕ) (out out' : List ℕ) : Typ
   pub kept : (n : ℕ) → ((i : ℕ) → Those i → i < n) → drop n out' ≡ drop n out
   pub exactly : (i j : ℕ) → Member j (slice_index out' i) ↔ (Member j (slice_index out i) ⊎ ((j ≡ to) × Those i))
 
-pub added_none : (those to : ℕ) (out : List ℕ) → Added (Passed those those) to out out
-added_none those to out = record { size = refl; kept = λ n h. refl; exactly = λ i j. (inl, back i j) }
+pub added_none : {Those : ℕ → Type 0} (to : ℕ) (out : List ℕ) → ((i : ℕ) → ¬ Those i) → Added Those to out out
+added_none {Those} to out nothing = record { size = refl; kept = λ n h. refl; exactly = λ i j. (inl, back i j) }
   where
-    back : (i j : ℕ) → Member j (slice_index out i) ⊎ ((j ≡ to) × Passed those those i) → Member j (slice_index out i)
+    back : (i j : ℕ) → Member j (slice_index out i) ⊎ ((j ≡ to) × Those i) → Member j (slice_index out i)
     back i j (inl m) = m
-    back i j (inr (e, p)) = absurd (passed_none those i p)
+    back i j (inr (e, p)) = absurd (nothing i p)
 
-pub added-all : (those rest to : ℕ) (out out' : List ℕ) → rest ≡ 0 → Added (Passed those rest) to out out'
-    → Added (λ i. Member i those) to out out'
-added-all those rest to out out' e a =
+pub added-same : {Those Those' : ℕ → Type 0} {to : ℕ} {out out' : List ℕ} → ((i : ℕ) → Those' i ↔ Those i) → Added Those to out out'
+    → Added Those' to out out'
+added-same same a =
     record {
       size = a.size;
-      kept = λ n h. a.kept n (λ i p. h i p.0);
-      exactly = λ i j. (λ m. there i j ((a.exactly i j).0 m), λ m. (a.exactly i j).1 (back i j m));
+      kept = λ n h. a.kept n (λ i p. h i ((same i).1 p));
+      exactly = λ i j. (
+        λ m. ⊎_elim inl (λ (e, p). inr (e, (same i).1 p)) ((a.exactly i j).0 m),
+        λ m. (a.exactly i j).1 (⊎_elim inl (λ (e, p). inr (e, (same i).0 p)) m),
+      );
     }
-  where
-    there : (i j : ℕ) → Member j (slice_index out i) ⊎ ((j ≡ to) × Passed those rest i) → Member j (slice_index out i) ⊎ ((j ≡ to) × Member i those)
-    there i j (inl m) = inl m
-    there i j (inr (f, p)) = inr (f, p.0)
 
-    back : (i j : ℕ) → Member j (slice_index out i) ⊎ ((j ≡ to) × Member i those) → Member j (slice_index out i) ⊎ ((j ≡ to) × Passed those rest i)
-    back i j (inl m) = inl m
-    back i j (inr (f, p)) = inr (f, (passed-all those rest e i).1 p)
-
-pub added_more : (those rest to : ℕ) (out out' : List ℕ) → ((i : ℕ) → Member i rest → Member i those) → rest ≢ 0 → rest < 2 ^ 64
-    → count_trailing_zeros 64 rest < length out' → Added (Passed those rest) to out out'
-    → Added (Passed those (bit_and rest (rest - 1))) to out
-    (slice_set out' (count_trailing_zeros 64 rest) (union (slice_index out' (count_trailing_zeros 64 rest)) (one to)))
-added_more those rest to out out' within d h room a =
+pub added_more : {Those Those' : ℕ → Type 0} (k : ℕ) (to : ℕ) (out out' : List ℕ) → ((i : ℕ) → Those' i ↔ (Those i ⊎ (i ≡ k)))
+    → k < length out' → Added Those to out out' → Added Those' to out (slice_set out' k (union (slice_index out' k) (one to)))
+added_more {Those} {Those'} k to out out' turn room a =
     record {
       size = length-set out' k more ∙ a.size;
       kept = λ n l.
-          drop-set-lt n out' k more (l k ((passed-turn those rest within d h k).1 (inr refl)))
-          ∙ a.kept n (λ i p. l i ((passed-turn those rest within d h i).1 (inl p)));
+          drop-set-lt n out' k more (l k ((turn k).1 (inr refl)))
+          ∙ a.kept n (λ i p. l i ((turn i).1 (inl p)));
       exactly = λ i j. (λ m. there i j m (written out' k more i room), λ m. back i j m (written out' k more i room));
     }
   where
-    k : ℕ
-    k = count_trailing_zeros 64 rest
-
     more : ℕ
     more = union (slice_index out' k) (one to)
 
-    old : (i j : ℕ) → Member j (slice_index out i) ⊎ ((j ≡ to) × Passed those rest i)
-        → Member j (slice_index out i) ⊎ ((j ≡ to) × Passed those (bit_and rest (rest - 1)) i)
+    old : (i j : ℕ) → Member j (slice_index out i) ⊎ ((j ≡ to) × Those i) → Member j (slice_index out i) ⊎ ((j ≡ to) × Those' i)
     old i j (inl m) = inl m
-    old i j (inr (f, p)) = inr (f, (passed-turn those rest within d h i).1 (inl p))
+    old i j (inr (f, p)) = inr (f, (turn i).1 (inl p))
 
-    there : (i j : ℕ) → Member j (slice_index (slice_set out' k more) i)
-        → Written out' k more i
-        → Member j (slice_index out i) ⊎ ((j ≡ to) × Passed those (bit_and rest (rest - 1)) i)
+    there : (i j : ℕ) → Member j (slice_index (slice_set out' k more) i) → Written out' k more i
+        → Member j (slice_index out i) ⊎ ((j ≡ to) × Those' i)
     there i j m (inr (e, f)) = old i j ((a.exactly i j).0 (subst (Member j) f m))
     there i j m (inl (e, f)) = either ((member_union j (slice_index out' k) (one to)).0 (subst (Member j) f m))
       where
-        either : Member j (slice_index out' k) ⊎ Member j (one to)
-            → Member j (slice_index out i) ⊎ ((j ≡ to) × Passed those (bit_and rest (rest - 1)) i)
+        either : Member j (slice_index out' k) ⊎ Member j (one to) → Member j (slice_index out i) ⊎ ((j ≡ to) × Those' i)
         either (inl n) = old i j ((a.exactly i j).0 (subst (λ z. Member j (slice_index out' z)) (sym e) n))
-        either (inr n) = inr ((member-one j to).0 n, (passed-turn those rest within d h i).1 (inr e))
+        either (inr n) = inr ((member-one j to).0 n, (turn i).1 (inr e))
 
-    grown : (i j : ℕ) → Member j (slice_index out' i)
-        → Written out' k more i
-        → Member j (slice_index (slice_set out' k more) i)
+    grown : (i j : ℕ) → Member j (slice_index out' i) → Written out' k more i → Member j (slice_index (slice_set out' k more) i)
     grown i j m (inr (e, f)) = subst (Member j) (sym f) m
     grown i j m (inl (e, f)) =
         subst (Member j) (sym f) ((member_union j (slice_index out' k) (one to)).1 (inl (subst (λ z. Member j (slice_index out' z)) e m)))
 
-    back : (i j : ℕ) → Member j (slice_index out i) ⊎ ((j ≡ to) × Passed those (bit_and rest (rest - 1)) i)
-        → Written out' k more i
+    back : (i j : ℕ) → Member j (slice_index out i) ⊎ ((j ≡ to) × Those' i) → Written out' k more i
         → Member j (slice_index (slice_set out' k more) i)
     back i j (inl m) w = grown i j ((a.exactly i j).1 (inl m)) w
-    back i j (inr (q, p)) w = new ((passed-turn those rest within d h i).0 p) w
+    back i j (inr (q, p)) w = new ((turn i).0 p) w
       where
-        new : Passed those rest i ⊎ (i ≡ k)
-            → Written out' k more i
-            → Member j (slice_index (slice_set out' k more) i)
+        new : Those i ⊎ (i ≡ k) → Written out' k more i → Member j (slice_index (slice_set out' k more) i)
         new (inl p) w = grown i j ((a.exactly i j).1 (inr (q, p))) w
         new (inr e) (inl (g, f)) = subst (Member j) (sym f) ((member_union j (slice_index out' k) (one to)).1 (inr ((member-one j to).1 q)))
         new (inr e) (inr (g, f)) = absurd (g e)

@@ -1,8 +1,8 @@
 -- What the code that looks for levels keeps: levels that are known stay known as the flags, and then the next states, tell more.
-use Rattle.std.specs.Prelude.{◌≡◌, ℕ, ◌+◌, ◌*◌, ◌<◌, ◌≤◌, true, false, ◌⊎◌, List, [], length, slice_index, slice_set}
-use Rattle.std.proofs.Common.{true≢false, inl, inr, ap, sym, ◌∙◌, arith, eqb-true, eq-eqb, ne_eqb, length-set, get_or-set_same, get_or-set_other}
+use Rattle.std.specs.Prelude.{◌≡◌, ℕ, ◌+◌, ◌*◌, ◌<◌, ◌≤◌, true, false, List, [], length, slice_index, slice_set, min}
+use Rattle.std.proofs.Common.{true≢false, ap, sym, ◌∙◌, arith, eqb-true, eq-eqb, ne_eqb, length-set, get_or-set_same, get_or-set_other}
 use Rattle.std.specs.Prelude.{refl}
-use Rattle.std.proofs.Math.Decide.{ℕ_discrete}
+use Rattle.std.proofs.Math.Decide.{ℕ_discrete, dec_lt}
 use Rattle.theory.specs.Path.{nothing}
 use Rattle.theory.specs.Deterministic.{run}
 use Rattle.theory.specs.Level.{Continued, Known, known-lowered}
@@ -44,23 +44,21 @@ least-none table s levels =
     record { within = omega arith; least = λ v h. absurd (omega arith); of-list = λ h. absurd (omega arith) }
 
 pub least_more : {table : List ℕ} {v s : ℕ} {levels : List ℕ} {r r' : ℕ} → LeastNext table v s levels r
-    → r' ≤ level_at levels (slice_index table (16 * s + v)) → r' ≤ r → (r' ≡ level_at levels (slice_index table (16 * s + v))) ⊎ (r' ≡ r)
-    → LeastNext table (v + 1) s levels r'
-least_more {table} {v} {s} {levels} {r} {r'} L new old either =
+    → r' ≡ min (level_at levels (slice_index table (16 * s + v))) r → LeastNext table (v + 1) s levels r'
+least_more {table} {v} {s} {levels} {r} {r'} L e =
     record {
       within = omega (arith, L.within);
       least = λ u h. side u h (ℕ_discrete u v);
-      of-list = λ h. came h either;
+      of-list = λ h. came h (dec_lt r' r);
     }
   where
     side : (u : ℕ) → u < v + 1 → Dec (u ≡ v) → r' ≤ level_at levels (slice_index table (16 * s + u))
-    side u h (yes e) = rw e new
-    side u h (no e) = omega (arith, L.least u (omega arith))
+    side u h (yes f) = rw f (omega arith)
+    side u h (no f) = omega (arith, L.least u (omega arith))
 
-    came : r' < most_level → (r' ≡ level_at levels (slice_index table (16 * s + v))) ⊎ (r' ≡ r)
-        → (u : ℕ) × (u < v + 1) × (level_at levels (slice_index table (16 * s + u)) ≡ r')
-    came h (inl e) = (v, omega arith, sym e)
-    came h (inr e) = let (u, below, f) = L.of-list (omega arith) in (u, omega arith, f ∙ sym e)
+    came : r' < most_level → Dec (r' < r) → (u : ℕ) × (u < v + 1) × (level_at levels (slice_index table (16 * s + u)) ≡ r')
+    came h (yes k) = (v, omega arith, omega arith)
+    came h (no k) = let (u, below, f) = L.of-list (omega arith) in (u, omega arith, omega arith)
 
 -- The level of s falls below what it was.
 pub level-falls : {table : List ℕ} {lists s : ℕ} {levels : List ℕ} {r : ℕ} → length levels ≡ 256 → s < 256

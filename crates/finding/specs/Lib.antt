@@ -63,18 +63,20 @@ pub mod FoundSizes
 -- Merging states.
 pub mod TableLent
 pub mod LevelTold
+pub mod LentTables
 pub mod LevelLaws
 pub mod ClassesTold
 pub mod ClassesLaws
 pub mod MergeTold
 pub mod MergeLaws
 pub mod MergeWritten
-pub mod MergedAnswer
 -- Find on the tables of a job.
 pub mod StoredAutomata
 pub mod StoredImages
 pub mod RowsFit
+pub mod RowsHeld
 pub mod ListRows
+pub mod ListTables
 pub mod Outcome
 pub mod WrittenLaws
 pub mod FindCourse

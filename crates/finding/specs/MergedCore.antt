@@ -1,6 +1,6 @@
 -- Find on the tables of a job, from what is explored to what is merged: the lent table and flags are those of a complete table, and what
 -- merging leaves of them is what Find gives.
-use Rattle.std.specs.Prelude.{◌≡◌, ℕ, ◌+◌, ◌*◌, ◌<◌, ◌≤◌, List, [], length, nat_eq, slice_index}
+use Rattle.std.specs.Prelude.{◌≡◌, ℕ, ◌+◌, ◌*◌, ◌<◌, ◌≤◌, List, [], length, nat_eq, slice_index, Result, Ok, Err}
 use Rattle.std.proofs.Math.Path.{refl, sym, ap, subst}
 use Rattle.std.proofs.Common.{◌∙◌, arith}
 use Rattle.std.proofs.Math.ListN.{get_or-eq_default}
@@ -8,8 +8,9 @@ use Rattle.theory.specs.Automaton.{Automaton}
 use Rattle.theory.specs.Deterministic.{Agree}
 use Rattle.theory.specs.Minimized.{minimized}
 use Rattle.theory.proofs.MinimizedLaws.{minimized-agrees}
-use Rattle.finding.specs.declared.answer.FindAnswer.{FindAnswer}
-use Rattle.finding.specs.declared.answer.Finding.TheVariants.{Found as Told, Refused}
+use Rattle.reading.specs.declared.answer.Refused.{Refused}
+use Rattle.reading.specs.Answering.{unlined}
+use Rattle.finding.specs.declared.answer.Found.{Found as Told}
 use Rattle.finding.specs.WordTold.{first_word}
 use Rattle.finding.specs.Find.{Rewriting, Found, found, refused, deterministic, table_of, flags_of, merged, merged_found, explore_automata, find_automata}
 use Rattle.finding.specs.FoundSizes.{explored-few}
@@ -19,9 +20,8 @@ use Rattle.finding.specs.Tabled.{Tabled, explored-tabled}
 use Rattle.finding.specs.TableLent.{TableLent, rows-complete}
 use Rattle.finding.specs.TableOfLaws.{table-agree, flags-agree}
 use Rattle.finding.specs.MergeTold.{MergeTold}
-use Rattle.finding.specs.MergedAnswer.{FoundLent, MergedAnswer}
 use Rattle.finding.specs.ListRows.{job_tables}
-use Rattle.finding.specs.Outcome.{Leaving, left, left_by, found_answer}
+use Rattle.finding.specs.Outcome.{Leaving, left, left_by, counted, found_answer}
 use Rattle.finding.specs.StatesPart.{clash, Holding, Room}
 use Rattle.finding.specs.CoreTold.{HoldsJob, UnmergedTold, CoreTold}
 
@@ -68,7 +68,7 @@ module _ {lists : ℕ} {R : Rewriting} (t : Tabled lists R) (few : R.states ≤ 
   -- What merging leaves of the buffers.
   merged-left : lists ≤ 16 → 4096 ≤ length table → 256 ≤ length flags → (m : ℕ) (table' flags' : List ℕ)
       → MergeTold (written table_part R.table table) (written flags_part R.flags flags) lists R.states table' flags' m
-      → left (record { finding = Told R.standings m; first = first_word R.first }) table' flags'
+      → left (Ok (counted R.standings m (first_word R.first))) table' flags'
       ≡ left (found_answer (merged lists R)) (written table_part (table_of (minimized (deterministic R.states lists R.table R.flags))) table)
       (written flags_part (flags_of (minimized (deterministic R.states lists R.table R.flags))) flags)
   merged-left wide room marks m table' flags' told =
@@ -79,25 +79,26 @@ module _ {lists : ℕ} {R : Rewriting} (t : Tabled lists R) (few : R.states ≤ 
       ∙ ap (λ x. written table_part x table) (table-agree agree) in
       let flag = told.flag ∙ written-again flags_part R.flags (flags_of M) flags (omega (arith, t.flag-count))
       ∙ ap (λ x. written flags_part x flags) (flags-agree agree) in
-      λ i. left (record { finding = Told R.standings (count i); first = first_word R.first }) (next i) (flag i)
+      λ i. left (Ok (counted R.standings (count i) (first_word R.first))) (next i) (flag i)
 
-module _ {follow enter sizes accepting : List ℕ} {labels lists most_a most_b : ℕ} {table flags : List ℕ} {r : FindAnswer} {table₁ flags₁ : List ℕ}
+module _ {follow enter sizes accepting : List ℕ} {labels lists most_a most_b : ℕ} {table flags : List ℕ} {r : Result Told Refused} {table₁ flags₁ : List ℕ}
     (room : Room labels lists most_b table flags)
     (told : UnmergedTold follow enter sizes accepting labels lists most_a most_b table flags r table₁ flags₁) where
   -- Merging is lent a complete table, where states are told.
-  pub found-lent : HoldsJob follow enter sizes accepting labels lists → FoundLent r lists table₁ flags₁
+  pub found-lent : HoldsJob follow enter sizes accepting labels lists → (a : Told) → r ≡ Ok a → TableLent a.states lists table₁ flags₁
   unfolding left_by
-  found-lent J count states e = there (explore_automata J.query labels J.listed most_a most_b) refl
+  found-lent J a e = there (explore_automata J.query labels J.listed most_a most_b) refl
     where
-      there : (f : Found) → explore_automata J.query labels J.listed most_a most_b ≡ f → TableLent states lists table₁ flags₁
+      there : (f : Found) → explore_automata J.query labels J.listed most_a most_b ≡ f → TableLent a.states lists table₁ flags₁
       there (refused x) g =
           let same = told.told J.query J.listed J.holding ∙ ap (λ y. left_by y table flags) g in
-          let c : Told count states ≡ Refused x 0 = sym e ∙ ap (λ (o : Leaving). o.answer.finding) same in
+          let c : Ok a ≡ Err (unlined x) = sym e ∙ ap (λ (o : Leaving). o.answer) same in
           clash (cc)
       there (found R) g =
           let same = told.told J.query J.listed J.holding ∙ ap (λ y. left_by y table flags) g in
-          let c : Told count states ≡ Told R.standings R.states = sym e ∙ ap (λ (o : Leaving). o.answer.finding) same in
-          let k : R.states ≡ states = cc in
+          let c : Ok (counted R.standings R.states (first_word R.first)) ≡ Ok a = sym (ap (λ (o : Leaving). o.answer) same) ∙ e in
+          let d : counted R.standings R.states (first_word R.first) ≡ a = cc in
+          let k : R.states ≡ a.states = ap (λ (t : Told). t.states) d in
           let size = J.holding.size in
           let t : Tabled lists R = subst (λ n. Tabled n R) size
           (explored-tabled J.query labels J.listed most_a most_b R g (omega (arith, room.lists))) in
@@ -107,29 +108,49 @@ module _ {follow enter sizes accepting : List ℕ} {labels lists most_a most_b :
           (subst (λ x. TableLent R.states lists x (written flags_part R.flags flags)) (sym (ap (λ (o : Leaving). o.table) same))
           (table-lent t few table flags room.lists room.table room.flags)))
 
-  pub core-merged : (r' : FindAnswer) (table' flags' : List ℕ) → MergedAnswer r lists table₁ flags₁ r' table' flags'
-      → CoreTold follow enter sizes accepting labels lists most_a most_b table flags r' table' flags'
+  -- A refusal stays as it is.
+  pub core-refused : (e : Refused) → r ≡ Err e
+      → CoreTold follow enter sizes accepting labels lists most_a most_b table flags (Err e) table₁ flags₁
   unfolding left_by merged_found find_automata
-  core-merged r' table' flags' m =
+  core-refused e q =
       record { told = λ A Bs h. there A Bs h (explore_automata A labels Bs most_a most_b) refl }
     where
       there : (A : Automaton) (Bs : List Automaton) → Holding (job_tables [] 0 labels follow enter sizes accepting) A Bs lists
           → (f : Found) → explore_automata A labels Bs most_a most_b ≡ f
-          → left r' table' flags' ≡ left_by (find_automata A labels Bs most_a most_b) table flags
+          → left (Err e) table₁ flags₁ ≡ left_by (find_automata A labels Bs most_a most_b) table flags
       there A Bs h (refused x) g =
-          let same = told.told A Bs h ∙ ap (λ y. left_by y table flags) g in
-          let (a, b, c) = m.refused x 0 (ap (λ (o : Leaving). o.answer.finding) same) in
-          (λ i. left (a i) (b i) (c i)) ∙ same ∙ ap (λ y. left_by (merged_found (length Bs) y) table flags) (sym g)
+          ap (λ y. left y table₁ flags₁) (sym q) ∙ told.told A Bs h ∙ ap (λ y. left_by y table flags) g
+          ∙ ap (λ y. left_by (merged_found (length Bs) y) table flags) (sym g)
       there A Bs h (found R) g =
           let same = told.told A Bs h ∙ ap (λ y. left_by y table flags) g in
-          let (n, a, b) = m.found R.standings R.states (ap (λ (o : Leaving). o.answer.finding) same) in
+          let c : Ok (counted R.standings R.states (first_word R.first)) ≡ Err e = sym (ap (λ (o : Leaving). o.answer) same) ∙ q in
+          clash (cc)
+
+  pub core-merged : (a : Told) → r ≡ Ok a → {n : ℕ} {table' flags' : List ℕ} → MergeTold table₁ flags₁ lists a.states table' flags' n
+      → CoreTold follow enter sizes accepting labels lists most_a most_b table flags (Ok (counted a.standings n a.first)) table' flags'
+  unfolding left_by merged_found find_automata
+  core-merged a q {n} {table'} {flags'} m =
+      record { told = λ A Bs h. there A Bs h (explore_automata A labels Bs most_a most_b) refl }
+    where
+      there : (A : Automaton) (Bs : List Automaton) → Holding (job_tables [] 0 labels follow enter sizes accepting) A Bs lists
+          → (f : Found) → explore_automata A labels Bs most_a most_b ≡ f
+          → left (Ok (counted a.standings n a.first)) table' flags' ≡ left_by (find_automata A labels Bs most_a most_b) table flags
+      there A Bs h (refused x) g =
+          let same = told.told A Bs h ∙ ap (λ y. left_by y table flags) g in
+          let c : Ok a ≡ Err (unlined x) = sym q ∙ ap (λ (o : Leaving). o.answer) same in
+          clash (cc)
+      there A Bs h (found R) g =
+          let same = told.told A Bs h ∙ ap (λ y. left_by y table flags) g in
+          let c : Ok a ≡ Ok (counted R.standings R.states (first_word R.first)) = sym q ∙ ap (λ (o : Leaving). o.answer) same in
+          let d : a ≡ counted R.standings R.states (first_word R.first) = cc in
           let t : Tabled lists R = subst (λ k. Tabled k R) h.size (explored-tabled A labels Bs most_a most_b R g (omega (arith, h.size, room.lists))) in
           let few : R.states ≤ 256 = omega (arith, explored-few A labels Bs most_a most_b R g, room.states) in
+          let b : MergeTold table₁ flags₁ lists R.states table' flags' n =
+          subst (λ (k : Told). MergeTold table₁ flags₁ lists k.states table' flags' n) d m in
           let c = subst (λ x. MergeTold (written table_part R.table table) x lists R.states table' flags' n)
           (ap (λ (o : Leaving). o.flags) same)
           (subst (λ x. MergeTold x flags₁ lists R.states table' flags' n) (ap (λ (o : Leaving). o.table) same) b) in
-          ap (λ y. left y table' flags') (a ∙ ap (λ w. record { finding = Told R.standings n; first = w })
-          (ap (λ (o : Leaving). o.answer.first) same))
+          ap (λ (k : Told). left (Ok (counted k.standings n k.first)) table' flags') d
           ∙ merged-left t few table flags room.lists room.table room.flags n table' flags' c
           ∙ ap (λ k. left_by (found (merged k R)) table flags) (sym h.size)
           ∙ ap (λ y. left_by (merged_found (length Bs) y) table flags) (sym g)

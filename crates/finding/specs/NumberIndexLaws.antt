@@ -1,9 +1,8 @@
 -- The laws of the index of numbers (NumberIndex): it grows by a number that is not among those indexed, and the walk along a chain gives
 -- the place of a number.
-use Rattle.std.specs.Prelude.{◌≡◌, ℕ, zero, suc, ◌+◌, ◌-◌, ◌<◌, ◌≤◌, ◌≢◌, List, length, take, replicate, slice_index, slice_index_or, slice_set}
+use Rattle.std.specs.Prelude.{◌≡◌, ℕ, zero, suc, ◌+◌, ◌-◌, ◌<◌, ◌≤◌, ◌≢◌, List, length, take, replicate, slice_index, slice_index_or, slice_set, Some, None}
 use Rattle.std.proofs.Common.{sym, ap, ◌∙◌, subst, add-one, arith, get_or-set_same, get_or-set_other, length-take-le, get_or-take}
 use Rattle.std.proofs.Math.Decide.{ℕ_discrete}
-use Rattle.finding.specs.declared.standings.Explored.TheVariants.{All, Over}
 use Rattle.finding.specs.Standings.{place_of}
 use Rattle.finding.specs.Numbers.{NoDuplicates, place_of-finds, place_of-only}
 use Rattle.finding.specs.PlaceOfLaws.{place-absent}
@@ -58,15 +57,10 @@ indexed-more found m x b heads nexts heads' nexts' at few room fresh old noted =
     distinct i j h k e (no p) (no q) =
         old.distinct i j (omega arith) (omega arith) (sym (others i (omega arith)) ∙ e ∙ others j (omega arith))
 
--- What is indexed may be named otherwise.
-pub indexed-as : {found found' heads heads' nexts nexts' : List ℕ} {n n' : ℕ} → found' ≡ found → heads' ≡ heads → nexts' ≡ nexts → n' ≡ n
-    → Indexed found n heads nexts → Indexed found' n' heads' nexts'
-indexed-as e f g h old = rw (e, f, g, h) old
-
-pub indexed-all : {found heads nexts : List ℕ} {n : ℕ} → Indexed found n heads nexts → IndexedAll found heads nexts (All n)
+pub indexed-all : {found heads nexts : List ℕ} {n : ℕ} → Indexed found n heads nexts → IndexedAll found heads nexts (Some n)
 indexed-all {found} {heads} {nexts} {n} old m e = let z : n ≡ m = cc in subst (λ k. Indexed found k heads nexts) z old
 
-pub indexed-over : {found heads nexts : List ℕ} → IndexedAll found heads nexts Over
+pub indexed-over : {found heads nexts : List ℕ} → IndexedAll found heads nexts None
 indexed-over m e = let z : ◌≡◌ {A = ℕ} 0 1 = cc in absurd (omega arith)
 
 -- What the walk along the chain of x's bucket, and then the start, end with.

@@ -1,6 +1,6 @@
 -- Lent memory whose first part was cleared and then written: what was written, with zeros up to the part's end, and behind it what was
 -- there. For flags and for the table of the states.
-use Rattle.std.specs.Prelude.{◌≡◌, ℕ, ◌+◌, ◌-◌, ◌*◌, ◌/◌, ◌%◌, ◌<◌, ◌≤◌, List, ◌++◌, map, length, take, drop, replicate, slice_index}
+use Rattle.std.specs.Prelude.{◌≡◌, ℕ, ◌+◌, ◌-◌, ◌*◌, ◌/◌, ◌%◌, ◌<◌, ◌≤◌, List, ◌++◌, map, length, take, drop, replicate, slice_index, Option}
 use Rattle.std.proofs.Common.{append_assoc, sym, ap₂, ◌∙◌, take-append-drop, drop_at, take_at, get_or-append-add}
 use Rattle.std.proofs.Math.Path.{ap}
 use Rattle.std.proofs.Math.Decide.{dec_lt}
@@ -9,7 +9,6 @@ use Rattle.std.proofs.Math.ListN.{length-append, length-take, length-replicate, 
 use Rattle.std.proofs.lemmas.List.{length-map, drop-append-le}
 use Rattle.std.proofs.Math.Seq.{get_or-take, ext_get_or}
 use Rattle.theory.specs.Exploration.{Entry, all}
-use Rattle.finding.specs.declared.standings.Explored.{Explored}
 use Rattle.finding.specs.Standings.{values}
 use Rattle.finding.specs.States.{states, state_accepts}
 use Rattle.finding.specs.Find.{rows, flag}
@@ -36,7 +35,7 @@ cleared-front n m xs d h =
     ∙ sym (append_assoc xs (replicate (m - n) 0) (drop m d))
 
 -- The table of stored states, where its first 4,096 numbers were zeros.
-module _ (images : List (List ℕ)) (m lists : ℕ) (before : List ℕ) (l : List (Entry ℕ)) (r : Explored) (found parents symbols table : List ℕ)
+module _ (images : List (List ℕ)) (m lists : ℕ) (before : List ℕ) (l : List (Entry ℕ)) (r : Option ℕ) (found parents symbols table : List ℕ)
     (stored : StatesStored images m lists before l r found parents symbols table) (count : length images ≡ lists) (wide : length images ≤ 16)
     (most : length l ≤ 256) where
   named : List ℕ
@@ -98,7 +97,7 @@ module _ (images : List (List ℕ)) (m lists : ℕ) (before : List ℕ) (l : Lis
             ∙ same p (p / 16) (p % 16) (omega arith) (omega arith) h (dec_lt (p / 16) (length l)) (dec_lt (p % 16) (length images))
 
 -- The table after an exploration of the states into cleared memory; nothing behind its first 4,096 numbers has changed.
-pub states-table : (images : List ℕ) (count lists limit : ℕ) (lent : List ℕ) (r : Explored) (found parents symbols table : List ℕ)
+pub states-table : (images : List ℕ) (count lists limit : ℕ) (lent : List ℕ) (r : Option ℕ) (found parents symbols table : List ℕ)
     → StatesTold images count lists limit (replicate 4096 0 ++ drop 4096 lent) r found parents symbols table → lists ≤ 16 → limit ≤ 256
     → 4096 ≤ length lent → length table ≡ length lent → (l : List (Entry ℕ)) → states (image_rows images count lists) count limit ≡ all l
     → table ≡ (rows (image_rows images count lists) count (values l) (values l) ++ replicate (4096 - 16 * length l) 0) ++ drop 4096 lent

@@ -6,7 +6,7 @@ use Rattle.std.specs.Prelude.{refl}
 use Rattle.std.specs.Int.Count.{count_trailing_zeros}
 use Rattle.theory.specs.Places.{Member, one, union}
 use Rattle.theory.specs.PlacesLaws.{member-none, member-one, member_union}
-use Rattle.places.specs.Followed.{Passed, passed-turn}
+use Rattle.places.specs.Followed.{passed-turn}
 use Rattle.places.specs.NextPlace.{trailing-here}
 use Rattle.finding.specs.Sources.{sources_of, Sources, Gained, At, Followed, Moved}
 use Rattle.finding.specs.SourcesLaws.{Written, written, gained-same, gained-then, followed-gained}
@@ -41,11 +41,6 @@ followed-given {count = count} {p = p} {X = X} Next standing b g =
     let l = b.small v.0 t in
     let r = b.sound v.0 i l k in
     ((r.0, p), standing r.0 r.1, r.3, (refl, r.1, n, r.2, l)))
-
--- The least of some standings is a standing.
-pub least-standing : (count whole rest : ℕ) → ((s : ℕ) → Member s whole → s < count) → ((i : ℕ) → Member i rest → Member i whole) → rest ≢ 0 → rest < 2 ^ 64
-    → count_trailing_zeros 64 rest < count
-least-standing count whole rest standing within d h = standing (count_trailing_zeros 64 rest) (within (count_trailing_zeros 64 rest) (trailing-here 64 rest d h))
 
 -- What is brought may be named otherwise.
 pub brought-as : {moves : List ℕ} {count a p : ℕ} {Taken : ℕ → Type 0} {from moved moved' : List ℕ} {met met' : ℕ} → moved' ≡ moved → met' ≡ met
@@ -139,37 +134,33 @@ module _ (moves : List ℕ) (count a p : ℕ) (from : List ℕ) where
 
 -- What is given to one standing more, and to one place more.
 
-module _ (whole rest : ℕ) (within : (i : ℕ) → Member i rest → Member i whole) (d : rest ≢ 0) (h : rest < 2 ^ 64) where
+module _ {Those Those' : ℕ → Type 0} (k : ℕ) (turn : (x : ℕ) → Those' x ↔ (Those x ⊎ (x ≡ k))) where
   pub standing-given : (moved : List ℕ) (next : ℕ) (v : ℕ × ℕ) (i : ℕ)
-      → Given (Passed whole (bit_and rest (rest - 1))) moved (λ y. y ≡ next) v i
-      ↔ (Given (Passed whole rest) moved (λ y. y ≡ next) v i
-      ⊎ At next (count_trailing_zeros 64 rest) (slice_index moved (count_trailing_zeros 64 rest)) v i)
+      → Given Those' moved (λ y. y ≡ next) v i ↔ (Given Those moved (λ y. y ≡ next) v i ⊎ At next k (slice_index moved k) v i)
   standing-given moved next v i = (
     λ (n, t, m).
-        ⊎_elim (λ t. inl (n, t, m)) (λ e. inr (n, e, subst (λ z. Member i (slice_index moved z)) e m))
-        ((passed-turn whole rest within d h v.0).0 t),
-    ⊎_elim (λ (n, t, m). (n, (passed-turn whole rest within d h v.0).1 (inl t), m))
-        (λ (n, e, m). (n, (passed-turn whole rest within d h v.0).1 (inr e), subst (λ z. Member i (slice_index moved z)) (sym e) m)),
+        ⊎_elim (λ t. inl (n, t, m)) (λ e. inr (n, e, subst (λ z. Member i (slice_index moved z)) e m)) ((turn v.0).0 t),
+    ⊎_elim (λ (n, t, m). (n, (turn v.0).1 (inl t), m))
+        (λ (n, e, m). (n, (turn v.0).1 (inr e), subst (λ z. Member i (slice_index moved z)) (sym e) m)),
   )
 
   module _ (n met : ℕ) (moved : List ℕ) {count : ℕ} {X Y : Sources}
-      (g : Gained count (Given (λ t. Member t met) moved (λ y. Passed whole rest y × (y < n))) X Y) where
+      (g : Gained count (Given (λ t. Member t met) moved (λ y. Those y × (y < n))) X Y) where
     -- The place is below n.
-    pub place_in : {Z : Sources} → count_trailing_zeros 64 rest < n → Received count met moved (count_trailing_zeros 64 rest) Y Z
-        → Gained count (Given (λ t. Member t met) moved (λ y. Passed whole (bit_and rest (rest - 1)) y × (y < n))) X Z
+    pub place_in : {Z : Sources} → k < n → Received count met moved k Y Z
+        → Gained count (Given (λ t. Member t met) moved (λ y. Those' y × (y < n))) X Z
     place_in l r = gained-then g r (λ v i. (
       λ ((q, o), t, m).
-          ⊎_elim (λ q. inl ((q, o), t, m)) (λ e. inr (e, t, m)) ((passed-turn whole rest within d h v.1).0 q),
-      ⊎_elim (λ ((q, o), t, m). (((passed-turn whole rest within d h v.1).1 (inl q), o), t, m))
-          (λ (e, t, m). (((passed-turn whole rest within d h v.1).1 (inr e), subst (◌< n) (sym e) l), t, m)),
+          ⊎_elim (λ q. inl ((q, o), t, m)) (λ e. inr (e, t, m)) ((turn v.1).0 q),
+      ⊎_elim (λ ((q, o), t, m). (((turn v.1).1 (inl q), o), t, m))
+          (λ (e, t, m). (((turn v.1).1 (inr e), subst (◌< n) (sym e) l), t, m)),
     ))
 
     -- It is not.
-    pub place_out : n ≤ count_trailing_zeros 64 rest
-        → Gained count (Given (λ t. Member t met) moved (λ y. Passed whole (bit_and rest (rest - 1)) y × (y < n))) X Y
+    pub place_out : n ≤ k → Gained count (Given (λ t. Member t met) moved (λ y. Those' y × (y < n))) X Y
     place_out l = gained-same g (λ v i. (
-      λ ((q, o), t, m). ((⊎_elim (λ q. q) (λ e. absurd (omega arith)) ((passed-turn whole rest within d h v.1).0 q), o), t, m),
-      λ ((q, o), t, m). (((passed-turn whole rest within d h v.1).1 (inl q), o), t, m),
+      λ ((q, o), t, m). ((⊎_elim (λ q. q) (λ e. absurd (omega arith)) ((turn v.1).0 q), o), t, m),
+      λ ((q, o), t, m). (((turn v.1).1 (inl q), o), t, m),
     ))
 
 -- A word with one place.

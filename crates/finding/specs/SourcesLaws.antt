@@ -1,19 +1,17 @@
 -- The laws of the search from all standings (Sources): how steps are passed on one after the other, and how a turn keeps what the search
 -- holds.
-use Rattle.std.specs.Prelude.{◌≡◌, ℕ, zero, suc, ◌+◌, ◌-◌, ◌*◌, ◌^◌, ◌<◌, ◌≤◌, ◌≢◌, ◌⊎◌, ◌↔◌, List, [], ◌∷◌, length, bit_and, slice_index, slice_index_or, slice_set}
+use Rattle.std.specs.Prelude.{◌≡◌, ℕ, zero, suc, ◌+◌, ◌*◌, ◌^◌, ◌<◌, ◌≤◌, ◌≢◌, ◌⊎◌, ◌↔◌, List, [], ◌∷◌, length, slice_index, slice_index_or, slice_set}
 use Rattle.std.proofs.Common.{inl, inr, ⊎_elim, sym, ap, ap₂, ◌∙◌, arith, get_or-set_same, get_or-set_other}
 use Rattle.std.specs.Prelude.{refl}
 use Rattle.std.proofs.Math.Path.{subst}
 use Rattle.std.proofs.Math.Decide.{ℕ_discrete}
 use Rattle.std.specs.Int.Bits.{or_zero_r}
-use Rattle.std.specs.Int.Count.{count_trailing_zeros}
 use Rattle.std.proofs.Math.ListN.{length-set}
 use Rattle.theory.specs.Places.{Member, one, union, intersection}
 use Rattle.theory.specs.PlacesLaws.{member-one, member_union, not_none}
 use Rattle.theory.specs.PlacesWithin.{within-at-most}
 use Rattle.theory.specs.Closure.{Reaches, here, onward}
 use Rattle.theory.specs.ClosureLaws.{reaches-trans}
-use Rattle.places.specs.Followed.{Passed, passed-turn}
 use Rattle.finding.specs.MoveTable.{same_place}
 use Rattle.finding.specs.Sources.{sources_of, Sources, sources, room, left, Grown, Gained, At, Followed, Only, Moved, Labelled}
 
@@ -312,47 +310,36 @@ followed-only {w} {p} {s} {X = X} small g =
 
 -- The steps from one standing more, and over one label more.
 
-module _ (moves : List ℕ) (count a p next taken rest : ℕ) (within : (i : ℕ) → Member i rest → Member i taken) (d : rest ≢ 0)
-    (h : rest < 2 ^ 64) where
-  abbrev least : ℕ
-  least = count_trailing_zeros 64 rest
-
-  abbrev after : ℕ
-  after = bit_and rest (rest - 1)
-
+module _ (moves : List ℕ) (count a p next : ℕ) {Taken Taken' : ℕ → Type 0} (s : ℕ) (turn : (x : ℕ) → Taken' x ↔ (Taken x ⊎ (x ≡ s))) where
   -- The standing leads to another, below the count.
-  pub standing-in : (to : ℕ) → to ≡ slice_index moves (32 * count_trailing_zeros 64 rest + a) → to < count → (u v : ℕ × ℕ)
-      → Moved moves count a p (Passed taken (bit_and rest (rest - 1))) (λ y. y ≡ next) u v
-      ↔ (Moved moves count a p (Passed taken rest) (λ y. y ≡ next) u v
-      ⊎ Only p (count_trailing_zeros 64 rest) next to u v)
-  standing-in to f l u v = (λ (e, t, n, m, b). there e n m b ((passed-turn taken rest within d h u.0).0 t), back)
+  pub standing-in : (to : ℕ) → to ≡ slice_index moves (32 * s + a) → to < count → (u v : ℕ × ℕ)
+      → Moved moves count a p Taken' (λ y. y ≡ next) u v ↔ (Moved moves count a p Taken (λ y. y ≡ next) u v ⊎ Only p s next to u v)
+  standing-in to f l u v = (λ (e, t, n, m, b). there e n m b ((turn u.0).0 t), back)
     where
-      there : u.1 ≡ p → v.1 ≡ next → v.0 ≡ slice_index moves (32 * u.0 + a) → v.0 < count → Passed taken rest u.0 ⊎ (u.0 ≡ least)
-          → Moved moves count a p (Passed taken rest) (λ y. y ≡ next) u v ⊎ Only p least next to u v
+      there : u.1 ≡ p → v.1 ≡ next → v.0 ≡ slice_index moves (32 * u.0 + a) → v.0 < count → Taken u.0 ⊎ (u.0 ≡ s)
+          → Moved moves count a p Taken (λ y. y ≡ next) u v ⊎ Only p s next to u v
       there e n m b (inl t) = inl (e, t, n, m, b)
       there e n m b (inr q) = inr (e, q, n, m ∙ (ap (λ z. slice_index moves (32 * z + a)) q ∙ sym f))
 
-      back : Moved moves count a p (Passed taken rest) (λ y. y ≡ next) u v ⊎ Only p least next to u v
-          → Moved moves count a p (Passed taken after) (λ y. y ≡ next) u v
-      back (inl (e, t, n, m, b)) = (e, (passed-turn taken rest within d h u.0).1 (inl t), n, m, b)
+      back : Moved moves count a p Taken (λ y. y ≡ next) u v ⊎ Only p s next to u v → Moved moves count a p Taken' (λ y. y ≡ next) u v
+      back (inl (e, t, n, m, b)) = (e, (turn u.0).1 (inl t), n, m, b)
       back (inr (e, q, n, m)) = (
         e,
-        (passed-turn taken rest within d h u.0).1 (inr q),
+        (turn u.0).1 (inr q),
         n,
         m ∙ (f ∙ ap (λ z. slice_index moves (32 * z + a)) (sym q)),
         subst (λ z. z < count) (sym m) l,
       )
 
   -- The standing leads nowhere.
-  pub standing-out : count ≤ slice_index moves (32 * count_trailing_zeros 64 rest + a) → (u v : ℕ × ℕ)
-      → Moved moves count a p (Passed taken (bit_and rest (rest - 1))) (λ y. y ≡ next) u v
-      ↔ Moved moves count a p (Passed taken rest) (λ y. y ≡ next) u v
+  pub standing-out : count ≤ slice_index moves (32 * s + a) → (u v : ℕ × ℕ)
+      → Moved moves count a p Taken' (λ y. y ≡ next) u v ↔ Moved moves count a p Taken (λ y. y ≡ next) u v
   standing-out l u v = (
-    λ (e, t, n, m, b). (e, there m b ((passed-turn taken rest within d h u.0).0 t), n, m, b),
-    λ (e, t, n, m, b). (e, (passed-turn taken rest within d h u.0).1 (inl t), n, m, b),
+    λ (e, t, n, m, b). (e, there m b ((turn u.0).0 t), n, m, b),
+    λ (e, t, n, m, b). (e, (turn u.0).1 (inl t), n, m, b),
   )
     where
-      there : v.0 ≡ slice_index moves (32 * u.0 + a) → v.0 < count → Passed taken rest u.0 ⊎ (u.0 ≡ least) → Passed taken rest u.0
+      there : v.0 ≡ slice_index moves (32 * u.0 + a) → v.0 < count → Taken u.0 ⊎ (u.0 ≡ s) → Taken u.0
       there m b (inl t) = t
       there m b (inr q) = absurd (omega (arith, m, b, l, ap (λ z. slice_index moves (32 * z + a)) q))
 

@@ -1,11 +1,9 @@
 -- What the loops over standings and labels hold and tell: the exploration of Standings (Exploring), with nothing kept of the trails.
-use Rattle.std.specs.Prelude.{◌≡◌, ℕ, ◌+◌, ◌*◌, ◌<◌, ◌≤◌, ◌≢◌, ◌⊎◌, List, length, take, slice_index, slice_index_or, slice_set}
+use Rattle.std.specs.Prelude.{◌≡◌, ℕ, ◌+◌, ◌*◌, ◌<◌, ◌≤◌, ◌≢◌, ◌⊎◌, List, length, take, slice_index, slice_index_or, slice_set, Option, Some, None}
 use Rattle.std.proofs.Common.{inl, inr, ◌∙◌, add-one, arith, length-set, length-take-le, get_or-set_other}
 use Rattle.std.specs.Prelude.{refl}
 use Rattle.theory.specs.Automaton.{step}
 use Rattle.theory.specs.Exploration.{Entry}
-use Rattle.finding.specs.declared.standings.Explored.{Explored}
-use Rattle.finding.specs.declared.standings.Explored.TheVariants.{All, Over}
 use Rattle.finding.specs.Standings.{place_of}
 use Rattle.finding.specs.Plain.{plain}
 use Rattle.finding.specs.PlaceOfLaws.{place-within}
@@ -31,12 +29,12 @@ pub record Room (labels limit i n : ℕ) (enter found moves : List ℕ) : Type 0
   pub rows : 32 * limit ≤ length moves
 
 -- The row of the entry number i, from n numbers found.
-pub record RowTold (T : Task) (i n : ℕ) (found table : List ℕ) (r : Explored) (found' table' : List ℕ) : Type 0 where
-  pub bounds : (m : ℕ) → r ≡ All m → (n ≤ m) × (m ≤ T.limit)
+pub record RowTold (T : Task) (i n : ℕ) (found table : List ℕ) (r : Option ℕ) (found' table' : List ℕ) : Type 0 where
+  pub bounds : (m : ℕ) → r ≡ Some m → (n ≤ m) × (m ≤ T.limit)
   pub told : Turns T Alone Alone i 0 T.symbols n found table r found' table'
 
 -- The whole exploration.
-abbrev pub SweepTold : Task → Explored → List ℕ → List ℕ → Type 0
+abbrev pub SweepTold : Task → Option ℕ → List ℕ → List ℕ → Type 0
 SweepTold T r found table = Outcome (explored T) r (λ n. AllFound T Alone n found table)
 
 -- In the row of the entry number i, the symbols before a done.
@@ -47,7 +45,7 @@ pub record RowLoop (T : Task) (i n : ℕ) (found table : List ℕ) (a m : ℕ) (
   pub room : length found' ≡ length found
   pub rows : length table' ≡ length table
   pub from : slice_index_or found' i 0 ≡ slice_index found i
-  pub told : Turns T Alone Alone i 0 a n found table (All m) found' table'
+  pub told : Turns T Alone Alone i 0 a n found table (Some m) found' table'
 
 pub row-begins : {T : Task} {i n : ℕ} {found table : List ℕ} → n ≤ T.limit → RowLoop T i n found table 0 n found table
 row-begins h =
@@ -62,7 +60,7 @@ row-begins h =
     }
 
 pub row_ends : {T : Task} {i n a m : ℕ} {found table found' table' : List ℕ} → RowLoop T i n found table a m found' table' → T.symbols ≤ a
-    → RowTold T i n found table (All m) found' table'
+    → RowTold T i n found table (Some m) found' table'
 row_ends {T} {i} {n} {a} {m} s h =
     let e : a ≡ T.symbols = omega (arith, s.symbol) in
     record {
@@ -110,7 +108,7 @@ module _ {T : Task} {i n a m : ℕ} {found table found' table' : List ℕ} (s : 
             (omega (arith, place, place-within x (take m found'), length-take-le m found' space)) (λ l e b. b);
       })
 
-  pub loop-over : {found'' table'' : List ℕ} → t ≡ m → T.limit ≤ m → RowTold T i n found table Over found'' table''
+  pub loop-over : {found'' table'' : List ℕ} → t ≡ m → T.limit ≤ m → RowTold T i n found table None found'' table''
   loop-over h l =
       record {
         bounds = λ k z. absurd (let y : ◌≡◌ {A = ℕ} 0 1 = cc in omega arith);

@@ -1,13 +1,12 @@
 -- What the loops over states and lists hold and tell: the exploration of States (Exploring) in lent memory, with the trails (Trailed).
-use Rattle.std.specs.Prelude.{◌≡◌, ℕ, suc, ◌+◌, ◌*◌, ◌<◌, ◌≤◌, ◌≢◌, List, length, take, drop, slice_index, slice_set}
+use Rattle.std.specs.Prelude.{◌≡◌, ℕ, suc, ◌+◌, ◌*◌, ◌<◌, ◌≤◌, ◌≢◌, List, length, take, drop, slice_index, slice_set, Option, Some, None}
 use Rattle.std.proofs.Math.Path.{refl}
 use Rattle.std.proofs.Common.{sym, ◌∙◌, add-one, arith, length-take-le, get_or-set_other, drop-set-lt}
 use Rattle.std.proofs.Math.ListN.{length-set}
 use Rattle.theory.specs.Places.{one}
 use Rattle.theory.specs.Automaton.{nexts}
 use Rattle.theory.specs.Exploration.{Entry}
-use Rattle.finding.specs.declared.standings.Explored.{Explored}
-use Rattle.finding.specs.declared.standings.Explored.TheVariants.{All, Over}
+use Rattle.finding.specs.declared.states.States.{States}
 use Rattle.finding.specs.Standings.{place_of}
 use Rattle.finding.specs.States.{state_step}
 use Rattle.finding.specs.PlaceOfLaws.{place-within}
@@ -25,6 +24,9 @@ pub record Memory : Type 0 where
 
 abbrev pub memory : List ℕ → List ℕ → List ℕ → List ℕ → Memory
 memory found parents symbols table = record { found = found; parents = parents; symbols = symbols; table = table }
+
+abbrev pub memory_of : States → List ℕ → Memory
+memory_of s table = memory s.found s.parents s.symbols table
 
 -- There is room for `limit` states.
 pub record Room (limit : ℕ) (m : Memory) : Type 0 where
@@ -44,7 +46,7 @@ abbrev pub InMemory : Memory → List (Entry ℕ) → Type 0
 InMemory m l = Trailed m.parents m.symbols (trails l)
 
 -- In the row of state s, from the list v to the list w.
-abbrev pub Turned : Task → ℕ → ℕ → ℕ → ℕ → Memory → Explored → Memory → Type 0
+abbrev pub Turned : Task → ℕ → ℕ → ℕ → ℕ → Memory → Option ℕ → Memory → Type 0
 Turned T s v w n old r new = Turns T (InMemory old) (InMemory new) s v w n old.found old.table r new.found new.table
 
 -- The table is as it was at p, and behind its first 4,096 numbers.
@@ -55,15 +57,15 @@ abbrev pub SameBehind : List ℕ → Memory → Type 0
 SameBehind before new = drop 4096 new.table ≡ drop 4096 before
 
 -- One step, from state s over the list v; of the table nothing else has changed.
-pub record Extended (images : List ℕ) (count limit s v n : ℕ) (old : Memory) (r : Explored) (new : Memory) : Type 0 where
-  pub bounds : (m : ℕ) → r ≡ All m → (n ≤ m) × (m ≤ limit)
+pub record Extended (images : List ℕ) (count limit s v n : ℕ) (old : Memory) (r : Option ℕ) (new : Memory) : Type 0 where
+  pub bounds : (m : ℕ) → r ≡ Some m → (n ≤ m) × (m ≤ limit)
   pub behind : SameBehind old.table new
   pub same : (q : ℕ) → q ≢ 16 * s + v → SameAt q old.table new
   pub told : (lists : ℕ) → v < lists → lists ≤ 16 → Turned (state_task images count lists limit) s v (suc v) n old r new
 
 -- The row of state s; of the table nothing else has changed.
-pub record Swept (images : List ℕ) (count lists limit s n : ℕ) (old : Memory) (r : Explored) (new : Memory) : Type 0 where
-  pub bounds : (m : ℕ) → r ≡ All m → (n ≤ m) × (m ≤ limit)
+pub record Swept (images : List ℕ) (count lists limit s n : ℕ) (old : Memory) (r : Option ℕ) (new : Memory) : Type 0 where
+  pub bounds : (m : ℕ) → r ≡ Some m → (n ≤ m) × (m ≤ limit)
   pub behind : SameBehind old.table new
   pub same : (q : ℕ) → ((v : ℕ) → v < lists → q ≢ 16 * s + v) → SameAt q old.table new
   pub told : Turned (state_task images count lists limit) s 0 lists n old r new
@@ -86,7 +88,7 @@ module _ (images : List ℕ) (count limit s v n x p : ℕ) (old : Memory) (room 
   new-place l = omega (arith, place, place-within x (take n old.found), length-take-le n old.found fits)
 
   pub extended-known : p < n
-      → Extended images count limit s v n old (All n) (memory old.found old.parents old.symbols (slice_set old.table (16 * s + v) p))
+      → Extended images count limit s v n old (Some n) (memory old.found old.parents old.symbols (slice_set old.table (16 * s + v) p))
   extended-known l =
       record {
         bounds = λ m e. let same : n ≡ m = cc in (omega arith, omega arith);
@@ -96,7 +98,7 @@ module _ (images : List ℕ) (count limit s v n x p : ℕ) (old : Memory) (room 
             explores-known s v n x p held inside h fits (next-state lists h) place k (omega (arith, room.rows, room.most)) l (λ m e t. t);
       }
 
-  pub extended-over : n ≤ p → limit ≤ n → Extended images count limit s v n old Over old
+  pub extended-over : n ≤ p → limit ≤ n → Extended images count limit s v n old None old
   extended-over l h =
       record {
         bounds = λ m e. absurd (let z : ◌≡◌ {A = ℕ} 0 1 = cc in omega arith);
@@ -106,7 +108,7 @@ module _ (images : List ℕ) (count limit s v n x p : ℕ) (old : Memory) (room 
       }
 
   pub extended-new : n ≤ p → n < limit
-      → Extended images count limit s v n old (All (n + 1))
+      → Extended images count limit s v n old (Some (n + 1))
       (memory (slice_set old.found n x) (slice_set old.parents n s) (slice_set old.symbols n v) (slice_set old.table (16 * s + v) n))
   extended-new l h =
       record {
@@ -136,12 +138,12 @@ pub record InRow (images : List ℕ) (count lists limit s n : ℕ) (old : Memory
   pub sizes : SameSizes old new
   pub behind : SameBehind old.table new
   pub same : (q : ℕ) → ((v : ℕ) → v < lists → q ≢ 16 * s + v) → SameAt q old.table new
-  pub told : Turned (state_task images count lists limit) s 0 list n old (All m) new
+  pub told : Turned (state_task images count lists limit) s 0 list n old (Some m) new
 
-same-sizes : (m : Memory) → SameSizes m m
+pub same-sizes : (m : Memory) → SameSizes m m
 same-sizes m = record { states = refl; origins = refl; steps = refl; rows = refl }
 
-sizes-on : {a b c : Memory} → SameSizes a b → SameSizes b c → SameSizes a c
+pub sizes-on : {a b c : Memory} → SameSizes a b → SameSizes b c → SameSizes a c
 sizes-on s t =
     record {
       states = t.states ∙ s.states;
@@ -174,9 +176,9 @@ module _ {images : List ℕ} {count lists limit s n : ℕ} {old : Memory} where
         told = λ whole held. held;
       }
 
-  module _ {list m : ℕ} {mid new : Memory} {r : Explored} (i : InRow images count lists limit s n old list m mid) (h : list < lists)
+  module _ {list m : ℕ} {mid new : Memory} {r : Option ℕ} (i : InRow images count lists limit s n old list m mid) (h : list < lists)
       (l : lists ≤ 16) (e : Extended images count limit s list m mid r new) where
-    pub in-row-more : {more : ℕ} → r ≡ All more → SameSizes mid new → InRow images count lists limit s n old (list + 1) more new
+    pub in-row-more : {more : ℕ} → r ≡ Some more → SameSizes mid new → InRow images count lists limit s n old (list + 1) more new
     in-row-more {more} q z =
         let b = e.bounds more q in
         record {
@@ -190,7 +192,7 @@ module _ {images : List ℕ} {count lists limit s n : ℕ} {old : Memory} where
           told = λ whole held. rw add-one (outcome-all whole _ q (e.told lists h l whole (i.told whole held)));
         }
 
-    pub in-row-over : r ≡ Over → Swept images count lists limit s n old Over new
+    pub in-row-over : r ≡ None → Swept images count lists limit s n old None new
     in-row-over q =
         record {
           bounds = λ k z. absurd (let y : ◌≡◌ {A = ℕ} 0 1 = cc in omega arith);
@@ -200,7 +202,7 @@ module _ {images : List ℕ} {count lists limit s n : ℕ} {old : Memory} where
         }
 
   pub in-row-end : {list m : ℕ} {new : Memory} → InRow images count lists limit s n old list m new → lists ≤ list
-      → Swept images count lists limit s n old (All m) new
+      → Swept images count lists limit s n old (Some m) new
   in-row-end {list} {m} i h =
       let e : list ≡ lists = omega (arith, i.below) in
       record {
@@ -221,10 +223,10 @@ pub record InSweep (images : List ℕ) (count lists limit : ℕ) (old : Memory) 
   pub told : SweepLeft (state_task images count lists limit) (InMemory new) i n new.found new.table
 
 -- All rows are done, or there are more states than the limit; the table was `before`.
-pub record AllSwept (images : List ℕ) (count lists limit : ℕ) (before : List ℕ) (r : Explored) (new : Memory) : Type 0 where
-  pub bounds : (n : ℕ) → r ≡ All n → n ≤ limit
+pub record AllSwept (images : List ℕ) (count lists limit : ℕ) (before : List ℕ) (r : Option ℕ) (new : Memory) : Type 0 where
+  pub bounds : (n : ℕ) → r ≡ Some n → n ≤ limit
   pub behind : SameBehind before new
-  pub same : (n : ℕ) → r ≡ All n → (q : ℕ) → ((s v : ℕ) → s < n → v < lists → q ≢ 16 * s + v) → SameAt q before new
+  pub same : (n : ℕ) → r ≡ Some n → (q : ℕ) → ((s v : ℕ) → s < n → v < lists → q ≢ 16 * s + v) → SameAt q before new
   pub told : Outcome (explored (state_task images count lists limit)) r
       (λ n. AllFound (state_task images count lists limit) (InMemory new) n new.found new.table)
 
@@ -244,9 +246,9 @@ module _ {images : List ℕ} {count lists limit : ℕ} where
         told = sweep-start found table h (omega (arith, room.states)) (trailed-start parents symbols);
       }
 
-  module _ {i n : ℕ} {old mid new : Memory} {r : Explored} (s : InSweep images count lists limit old i n mid) (h : i < n)
+  module _ {i n : ℕ} {old mid new : Memory} {r : Option ℕ} (s : InSweep images count lists limit old i n mid) (h : i < n)
       (e : Swept images count lists limit i n mid r new) where
-    pub in-sweep-more : {more : ℕ} → lists ≤ 16 → r ≡ All more → SameSizes mid new → InSweep images count lists limit old (i + 1) more new
+    pub in-sweep-more : {more : ℕ} → lists ≤ 16 → r ≡ Some more → SameSizes mid new → InSweep images count lists limit old (i + 1) more new
     in-sweep-more {more} l q z =
         record {
           below = omega (arith, (e.bounds more q).0);
@@ -260,7 +262,7 @@ module _ {images : List ℕ} {count lists limit : ℕ} where
               (λ whole held. outcome-all whole _ q (e.told whole held));
         }
 
-    pub in-sweep-over : r ≡ Over → AllSwept images count lists limit old.table Over new
+    pub in-sweep-over : r ≡ None → AllSwept images count lists limit old.table None new
     in-sweep-over q =
         record {
           bounds = λ k z. absurd (let y : ◌≡◌ {A = ℕ} 0 1 = cc in omega arith);
@@ -272,7 +274,7 @@ module _ {images : List ℕ} {count lists limit : ℕ} where
         }
 
   pub in-sweep-end : {i n : ℕ} {old new : Memory} → lists ≤ 16 → InSweep images count lists limit old i n new → n ≤ i
-      → AllSwept images count lists limit old.table (All n) new
+      → AllSwept images count lists limit old.table (Some n) new
   in-sweep-end {i} {n} l s h =
       record {
         bounds = λ k z. let y : n ≡ k = cc in omega (arith, s.within);

@@ -1,5 +1,5 @@
 -- What the code for the states promises on the tables of a job, from the standings and their moves on: it leaves what find_states gives.
-use Rattle.std.specs.Prelude.{◌≡◌, ℕ, suc, ◌-◌, ◌*◌, ◌<◌, ◌≤◌, List, ◌++◌, map, length, get_or, take, drop, replicate, slice_index, slice_index_or}
+use Rattle.std.specs.Prelude.{◌≡◌, ℕ, suc, ◌-◌, ◌*◌, ◌<◌, ◌≤◌, List, ◌++◌, map, length, get_or, take, drop, replicate, slice_index, slice_index_or, Option, Some, None, Result, Ok}
 use Rattle.std.specs.Prelude.{refl}
 use Rattle.std.proofs.Common.{sym, ap₂, ◌∙◌, subst, arith, length-take}
 use Rattle.std.proofs.Math.Path.{ap}
@@ -7,9 +7,8 @@ use Rattle.std.proofs.lemmas.List.{length-map}
 use Rattle.theory.specs.Automaton.{Automaton}
 use Rattle.theory.specs.Exploration.{Entry, Exploration, all, over}
 use Rattle.syntax.specs.declared.refusal.Refusal.TheVariants.{TooManyStates}
-use Rattle.finding.specs.declared.standings.Explored.{Explored}
-use Rattle.finding.specs.declared.standings.Explored.TheVariants.{All, Over}
-use Rattle.finding.specs.declared.answer.FindAnswer.{FindAnswer}
+use Rattle.reading.specs.declared.answer.Refused.{Refused}
+use Rattle.finding.specs.declared.answer.Found.{Found as Told}
 use Rattle.finding.specs.Standings.{values}
 use Rattle.finding.specs.ListImage.{image_table}
 use Rattle.finding.specs.States.{states, accepting_standings, state_accepts}
@@ -42,7 +41,7 @@ pub record Room (k n limit : ℕ) (lent marks : List ℕ) : Type 0 where
   pub table : 4096 ≤ length lent
   pub flags : 256 ≤ length marks
 
-pub record StatesPart (T : JobTables) (lists limit : ℕ) (found table flags : List ℕ) (r : FindAnswer) (table' flags' : List ℕ) : Type 0 where
+pub record StatesPart (T : JobTables) (lists limit : ℕ) (found table flags : List ℕ) (r : Result Told Refused) (table' flags' : List ℕ) : Type 0 where
   pub told : Room T.labels lists limit table flags → (A : Automaton) (Bs : List Automaton) → Holding T A Bs lists
       → Moves A (take T.count found) T
       → left r table' flags'
@@ -60,7 +59,7 @@ unfolding find_states
 all_found images m accepting limit l e = rw (find_states, e)
 
 -- What the memory holds behind the exploration of the states: `lent` and `marks` are the buffers as they were cleared.
-module _ (T : JobTables) (lists limit : ℕ) (found table flags : List ℕ) (images lent marks : List ℕ) (r : Explored)
+module _ (T : JobTables) (lists limit : ℕ) (found table flags : List ℕ) (images lent marks : List ℕ) (r : Option ℕ)
     (explored parents symbols table' : List ℕ) (imaged : lists ≤ 16 → ImagesOf T lists images)
     (lent-cleared : 4096 ≤ length table → lent ≡ cleared 4096 table) (marks-cleared : 256 ≤ length flags → marks ≡ cleared 256 flags)
     (told : T.count ≤ 64 → lists ≤ 16 → limit ≤ 256 → 4096 ≤ length lent
@@ -85,7 +84,7 @@ module _ (T : JobTables) (lists limit : ℕ) (found table flags : List ℕ) (ima
         (told few room.lists room.states (omega (arith, room.table)))
 
   -- Too many states.
-  pub part-over : (table'' : List ℕ) (a : FindAnswer) → r ≡ Over → (4096 ≤ length table' → table'' ≡ cleared 4096 table')
+  pub part-over : (table'' : List ℕ) (a : Result Told Refused) → r ≡ None → (4096 ≤ length table' → table'' ≡ cleared 4096 table')
       → a ≡ refused_with TooManyStates 0 → StatesPart T lists limit found table flags a table'' marks
   unfolding pictures left_by
   part-over table'' a e again o = record { told = λ room A Bs h m. there room (omega (arith, inside A m)) A Bs h m }
@@ -107,9 +106,9 @@ module _ (T : JobTables) (lists limit : ℕ) (found table flags : List ℕ) (ima
           (sym (over-refused (image_table A (take T.count found) T.labels Bs) T.count (accepting_standings A (take T.count found)) limit s)))
 
   -- All states are found.
-  pub part-all : (n : ℕ) (a : FindAnswer) (marks' : List ℕ) → r ≡ All n
+  pub part-all : (n : ℕ) (a : Told) (marks' : List ℕ) → r ≡ Some n
       → FoundTold found T.count (slice_index T.accepting 0) explored n parents symbols marks a marks'
-      → StatesPart T lists limit found table flags a table' marks'
+      → StatesPart T lists limit found table flags (Ok a) table' marks'
   unfolding pictures left_by
   part-all n a marks' e f =
       record {
@@ -123,10 +122,10 @@ module _ (T : JobTables) (lists limit : ℕ) (found table flags : List ℕ) (ima
       answered : Room T.labels lists limit table flags → T.count ≤ 64 → T.count ≤ length found → (A : Automaton) → Has T 0 A
           → StatesTold images T.count lists limit (cleared 4096 table) r explored parents symbols table'
           → (l : List (Entry ℕ)) → states (image_rows images T.count lists) T.count limit ≡ all l
-          → left a table' marks'
+          → left (Ok a) table' marks'
           ≡ left_by (finds (rewriting (image_rows images T.count lists) T.count (accepting_standings A (take T.count found)) l)) table flags
       answered room few b A s t l p =
-          let c : All n ≡ All (length l) = sym e ∙ (t.stored l p).count in
+          let c : Some n ≡ Some (length l) = sym e ∙ (t.stored l p).count in
           let k : n ≡ length l = cc in
           let w : length (image_rows images T.count lists) ≤ 16 = omega (arith, length-image_rows images T.count lists, room.lists) in
           let x : Reached explored n parents symbols marks l flags =
@@ -143,8 +142,8 @@ module _ (T : JobTables) (lists limit : ℕ) (found table flags : List ℕ) (ima
           omega (arith, length-rows (image_rows images T.count lists) T.count (values l) w (values l), length-values l) in
           let v : length l ≡ length (map (λ X. flag (state_accepts (good A) X)) (values l)) =
           sym (length-map (values l) (λ X. flag (state_accepts (good A) X)) ∙ length-values l) in
-          ap (λ z. left z table' marks') (f.answer few b A q l flags x ∙ ap (λ i. found_with T.count i (good A) l) k)
-          ∙ ap₂ (left (found_with T.count (length l) (good A) l))
+          ap (λ z. left (Ok z) table' marks') (f.answer few b A q l flags x ∙ ap (λ i. found_with T.count i (good A) l) k)
+          ∙ ap₂ (left (Ok (found_with T.count (length l) (good A) l)))
           (states-table images T.count lists limit table r explored parents symbols table' t room.lists room.states room.table
           (sized ∙ kept) l p
           ∙ ap (λ i. (rows (image_rows images T.count lists) T.count (values l) (values l) ++ replicate (4096 - i) 0) ++ drop 4096 table) u)
@@ -154,12 +153,12 @@ module _ (T : JobTables) (lists limit : ℕ) (found table flags : List ℕ) (ima
       there : Room T.labels lists limit table flags → T.count ≤ 64 → T.count ≤ length found → (A : Automaton) (Bs : List Automaton)
           → Holding T A Bs lists → Moves A (take T.count found) T
           → (o : Exploration ℕ) → states (image_rows images T.count lists) T.count limit ≡ o
-          → left a table' marks'
+          → left (Ok a) table' marks'
           ≡ left_by (find_states (image_table A (take T.count found) T.labels Bs) T.count
           (accepting_standings A (take T.count found)) limit) table flags
       there room few b A Bs h m over p =
           let t = explored-states room few A Bs h m in
-          let c : All n ≡ Over = sym e ∙ t.is_over.1 p in
+          let c : Some n ≡ None = sym e ∙ t.is_over.1 p in
           clash (cc)
       there room few b A Bs h m (all l) p =
           answered room few b A h.query (explored-states room few A Bs h m) l p

@@ -2,13 +2,17 @@
 ghost use Rattle.std.specs.Prelude.{◌≡◌};
 ghost use Rattle.finding.specs.Count.{count_standings};
 
-use crate::standings::{Explored, standings};
+use crate::index::Index;
+use crate::standings::Standings;
 
 // The number of standings over the labels, where there are at most `limit`. There is room for 64 standings and 32 labels.
-pub fn count_standings(follow: &[u64], enter: &[u64], labels: u64, limit: u64) -> Explored
+pub fn count_standings(follow: &[u64], enter: &[u64], labels: u64, limit: u64) -> Option<u64>
     ensures { result ≡ count_standings follow.now enter.now labels limit }
 {
-    let mut found: [u64; 64] = [0; 64];
-    let mut moves: [u8; 2048] = [0; 2048];
-    standings(follow, enter, labels, limit, &mut found, &mut moves)
+    let mut standings = Standings {
+        found: [0; 64],
+        moves: [0; 2048],
+        index: Index::new(),
+    };
+    standings.explore(follow, enter, labels, limit)
 }

@@ -1,32 +1,19 @@
 // The first accepted word: that of the first state with flag 1, read off by following the parents back.
-ghost use Rattle.std.specs.Prelude.{◌≡◌, ◌<◌, ◌≤◌, length};
-ghost use Rattle.std.proofs.Math.Option.{none};
-ghost use Rattle.finding.specs.Standings.{place_of};
-ghost use Rattle.finding.specs.WordTold.{first_word};
+ghost use Rattle.std.specs.Prelude.{◌≡◌, ◌==◌, ◌<◌, ◌≤◌, length, position};
 ghost use Rattle.finding.specs.FirstWords.{TrailLength, Spelled, FirstTold};
 
-use crate::number::wide;
-
-// Its symbols, with zeros behind them. `any` is false where no word is accepted.
-#[derive(Clone, Copy)]
+// Its symbols, with zeros behind them.
+#[derive(Clone, Copy, Debug, PartialEq, Eq)]
 pub struct FirstWord {
-    pub any: bool,
     pub length: u64,
     pub word: [u8; 256],
 }
 
-// The place of the first flag 1; the number of flags where there is none.
-fn flag_place(flags: &[u8]) -> usize
-    ensures { result ≡ place_of 1 flags.now }
+// The place of the first flag 1.
+fn flag_place(flags: &[u8]) -> Option<usize>
+    ensures { result ≡ position (λ flag. flag == 1) flags.now }
 {
-    let mut i = 0;
-    while i < flags.len() {
-        if flags[i] == 1 {
-            return i;
-        }
-        i += 1;
-    }
-    i
+    flags.iter().position(|flag| *flag == 1)
 }
 
 // How many steps lead back from a state to the start. A parent that is not before its state ends the way.
@@ -36,8 +23,9 @@ fn trail_length(parents: &[u8; 256], state: usize) -> u64
 {
     let mut at = state;
     let mut steps: u64 = 0;
+    // No `for`: a chain of parents is followed.
     while at > 0 {
-        let parent = wide(parents[at]);
+        let parent = usize::from(parents[at]);
         if parent >= at {
             return steps;
         }
@@ -53,45 +41,27 @@ fn spell(parents: &[u8; 256], symbols: &[u8; 256], state: usize, size: usize, wo
     ensures { Spelled parents.now symbols.now state size word.old word.new }
 {
     let mut at = state;
-    let mut end = size;
-    while end > 0 {
-        end -= 1;
+    for end in (0..size).rev() {
         word[end] = symbols[at];
-        at = wide(parents[at]);
+        at = usize::from(parents[at]);
     }
 }
 
-// No word is accepted.
-pub(crate) fn no_word() -> FirstWord
-    ensures { result ≡ first_word none }
-{
-    FirstWord {
-        any: false,
-        length: 0,
-        word: [0u8; 256],
-    }
-}
-
-pub(crate) fn first(flags: &[u8], count: u64, parents: &[u8; 256], symbols: &[u8; 256]) -> FirstWord
+pub(crate) fn first(
+    flags: &[u8],
+    count: u64,
+    parents: &[u8; 256],
+    symbols: &[u8; 256],
+) -> Option<FirstWord>
     ensures { FirstTold flags.now count parents.now symbols.now result }
 {
     let n = count as usize;
-    if n > 256 {
-        return no_word();
+    if n > 256 || n > flags.len() {
+        return None;
     }
-    if n > flags.len() {
-        return no_word();
-    }
-    let state = flag_place(&flags[..n]);
-    if state >= n {
-        return no_word();
-    }
-    let mut word = [0u8; 256];
+    let state = flag_place(&flags[..n])?;
+    let mut word = [0; 256];
     let length = trail_length(parents, state);
     spell(parents, symbols, state, length as usize, &mut word);
-    FirstWord {
-        any: true,
-        length,
-        word,
-    }
+    Some(FirstWord { length, word })
 }

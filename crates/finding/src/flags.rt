@@ -16,12 +16,10 @@ pub fn accepting_standings(found: &[u64], count: u64, accepting: Places) -> u64
         return 0;
     }
     let mut numbers: u64 = 0;
-    let mut i: u64 = 0;
-    while i < count {
+    for i in 0..count {
         if number_at(found, i) & accepting.0 != 0 {
-            numbers = numbers | (1 << i);
+            numbers |= 1 << i;
         }
-        i += 1;
     }
     numbers
 }
@@ -36,7 +34,7 @@ fn state_accepts(accepting: u64, state: u64) -> bool
 fn flag(accepts: bool) -> u8
     ensures { result ≡ flag accepts }
 {
-    if accepts { 1 } else { 0 }
+    u8::from(accepts)
 }
 
 // The flags of the first `count` states.
@@ -46,15 +44,10 @@ pub fn flags(states: &[u64], count: u64, accepting: u64, flags: &mut [u8])
         ++ drop count flags.old }
 {
     let n = count as usize;
-    if n > states.len() {
+    if n > states.len() || n > flags.len() {
         return;
     }
-    if n > flags.len() {
-        return;
-    }
-    let mut i = 0;
-    while i < n {
+    for i in 0..n {
         flags[i] = flag(state_accepts(accepting, states[i]));
-        i += 1;
     }
 }

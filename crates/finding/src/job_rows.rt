@@ -1,349 +1,172 @@
-// Find on the tables of a job.
-ghost use Rattle.std.specs.Prelude.{◌*◌, ◌≤◌, length};
-ghost use Rattle.finding.specs.RowsFit.{RowsFit};
+// Find on the rows of a job.
+ghost use Rattle.std.specs.Prelude.{◌*◌, ◌≤◌, IfSome};
 ghost use Rattle.finding.specs.ListRows.{job_tables};
+ghost use Rattle.finding.specs.NumberIndex.{IsEmpty};
 ghost use Rattle.finding.specs.QueryTold.{QueryTold};
 ghost use Rattle.finding.specs.FoundTold.{FoundTold};
-ghost use Rattle.finding.specs.StatesPart.{Room, StatesPart};
-ghost use Rattle.finding.specs.CoreTold.{HoldsJob, UnmergedTold, CoreTold};
-ghost use Rattle.finding.specs.MergedAnswer.{FoundLent, MergedAnswer};
+ghost use Rattle.finding.specs.StatesPart.{StatesPart};
+ghost use Rattle.finding.specs.CoreTold.{Lent, UnmergedTold, CoreTold};
 
-use crate::answer::{FindAnswer, Finding, refused};
-use crate::clear::{clear_bytes, clear_numbers};
+use crate::answer::Found;
+use crate::clear::clear;
 use crate::first::first;
 use crate::flags::{accepting_standings, flags};
+use crate::images::Images;
+use crate::index::Index;
 use crate::list_images::list_images;
 use crate::merge::merge;
-use crate::standings::{Explored, standings};
-use crate::states::states;
+use crate::rows::JobRows;
+use crate::standings::Standings;
+use crate::states::States;
 use places::Places;
+use reading::Refused;
 use syntax::Refusal;
 
 // The standings of the query, whose automaton is number 0.
-fn query_standings(
-    labels: u64,
-    limit: u64,
-    follow: &[u64],
-    enter: &[u64],
-    sizes: &[u64; 17],
-    found: &mut [u64; 64],
-    moves: &mut [u8; 2048],
-) -> Explored
-    requires { (64 ≤ length follow.now) × (32 ≤ length enter.now) }
-    ensures { QueryTold follow.now enter.now sizes.now labels limit result
-        found.new moves.new }
+fn query_standings(job: JobRows<'_>, limit: u64, standings: &mut Standings) -> Option<u64>
+    requires { IsEmpty standings.old.index }
+    ensures told { let J = job.entry in QueryTold J.follow.now J.enter.now J.sizes.now J.labels limit result
+        standings.new.found standings.new.moves }
+    ensures within { IfSome result (λ count. count ≤ limit) }
 {
-    let size = sizes[0] as usize;
-    if size > 63 {
-        return Explored::Over;
-    }
-    let end = size + 1;
-    standings(&follow[..end], &enter[..32], labels, limit, found, moves)
+    let end = job.sizes[0] as usize + 1;
+    standings.explore(&job.follow[..end], &job.enter[..32], job.labels, limit)
 }
 
 // The flags and the first accepted word of n states.
 fn found_answer(
-    found: &[u64],
+    standings: &Standings,
     count: u64,
     accepting: u64,
-    explored: &[u64; 256],
+    states: &States,
     n: u64,
-    parents: &[u8; 256],
-    symbols: &[u8; 256],
     marks: &mut [u8],
-) -> FindAnswer
-    ensures { FoundTold found.now count accepting explored.now n parents.now symbols.now
+) -> Found
+    ensures { let S = states.now in FoundTold standings.now.found count accepting S.found n S.parents S.symbols
         marks.old result marks.new }
 {
-    let good = accepting_standings(found, count, Places(accepting));
-    flags(explored, n, good, marks);
-    let word = first(marks, n, parents, symbols);
-    let finding = Finding::Found(count, n);
-    FindAnswer {
-        finding,
-        first: word,
+    let good = accepting_standings(&standings.found, count, Places(accepting));
+    flags(&states.found, n, good, marks);
+    let first = first(marks, n, &states.parents, &states.symbols);
+    Found {
+        standings: count,
+        states: n,
+        first,
     }
 }
 
-// The states over the lists, from the standings and their moves; `images` has room for the images of all lists.
-fn states_in(
-    labels: u64,
-    lists: u64,
+// The states over the lists, from the standings and their moves, with room for so many images.
+fn states_with<const ROOM: usize>(
+    job: JobRows<'_>,
     limit: u64,
-    follow: &[u64],
-    enter: &[u64],
-    sizes: &[u64; 17],
-    accepting: &[u64; 17],
     count: u64,
-    found: &[u64; 64],
-    moves: &[u8; 2048],
-    images: &mut [u64],
+    standings: &Standings,
     table: &mut [u16],
     marks: &mut [u8],
-) -> FindAnswer
-    requires { (lists ≤ 16 → 64 * lists ≤ length images.old) × RowsFit lists follow.now enter.now }
-    ensures { StatesPart (job_tables moves.now count labels follow.now enter.now sizes.now
-        accepting.now) lists limit found.now table.old marks.old result
+) -> Result<Found, Refused>
+    requires enough { 64 * job.lists ≤ ROOM }
+    requires small { ROOM ≤ 1024 }
+    requires few { count ≤ 64 }
+    ensures { let J = job.entry in StatesPart (job_tables standings.now.moves count J.labels J.follow.now J.enter.now
+        J.sizes.now J.accepting.now) J.lists limit standings.now.found table.old marks.old result
         table.new marks.new }
 {
-    let stood = &found[..];
+    let mut images = [0; ROOM];
     list_images(
-        moves, count, labels, lists, follow, enter, sizes, accepting, images,
-    );
-    clear_numbers(table, 4096);
-    clear_bytes(marks, 256);
-    let mut explored = [0; 256];
-    let mut parents = [0; 256];
-    let mut symbols = [0; 256];
-    let told = states(
-        images,
+        &standings.moves,
         count,
-        lists,
-        limit,
-        &mut explored,
-        &mut parents,
-        &mut symbols,
-        table,
+        job.labels,
+        job.lists,
+        job.follow,
+        job.enter,
+        job.sizes,
+        job.accepting,
+        &mut images,
     );
-    match told {
-        Explored::All(n) => found_answer(
-            stood,
-            count,
-            accepting[0],
-            &explored,
-            n,
-            &parents,
-            &symbols,
-            marks,
-        ),
-        Explored::Over => {
-            clear_numbers(table, 4096);
-            refused(Refusal::TooManyStates, 0)
-        }
-    }
-}
-
-// The states over at most four lists.
-fn few_states(
-    labels: u64,
-    lists: u64,
-    limit: u64,
-    follow: &[u64],
-    enter: &[u64],
-    sizes: &[u64; 17],
-    accepting: &[u64; 17],
-    count: u64,
-    found: &[u64; 64],
-    moves: &[u8; 2048],
-    table: &mut [u16],
-    marks: &mut [u8],
-) -> FindAnswer
-    requires { (lists ≤ 4) × RowsFit lists follow.now enter.now }
-    ensures { StatesPart (job_tables moves.now count labels follow.now enter.now sizes.now
-        accepting.now) lists limit found.now table.old marks.old result
-        table.new marks.new }
-{
-    if lists <= 2 {
-        let mut images = [0; 128];
-        states_in(
-            labels,
-            lists,
-            limit,
-            follow,
-            enter,
-            sizes,
-            accepting,
-            count,
-            found,
-            moves,
-            &mut images,
-            table,
-            marks,
-        )
-    } else {
-        let mut images = [0; 256];
-        states_in(
-            labels,
-            lists,
-            limit,
-            follow,
-            enter,
-            sizes,
-            accepting,
-            count,
-            found,
-            moves,
-            &mut images,
-            table,
-            marks,
-        )
-    }
+    clear(table, 4096);
+    clear(marks, 256);
+    let mut states = States {
+        found: [0; 256],
+        parents: [0; 256],
+        symbols: [0; 256],
+        index: Index::new(),
+    };
+    let images = Images {
+        rows: &images,
+        standings: count as usize,
+        lists: job.lists as usize,
+    };
+    let Some(n) = states.explore(table, images, limit) else {
+        clear(table, 4096);
+        return Err(Refused::from(Refusal::TooManyStates));
+    };
+    Ok(found_answer(standings, count, job.accepting[0], &states, n, marks))
 }
 
 // The states over the lists. To zero room for sixteen lists takes longer than to find the states of a small job.
 fn find_states(
-    labels: u64,
-    lists: u64,
+    job: JobRows<'_>,
     limit: u64,
-    follow: &[u64],
-    enter: &[u64],
-    sizes: &[u64; 17],
-    accepting: &[u64; 17],
     count: u64,
-    found: &[u64; 64],
-    moves: &[u8; 2048],
+    standings: &Standings,
     table: &mut [u16],
     marks: &mut [u8],
-) -> FindAnswer
-    requires { RowsFit lists follow.now enter.now }
-    ensures { StatesPart (job_tables moves.now count labels follow.now enter.now sizes.now
-        accepting.now) lists limit found.now table.old marks.old result
+) -> Result<Found, Refused>
+    requires { count ≤ 64 }
+    ensures { let J = job.entry in StatesPart (job_tables standings.now.moves count J.labels J.follow.now J.enter.now
+        J.sizes.now J.accepting.now) J.lists limit standings.now.found table.old marks.old result
         table.new marks.new }
 {
-    if lists <= 4 {
-        few_states(
-            labels, lists, limit, follow, enter, sizes, accepting, count, found, moves, table,
-            marks,
-        )
+    if job.lists <= 2 {
+        states_with::<128>(job, limit, count, standings, table, marks)
+    } else if job.lists <= 4 {
+        states_with::<256>(job, limit, count, standings, table, marks)
     } else {
-        let mut images = [0; 1024];
-        states_in(
-            labels,
-            lists,
-            limit,
-            follow,
-            enter,
-            sizes,
-            accepting,
-            count,
-            found,
-            moves,
-            &mut images,
-            table,
-            marks,
-        )
+        states_with::<1024>(job, limit, count, standings, table, marks)
     }
 }
 
 // The rewriting before states are merged, with at most so many standings and states; there is room for 64 and 256. Where there are more,
 // the named parts of the table and of the flags are zeros.
 fn explore_rows(
-    labels: u64,
-    lists: u64,
-    follow: &[u64],
-    enter: &[u64],
-    sizes: &[u64; 17],
-    accepting: &[u64; 17],
+    job: JobRows<'_>,
     most_standings: u64,
     most_states: u64,
     table: &mut [u16],
     marks: &mut [u8],
-) -> FindAnswer
-    // The tables that reading filled have a row for the query and for each list.
-    requires rows_fit { RowsFit lists follow.now enter.now }
-    // Reading refuses more labels and lists, there is room for 256 states, and the callers lend the named parts.
-    requires room { Room labels lists most_states table.old marks.old }
-    // There is room for 64 standings.
-    requires most_standings_bound { most_standings ≤ 64 }
-    ensures { UnmergedTold follow.now enter.now sizes.now accepting.now labels lists
+) -> Result<Found, Refused>
+    requires { Lent most_standings most_states table.old marks.old }
+    ensures { let J = job.entry in UnmergedTold J.follow.now J.enter.now J.sizes.now J.accepting.now J.labels J.lists
         most_standings most_states table.old marks.old result table.new marks.new }
 {
-    let mut found = [0; 64];
-    let mut moves = [0; 2048];
-    let told = query_standings(
-        labels,
-        most_standings,
-        follow,
-        enter,
-        sizes,
-        &mut found,
-        &mut moves,
-    );
-    match told {
-        Explored::All(count) => find_states(
-            labels,
-            lists,
-            most_states,
-            follow,
-            enter,
-            sizes,
-            accepting,
-            count,
-            &found,
-            &moves,
-            table,
-            marks,
-        ),
-        Explored::Over => {
-            clear_numbers(table, 4096);
-            clear_bytes(marks, 256);
-            refused(Refusal::TooManyStandings, 0)
-        }
-    }
-}
-
-// The states of an answer are merged; a refusal stays.
-fn merge_found(told: FindAnswer, lists: u64, table: &mut [u16], marks: &mut [u8]) -> FindAnswer
-    requires { FoundLent told lists table.old marks.old }
-    ensures { MergedAnswer told lists table.old marks.old result table.new marks.new }
-{
-    let finding = told.finding;
-    let first = told.first;
-    match finding {
-        Finding::Refused(refusal, line) => {
-            let refused = Finding::Refused(refusal, line);
-            FindAnswer {
-                finding: refused,
-                first,
-            }
-        }
-        Finding::Found(count, states) => {
-            let merged = merge(table, marks, lists as usize, states as usize);
-            let found = Finding::Found(count, merged as u64);
-            FindAnswer {
-                finding: found,
-                first,
-            }
-        }
-    }
+    let mut standings = Standings {
+        found: [0; 64],
+        moves: [0; 2048],
+        index: Index::new(),
+    };
+    let Some(count) = query_standings(job, most_standings, &mut standings) else {
+        clear(table, 4096);
+        clear(marks, 256);
+        return Err(Refused::from(Refusal::TooManyStandings));
+    };
+    find_states(job, most_states, count, &standings, table, marks)
 }
 
 // Find, with at most so many standings and states; there is room for 64 and 256. Where there are more, the named parts of the table and of
 // the flags are zeros. States are counted before they are merged.
 pub fn find_rows(
-    labels: u64,
-    lists: u64,
-    follow: &[u64],
-    enter: &[u64],
-    sizes: &[u64; 17],
-    accepting: &[u64; 17],
+    job: JobRows<'_>,
     most_standings: u64,
     most_states: u64,
     table: &mut [u16],
     marks: &mut [u8],
-) -> FindAnswer
-    // The tables that reading filled have a row for the query and for each list.
-    requires rows_fit { RowsFit lists follow.now enter.now }
-    // Reading refuses more labels and lists, there is room for 256 states, and the callers lend the named parts.
-    requires room { Room labels lists most_states table.old marks.old }
-    // There is room for 64 standings.
-    requires most_standings_bound { most_standings ≤ 64 }
-    // The job in memory is what reading left there.
-    requires holds_job { HoldsJob follow.now enter.now sizes.now accepting.now labels lists }
-    ensures { CoreTold follow.now enter.now sizes.now accepting.now labels lists
+) -> Result<Found, Refused>
+    // There is room for 64 standings and 256 states, and the callers lend the named parts.
+    requires { Lent most_standings most_states table.old marks.old }
+    ensures { let J = job.entry in CoreTold J.follow.now J.enter.now J.sizes.now J.accepting.now J.labels J.lists
         most_standings most_states table.old marks.old result table.new marks.new }
 {
-    let told = explore_rows(
-        labels,
-        lists,
-        follow,
-        enter,
-        sizes,
-        accepting,
-        most_standings,
-        most_states,
-        table,
-        marks,
-    );
-    merge_found(told, lists, table, marks)
+    let found = explore_rows(job, most_standings, most_states, table, marks)?;
+    let states = merge(table, marks, job.lists as usize, found.states as usize) as u64;
+    Ok(Found { states, ..found })
 }

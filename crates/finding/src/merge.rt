@@ -6,8 +6,8 @@ ghost use Rattle.theory.specs.Minimized.{class_number};
 ghost use Rattle.finding.specs.TableLent.{RowLent, TableLent};
 ghost use Rattle.finding.specs.MergeTold.{ClassNumbers, RowPut, ClassesPut, MergeTold};
 
-use crate::clear::{clear_bytes, clear_numbers};
-use crate::refine::refine;
+use crate::clear::clear;
+use crate::level::StateTable;
 
 // The classes are numbered in the order of their first states. How many there are is returned.
 fn number_classes(classes: &[u8; 256], states: usize, numbers: &mut [u8; 256]) -> usize
@@ -15,8 +15,7 @@ fn number_classes(classes: &[u8; 256], states: usize, numbers: &mut [u8; 256]) -
     ensures { ClassNumbers classes.now states numbers.new result }
 {
     let mut count = 0;
-    let mut s = 0;
-    while s < states {
+    for s in 0..states {
         let first = classes[s] as usize;
         if first == s {
             numbers[s] = count as u8;
@@ -24,16 +23,8 @@ fn number_classes(classes: &[u8; 256], states: usize, numbers: &mut [u8; 256]) -
         } else {
             numbers[s] = numbers[first];
         }
-        s += 1;
     }
     count
-}
-
-// A number of a class as an entry of the table.
-fn entry(number: u8) -> u16
-    ensures { result ≡ number }
-{
-    number as u16
 }
 
 // The row k gets the numbers of the next states of s, which stands no earlier.
@@ -41,11 +32,9 @@ fn put_row(table: &mut [u16], lists: usize, numbers: &[u8; 256], s: usize, k: us
     requires { RowLent lists table.old s × (k ≤ s) }
     ensures { RowPut table.old lists numbers.now s k table.new }
 {
-    let mut v = 0;
-    while v < lists {
+    for v in 0..lists {
         let next = table[16 * s + v] as usize;
-        table[16 * k + v] = entry(numbers[next]);
-        v += 1;
+        table[16 * k + v] = u16::from(numbers[next]);
     }
 }
 
@@ -63,14 +52,12 @@ fn put_classes(
     ensures { ClassesPut table.old flags.old lists states classes.now
         table.new flags.new }
 {
-    let mut s = 0;
-    while s < states {
+    for s in 0..states {
         if classes[s] as usize == s {
             let k = numbers[s] as usize;
             put_row(table, lists, numbers, s, k);
             flags[k] = flags[s];
         }
-        s += 1;
     }
 }
 
@@ -81,10 +68,16 @@ pub(crate) fn merge(table: &mut [u16], flags: &mut [u8], lists: usize, states: u
 {
     let mut classes: [u8; 256] = [0; 256];
     let mut numbers: [u8; 256] = [0; 256];
-    refine(table, flags, lists, states, &mut classes);
+    let read = StateTable {
+        table,
+        flags,
+        lists,
+        states,
+    };
+    read.refine(&mut classes);
     let count = number_classes(&classes, states, &mut numbers);
     put_classes(table, flags, lists, states, &classes, &numbers);
-    clear_numbers(&mut table[16 * count..], 16 * (states - count));
-    clear_bytes(&mut flags[count..], states - count);
+    clear(&mut table[16 * count..], 16 * (states - count));
+    clear(&mut flags[count..], states - count);
     count
 }

@@ -3,10 +3,9 @@
 ghost use Rattle.std.specs.Prelude.{◌≡◌, ℕ, ◌<◌, ◌≤◌, true, ◌↔◌, length};
 ghost use Rattle.theory.specs.Leaders.{Led};
 ghost use Rattle.theory.specs.Refinement.{class_at};
-ghost use Rattle.finding.specs.TableLent.{RowLent, TableLent};
 ghost use Rattle.finding.specs.ClassesTold.{key_at, Classed, SameRows, SplitKey, SplitKeys, Refined};
 
-use crate::level::find_levels;
+use crate::level::StateTable;
 
 // The class of a state is named by the first state with its key. A first state is looked up by the key; where none is noted yet, the start
 // stands there, and its own key tells.
@@ -15,8 +14,7 @@ fn class_keys(keys: &[u16; 256], states: usize, classes: &mut [u8; 256])
     ensures { Classed keys.now states classes.new }
 {
     let mut firsts: [u8; 512] = [0; 512];
-    let mut s = 0;
-    while s < states {
+    for s in 0..states {
         let key = keys[s];
         let first = firsts[key as usize];
         if keys[first as usize] == key {
@@ -25,84 +23,66 @@ fn class_keys(keys: &[u16; 256], states: usize, classes: &mut [u8; 256])
             firsts[key as usize] = s as u8;
             classes[s] = s as u8;
         }
-        s += 1;
     }
 }
 
-// Whether two states have the same flag and next states in the same classes.
-fn alike(table: &[u16], flags: &[u8], lists: usize, classes: &[u8; 256], s: usize, t: usize) -> bool
-    requires { RowLent lists table.now s × RowLent lists table.now t × (256 ≤ length flags.now) }
-    ensures { (result ≡ true) ↔ SameRows table.now flags.now lists classes.now s t }
-{
-    if flags[s] != flags[t] {
-        return false;
-    }
-    let mut v = 0;
-    while v < lists {
-        let next = table[16 * s + v] as usize;
-        let other = table[16 * t + v] as usize;
-        if classes[next] != classes[other] {
+impl StateTable<'_> {
+    // Whether two states have the same flag and next states in the same classes.
+    fn alike(&self, classes: &[u8; 256], s: usize, t: usize) -> bool
+        requires { (s < self.now.states) × (t < self.now.states) }
+        ensures { (result ≡ true) ↔ SameRows self.now.table.now self.now.flags.now self.now.lists classes.now s t }
+    {
+        if self.flags[s] != self.flags[t] {
             return false;
         }
-        v += 1;
-    }
-    true
-}
-
-// The key of a state in a split: its class where it is like the first of it, else 256 more.
-fn split_key(table: &[u16], flags: &[u8], lists: usize, classes: &[u8; 256], s: usize) -> u16
-    requires { RowLent lists table.now s × RowLent lists table.now (class_at classes.now s) × (256 ≤ length flags.now) }
-    ensures { SplitKey table.now flags.now lists classes.now s result }
-{
-    let first = classes[s] as u16;
-    if alike(table, flags, lists, classes, first as usize, s) {
-        return first;
-    }
-    256 + first
-}
-
-// The keys of all states in a split. Whether some state leaves its class is returned.
-fn split_keys(
-    table: &[u16],
-    flags: &[u8],
-    lists: usize,
-    states: usize,
-    classes: &[u8; 256],
-    keys: &mut [u16; 256],
-) -> bool
-    requires { TableLent states lists table.now flags.now × Led states (class_at classes.now) × (length keys.old ≡ 256) }
-    ensures { SplitKeys table.now flags.now lists states classes.now keys.new result }
-{
-    let mut leaves = false;
-    let mut s = 0;
-    while s < states {
-        let key = split_key(table, flags, lists, classes, s);
-        keys[s] = key;
-        if 256 <= key {
-            leaves = true;
+        for v in 0..self.lists {
+            let next = self.table[16 * s + v] as usize;
+            let other = self.table[16 * t + v] as usize;
+            if classes[next] != classes[other] {
+                return false;
+            }
         }
-        s += 1;
+        true
     }
-    leaves
-}
 
-// The classes of states with the same continuations, from one class of all; of states whose levels are found, from those of each level.
-pub(crate) fn refine(
-    table: &[u16],
-    flags: &[u8],
-    lists: usize,
-    states: usize,
-    classes: &mut [u8; 256],
-)
-    requires { TableLent states lists table.now flags.now × ((s : ℕ) → s < states → class_at classes.old s ≡ 0)
-        × (length classes.old ≡ 256) }
-    ensures { Refined table.now flags.now lists states classes.new }
-{
-    let mut keys: [u16; 256] = [0; 256];
-    if find_levels(table, flags, lists, states, &mut keys) {
-        class_keys(&keys, states, classes);
+    // The key of a state in a split: its class where it is like the first of it, else 256 more.
+    fn split_key(&self, classes: &[u8; 256], s: usize) -> u16
+        requires { (s < self.now.states) × (class_at classes.now s < self.now.states) }
+        ensures { SplitKey self.now.table.now self.now.flags.now self.now.lists classes.now s result }
+    {
+        let first = classes[s] as u16;
+        if self.alike(classes, first as usize, s) {
+            return first;
+        }
+        256 + first
     }
-    while split_keys(table, flags, lists, states, classes, &mut keys) {
-        class_keys(&keys, states, classes);
+
+    // The keys of all states in a split. Whether some state leaves its class is returned.
+    fn split_keys(&self, classes: &[u8; 256], keys: &mut [u16; 256]) -> bool
+        requires { Led self.now.states (class_at classes.now) × (length keys.old ≡ 256) }
+        ensures { SplitKeys self.now.table.now self.now.flags.now self.now.lists self.now.states classes.now keys.new result }
+    {
+        let mut leaves = false;
+        for s in 0..self.states {
+            let key = self.split_key(classes, s);
+            keys[s] = key;
+            leaves |= 256 <= key;
+        }
+        leaves
+    }
+
+    // The classes of states with the same continuations, from one class of all; of states whose levels are found, from those of each level.
+    pub fn refine(&self, classes: &mut [u8; 256])
+        requires { ((s : ℕ) → s < self.now.states → class_at classes.old s ≡ 0) × (length classes.old ≡ 256) }
+        ensures { Refined self.now.table.now self.now.flags.now self.now.lists self.now.states classes.new }
+    {
+        let mut keys: [u16; 256] = [0; 256];
+        if self.find_levels(&mut keys) {
+            class_keys(&keys, self.states, classes);
+        }
+        // Nothing is counted: rounds go on until no state leaves its class.
+        while self.split_keys(classes, &mut keys) {
+            class_keys(&keys, self.states, classes);
+        }
     }
 }

@@ -6,13 +6,12 @@ ghost use Rattle.finding.specs.Find.{row_width};
 pub fn next_state(table: &[u16], state: u16, list: u8) -> u16
     ensures { result ≡ slice_index table.now (row_width * state + list) }
 {
-    let at = 16 * (state as usize) + (list as usize);
-    if at < table.len() { table[at] } else { 0 }
+    let at = 16 * usize::from(state) + usize::from(list);
+    table.get(at).copied().unwrap_or(0)
 }
 
 pub fn flag(flags: &[u8], state: u16) -> u8
     ensures { result ≡ slice_index flags.now state }
 {
-    let at = state as usize;
-    if at < flags.len() { flags[at] } else { 0 }
+    flags.get(usize::from(state)).copied().unwrap_or(0)
 }

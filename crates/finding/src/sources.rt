@@ -2,12 +2,31 @@
 // from which, with the list's start, the labels lead to it. The word count × place + standing holds them.
 ghost use Rattle.std.specs.Prelude.{◌≡◌, ℕ, ◌+◌, ◌*◌, ◌^◌, ◌<◌, ◌≤◌, List, length, replicate, slice_index};
 ghost use Rattle.theory.specs.Places.{Member};
-ghost use Rattle.finding.specs.ImageSearch.{tables, Fitting};
+ghost use Rattle.finding.specs.ImageSearch.{Fitting};
+ghost use Rattle.finding.specs.ListTables.{tables_of};
 ghost use Rattle.finding.specs.Sources.{sources, gain_of, gathered, Followed, Only, Moved, Labelled, Begun, Searched};
 ghost use Rattle.finding.specs.SourcesBrought.{Brought, Received};
 
-use crate::clear::clear_words;
-use crate::number::wide;
+use crate::clear::clear;
+use places::Places;
+
+// The moves of `count` standings over `labels` labels, in rows of 32, and of a list the places that follow each of its places and those
+// that each label enters.
+#[derive(Clone, Copy)]
+pub struct ListTables<'a> {
+    pub moves: &'a [u8; 2048],
+    pub count: usize,
+    pub labels: usize,
+    pub follow: &'a [u64],
+    pub enter: &'a [u64],
+}
+
+// What the search has to do: for each place the standings whose sources have not been passed on from it, and the places that have some.
+#[derive(Drop)]
+pub struct Pending {
+    pub at: [u64; 64],
+    pub waiting: u64,
+}
 
 // One where something was added.
 fn gain(old: u64, all: u64) -> u64
@@ -33,44 +52,11 @@ fn pass_on(
         → Followed count (Only p s next to) (gathered from.old pending waiting next added)
         (gathered from.new pending waiting next result) }
 {
-    let new = from[count * p + s];
-    let old = from[count * next + to];
-    let all = old | new;
-    from[count * next + to] = all;
+    let at = count * next + to;
+    let old = from[at];
+    let all = old | from[count * p + s];
+    from[at] = all;
     added | (gain(old, all) << to)
-}
-
-// The label a is followed from the place p with the standings taken, to the place next. Where some pairs gain, they are pending, and their
-// place waits; the waiting places are returned.
-fn follow_standings(
-    moves: &[u8; 2048],
-    count: usize,
-    a: usize,
-    p: usize,
-    taken: u64,
-    next: usize,
-    from: &mut [u64],
-    pending: &mut [u64; 64],
-    waiting: u64,
-) -> u64
-    requires { (count ≤ 64) × (a < 32) × (next < 64) × ((s : ℕ) → Member s taken → s < count)
-        × (count * p + count ≤ length from.old) × (count * next + count ≤ length from.old) }
-    ensures { Followed count (Moved moves.now count a p (λ s. Member s taken) (λ y. y ≡ next))
-        (sources from.old pending.old waiting) (sources from.new pending.new result) }
-{
-    let mut added: u64 = 0;
-    let mut rest = taken;
-    while rest != 0 {
-        let s = u64::trailing_zeros(rest) as usize;
-        let to = wide(moves[32 * s + a]);
-        if to < count {
-            added = pass_on(count, p, s, next, to, from, added);
-        }
-        rest = rest & (rest - 1);
-    }
-    let held = &pending[..];
-    pending[next] = held[next] | added;
-    waiting | (gain(0, added) << next)
 }
 
 // The first `count` words become zero. Sixteen are cleared at once where they suffice: to clear as many as there are takes a call.
@@ -79,186 +65,35 @@ fn clear_moved(moved: &mut [u64; 64], count: usize)
     ensures { (t : ℕ) → t < count → slice_index moved.new t ≡ 0 }
 {
     if 16 < count {
-        clear_words(moved, count);
+        clear(moved, count);
         return;
     }
-    let mut i = 0;
-    while i < 16 {
-        moved[i] = 0;
-        i += 1;
-    }
+    moved[..16].fill(0);
 }
 
 // What the label a brings from the place p with the standings taken: `moved` has for each standing that it leads to the sources of all pairs
 // that it comes from. The standings that it leads to are returned.
 fn gather(
-    moves: &[u8; 2048],
-    count: usize,
+    list: ListTables<'_>,
     a: usize,
     p: usize,
     taken: u64,
     from: &[u64],
     moved: &mut [u64; 64],
 ) -> u64
-    requires { (count ≤ 64) × (a < 32) × ((s : ℕ) → Member s taken → s < count) × (count * p + count ≤ length from.now) }
-    ensures { Brought moves.now count a p (λ s. Member s taken) from.now moved.new result }
+    requires { (list.count ≤ 64) × (a < 32) × ((s : ℕ) → Member s taken → s < list.count) × (list.count * p + list.count ≤ length from.now) }
+    ensures { Brought list.entry.moves.now list.entry.count a p (λ s. Member s taken) from.now moved.new result }
 {
-    clear_moved(moved, count);
+    clear_moved(moved, list.count);
     let mut met: u64 = 0;
-    let mut rest = taken;
-    while rest != 0 {
-        let s = u64::trailing_zeros(rest) as usize;
-        let to = wide(moves[32 * s + a]);
-        if to < count {
-            let held = &moved[..];
-            moved[to] = held[to] | from[count * p + s];
-            met = met | (1 << to);
+    for s in Places(taken).members() {
+        let to = list.moves[32 * s + a] as usize;
+        if to < list.count {
+            moved[to] |= from[list.count * p + s];
+            met |= 1 << to;
         }
-        rest = rest & (rest - 1);
     }
     met
-}
-
-// The standings that were met get the sources that `moved` has for them, with the place next. Where some pairs gain, they are pending, and
-// their place waits; the waiting places are returned.
-fn give(
-    count: usize,
-    met: u64,
-    moved: &[u64; 64],
-    next: usize,
-    from: &mut [u64],
-    pending: &mut [u64; 64],
-    waiting: u64,
-) -> u64
-    requires { (count ≤ 64) × (next < 64) × ((t : ℕ) → Member t met → t < count) × (count * next + count ≤ length from.old) }
-    ensures { Received count met moved.now next
-        (sources from.old pending.old waiting) (sources from.new pending.new result) }
-{
-    let mut added: u64 = 0;
-    let mut rest = met;
-    while rest != 0 {
-        let to = u64::trailing_zeros(rest) as usize;
-        let old = from[count * next + to];
-        let all = old | moved[to];
-        from[count * next + to] = all;
-        added = added | (gain(old, all) << to);
-        rest = rest & (rest - 1);
-    }
-    let held = &pending[..];
-    pending[next] = held[next] | added;
-    waiting | (gain(0, added) << next)
-}
-
-// The label a is followed from the place p with the standings taken, to the places that it enters, those below `places`: what it brings is
-// the same for all of them.
-fn follow_many(
-    moves: &[u8; 2048],
-    count: usize,
-    a: usize,
-    p: usize,
-    taken: u64,
-    entered: u64,
-    places: usize,
-    from: &mut [u64],
-    pending: &mut [u64; 64],
-    moved: &mut [u64; 64],
-    waiting: u64,
-) -> u64
-    requires { (count ≤ 64) × (a < 32) × (p < places) × ((s : ℕ) → Member s taken → s < count)
-        × (count * places ≤ length from.old) }
-    ensures { Followed count
-        (Moved moves.now count a p (λ s. Member s taken) (λ y. Member y entered × (y < places)))
-        (sources from.old pending.old waiting) (sources from.new pending.new result) }
-{
-    let met = gather(moves, count, a, p, taken, from, moved);
-    let mut all = waiting;
-    let mut rest = entered;
-    while rest != 0 {
-        let next = u64::trailing_zeros(rest) as usize;
-        if next < places {
-            all = give(count, met, moved, next, from, pending, all);
-        }
-        rest = rest & (rest - 1);
-    }
-    all
-}
-
-// The same. To one place alone the sources are passed on at once.
-fn follow_places(
-    moves: &[u8; 2048],
-    count: usize,
-    a: usize,
-    p: usize,
-    taken: u64,
-    entered: u64,
-    places: usize,
-    from: &mut [u64],
-    pending: &mut [u64; 64],
-    moved: &mut [u64; 64],
-    waiting: u64,
-) -> u64
-    requires { (count ≤ 64) × (a < 32) × (p < places) × ((s : ℕ) → Member s taken → s < count)
-        × (count * places ≤ length from.old) }
-    ensures { Followed count
-        (Moved moves.now count a p (λ s. Member s taken) (λ y. Member y entered × (y < places)))
-        (sources from.old pending.old waiting) (sources from.new pending.new result) }
-{
-    if entered == 0 {
-        return waiting;
-    }
-    if entered & (entered - 1) != 0 {
-        return follow_many(
-            moves, count, a, p, taken, entered, places, from, pending, moved, waiting,
-        );
-    }
-    let next = u64::trailing_zeros(entered) as usize;
-    if next < places {
-        return follow_standings(moves, count, a, p, taken, next, from, pending, waiting);
-    }
-    waiting
-}
-
-// All labels are followed from the place p with the standings taken.
-fn follow_labels(
-    moves: &[u8; 2048],
-    count: usize,
-    labels: usize,
-    follow: &[u64],
-    enter: &[u64],
-    p: usize,
-    taken: u64,
-    from: &mut [u64],
-    pending: &mut [u64; 64],
-    moved: &mut [u64; 64],
-    waiting: u64,
-) -> u64
-    requires { Fitting (tables moves.now count labels follow.now enter.now) × (p < length follow.now)
-        × ((s : ℕ) → Member s taken → s < count) × (count * length follow.now ≤ length from.old) }
-    ensures { Followed count
-        (Labelled moves.now count follow.now enter.now (length follow.now) p
-        (λ s. Member s taken) labels)
-        (sources from.old pending.old waiting) (sources from.new pending.new result) }
-{
-    let mut all = waiting;
-    let mut a = 0;
-    while a < labels {
-        let entered = follow[p] & enter[a];
-        all = follow_places(
-            moves,
-            count,
-            a,
-            p,
-            taken,
-            entered,
-            follow.len(),
-            from,
-            pending,
-            moved,
-            all,
-        );
-        a += 1;
-    }
-    all
 }
 
 // Each standing becomes a source of itself with the list's start, and no other pair below `places` has a source. The standings are
@@ -267,54 +102,172 @@ fn begin(count: usize, places: usize, from: &mut [u64]) -> u64
     requires { (count ≤ 64) × (0 < places) × (count * places ≤ length from.old) }
     ensures { Begun count count places from.new result }
 {
-    clear_words(from, count * places);
+    clear(from, count * places);
     let mut all: u64 = 0;
-    let mut i = 0;
-    while i < count {
+    for i in 0..count {
         from[i] = 1 << i;
-        all = all | (1 << i);
-        i += 1;
+        all |= 1 << i;
     }
     all
 }
 
-// The sources of all pairs: while a place waits, its labels are followed from the standings pending at it. Nothing is pending before, and
-// nothing at the end; what `moved` holds does not matter.
-pub fn find_sources(
-    moves: &[u8; 2048],
-    count: usize,
-    labels: usize,
-    follow: &[u64],
-    enter: &[u64],
-    pending: &mut [u64; 64],
-    moved: &mut [u64; 64],
-    from: &mut [u64],
-)
-    requires { Fitting (tables moves.now count labels follow.now enter.now) × (0 < length follow.now)
-        × (count * length follow.now ≤ length from.old) × (pending.old ≡ replicate 64 0) }
-    ensures searched { Searched (tables moves.now count labels follow.now enter.now)
-        (length follow.now) from.new }
-    ensures cleared { pending.new ≡ replicate 64 0 }
-{
-    pending[0] = begin(count, follow.len(), from);
-    let mut waiting: u64 = 1;
-    while waiting != 0 {
-        let p = u64::trailing_zeros(waiting) as usize;
-        let held = &pending[..];
-        let taken = held[p];
-        pending[p] = 0;
-        waiting = follow_labels(
-            moves,
-            count,
-            labels,
-            follow,
-            enter,
-            p,
-            taken,
-            from,
-            pending,
-            moved,
-            waiting & (waiting - 1),
-        );
+impl Pending {
+    // Nothing.
+    pub fn new() -> Pending
+        ensures { result.at ≡ replicate 64 0 }
+    {
+        Pending {
+            at: [0; 64],
+            waiting: 0,
+        }
+    }
+
+    // The standings added come to be pending at the place next, and where there are some, it waits.
+    fn add(&mut self, next: usize, added: u64)
+        requires { next < 64 }
+        ensures { (from : List ℕ) → sources from self.new.at self.new.waiting ≡ gathered from self.old.at self.old.waiting next added }
+    {
+        self.at[next] |= added;
+        self.waiting |= gain(0, added) << next;
+    }
+
+    // The label a is followed from the place p with the standings taken, to the place next. Pairs that gain are pending.
+    fn follow_standings(
+        &mut self,
+        list: ListTables<'_>,
+        a: usize,
+        p: usize,
+        taken: u64,
+        next: usize,
+        from: &mut [u64],
+    )
+        requires { (list.count ≤ 64) × (a < 32) × (next < 64) × ((s : ℕ) → Member s taken → s < list.count)
+            × (list.count * p + list.count ≤ length from.old) × (list.count * next + list.count ≤ length from.old) }
+        ensures { Followed list.entry.count (Moved list.entry.moves.now list.entry.count a p (λ s. Member s taken) (λ y. y ≡ next))
+            (sources from.old self.old.at self.old.waiting) (sources from.new self.new.at self.new.waiting) }
+    {
+        let mut added: u64 = 0;
+        for s in Places(taken).members() {
+            let to = list.moves[32 * s + a] as usize;
+            if to < list.count {
+                added = pass_on(list.count, p, s, next, to, from, added);
+            }
+        }
+        self.add(next, added);
+    }
+
+    // The standings that were met get the sources that `moved` has for them, with the place next. Pairs that gain are pending.
+    fn give(&mut self, count: usize, met: u64, moved: &[u64; 64], next: usize, from: &mut [u64])
+        requires { (count ≤ 64) × (next < 64) × ((t : ℕ) → Member t met → t < count) × (count * next + count ≤ length from.old) }
+        ensures { Received count met moved.now next
+            (sources from.old self.old.at self.old.waiting) (sources from.new self.new.at self.new.waiting) }
+    {
+        let mut added: u64 = 0;
+        for to in Places(met).members() {
+            let at = count * next + to;
+            let old = from[at];
+            let all = old | moved[to];
+            from[at] = all;
+            added |= gain(old, all) << to;
+        }
+        self.add(next, added);
+    }
+
+    // The label a is followed from the place p with the standings taken, to the places that it enters, those of the list: what it brings is
+    // the same for all of them.
+    fn follow_many(
+        &mut self,
+        list: ListTables<'_>,
+        a: usize,
+        p: usize,
+        taken: u64,
+        entered: u64,
+        from: &mut [u64],
+        moved: &mut [u64; 64],
+    )
+        requires { (list.count ≤ 64) × (a < 32) × (p < length list.follow.now) × ((s : ℕ) → Member s taken → s < list.count)
+            × (list.count * length list.follow.now ≤ length from.old) }
+        ensures { Followed list.entry.count
+            (Moved list.entry.moves.now list.entry.count a p (λ s. Member s taken) (λ y. Member y entered × (y < length list.entry.follow.now)))
+            (sources from.old self.old.at self.old.waiting) (sources from.new self.new.at self.new.waiting) }
+    {
+        let met = gather(list, a, p, taken, from, moved);
+        for next in Places(entered).members() {
+            if next < list.follow.len() {
+                self.give(list.count, met, moved, next, from);
+            }
+        }
+    }
+
+    // The same. To one place alone the sources are passed on at once.
+    fn follow_places(
+        &mut self,
+        list: ListTables<'_>,
+        a: usize,
+        p: usize,
+        taken: u64,
+        entered: u64,
+        from: &mut [u64],
+        moved: &mut [u64; 64],
+    )
+        requires { (list.count ≤ 64) × (a < 32) × (p < length list.follow.now) × ((s : ℕ) → Member s taken → s < list.count)
+            × (list.count * length list.follow.now ≤ length from.old) }
+        ensures { Followed list.entry.count
+            (Moved list.entry.moves.now list.entry.count a p (λ s. Member s taken) (λ y. Member y entered × (y < length list.entry.follow.now)))
+            (sources from.old self.old.at self.old.waiting) (sources from.new self.new.at self.new.waiting) }
+    {
+        if entered == 0 {
+            return;
+        }
+        if entered & (entered - 1) != 0 {
+            self.follow_many(list, a, p, taken, entered, from, moved);
+            return;
+        }
+        let next = u64::trailing_zeros(entered) as usize;
+        if next < list.follow.len() {
+            self.follow_standings(list, a, p, taken, next, from);
+        }
+    }
+
+    // All labels are followed from the place p with the standings taken.
+    fn follow_labels(
+        &mut self,
+        list: ListTables<'_>,
+        p: usize,
+        taken: u64,
+        from: &mut [u64],
+        moved: &mut [u64; 64],
+    )
+        requires { Fitting (tables_of list) × (p < length list.follow.now)
+            × ((s : ℕ) → Member s taken → s < list.count) × (list.count * length list.follow.now ≤ length from.old) }
+        ensures { Followed list.entry.count
+            (Labelled list.entry.moves.now list.entry.count list.entry.follow.now list.entry.enter.now (length list.entry.follow.now) p
+            (λ s. Member s taken) list.entry.labels)
+            (sources from.old self.old.at self.old.waiting) (sources from.new self.new.at self.new.waiting) }
+    {
+        for a in 0..list.labels {
+            let entered = list.follow[p] & list.enter[a];
+            self.follow_places(list, a, p, taken, entered, from, moved);
+        }
+    }
+
+    // The sources of all pairs: while a place waits, its labels are followed from the standings pending at it. Nothing is pending before, and
+    // nothing at the end; what `moved` holds does not matter.
+    pub fn find_sources(&mut self, list: ListTables<'_>, from: &mut [u64], moved: &mut [u64; 64])
+        requires { Fitting (tables_of list) × (0 < length list.follow.now)
+            × (list.count * length list.follow.now ≤ length from.old) × (self.old.at ≡ replicate 64 0) }
+        ensures searched { Searched (tables_of list.entry) (length list.entry.follow.now) from.new }
+        ensures cleared { self.new.at ≡ replicate 64 0 }
+    {
+        self.at[0] = begin(list.count, list.follow.len(), from);
+        self.waiting = 1;
+        // A work list: places are added while the least one is taken.
+        while self.waiting != 0 {
+            let p = u64::trailing_zeros(self.waiting) as usize;
+            self.waiting &= self.waiting - 1;
+            let taken = self.at[p];
+            self.at[p] = 0;
+            self.follow_labels(list, p, taken, from, moved);
+        }
     }
 }

@@ -1,15 +1,16 @@
--- Laws of the kept bytes: how long they are, which entries of a rewriting they depend on, and how they are put piece by piece.
-use Rattle.std.specs.Prelude.{◌≡◌, ℕ, zero, suc, ◌+◌, ◌-◌, ◌*◌, ◌%◌, ◌<◌, ◌≤◌, List, [], ◌∷◌, ◌++◌, length, drop, slice_index}
-use Rattle.std.proofs.Math.Path.{refl, ap, ap₂}
-use Rattle.std.proofs.Common.{◌∙◌, zero-add, add-one, length-append}
+-- Laws of the kept bytes: how long they are, which entries of a rewriting they depend on, and how they grow by a list, a state or a
+-- name.
+use Rattle.std.specs.Prelude.{◌≡◌, ℕ, zero, suc, ◌+◌, ◌-◌, ◌*◌, ◌%◌, ◌<◌, ◌≤◌, List, [], ◌∷◌, ◌++◌, length, get_or, take, drop, slice_index}
+use Rattle.std.proofs.Math.Path.{refl, sym, ap, ap₂}
+use Rattle.std.proofs.lemmas.List.{append-nil, take_more}
+use Rattle.std.proofs.Common.{◌∙◌, append_assoc, zero-add, add-zero, add-one, length-append}
 use native.Mathlib.Omega.{arith}
 use Rattle.syntax.specs.Byte.{Bytes}
 use Rattle.syntax.specs.Resolve.{names_at}
-use Rattle.syntax.specs.TableLaws.{name_at, names_at-next, names_at-end}
+use Rattle.syntax.specs.declared.table.Span.{Span}
 use Rattle.reading.specs.ReadFacts.{ShortNames}
 use Rattle.finding.specs.Find.{Rewriting, row_width}
 use Rattle.keeping.specs.Kept.{kept_length, two_bytes, kept_names, kept_nexts, kept_states, kept}
-use Rattle.output.specs.Put.{Writing, put, puts, puts_one, puts_first}
 use Rattle.keeping.specs.Write.{one_name, name_bytes, Agree}
 
 short-first : (n : Bytes) (t : List Bytes) → ShortNames (n ∷ t) → length n ≤ 16
@@ -76,47 +77,65 @@ pub kept-agree : (names : List Bytes) (R S : Rewriting) → R.states ≡ S.state
 unfolding kept
 kept-agree names R S e agree = rw (states-agree R S (length names) R.states agree R.states 0 (zero-add R.states), e)
 
--- The kept bytes piece by piece: what is written for a list or a state is the first of what is left from there on, and from the last one on
--- nothing is left.
-module _ (table : List ℕ) (s k v : ℕ) where
-  pub nexts-from : v < k
-      → kept_nexts table s (k - v) v ≡ two_bytes (slice_index table (row_width * s + v)) ++ kept_nexts table s (k - (v + 1)) (v + 1)
-  unfolding kept_nexts
-  nexts-from h = let e : k - v ≡ suc (k - (v + 1)) = omega arith in rw (e, kept_nexts, add-one)
+-- The kept bytes piece by piece: those of a list or a state are the first of what is left from there on.
+pub nexts-from : (table : List ℕ) (s k v : ℕ) → v < k
+    → kept_nexts table s (k - v) v ≡ two_bytes (slice_index table (row_width * s + v)) ++ kept_nexts table s (k - (v + 1)) (v + 1)
+unfolding kept_nexts
+nexts-from table s k v h = let e : k - v ≡ suc (k - (v + 1)) = omega arith in rw (e, kept_nexts, add-one)
 
-  pub puts-next : (w : Writing) {x : Writing} {n : ℕ} → v < k → n ≡ slice_index table (row_width * s + v) → x ≡ puts w (two_bytes n)
-      → puts x (kept_nexts table s (k - (v + 1)) (v + 1)) ≡ puts w (kept_nexts table s (k - v) v)
-  puts-next w h e wrote = puts_first w _ _ (nexts-from h) (wrote ∙ ap (λ (n : ℕ). puts w (two_bytes n)) e)
+pub states-from : (R : Rewriting) (k n s : ℕ) → s < n
+    → kept_states R k (n - s) s ≡ (slice_index R.flags s ∷ kept_nexts R.table s k 0) ++ kept_states R k (n - (s + 1)) (s + 1)
+unfolding kept_states
+states-from R k n s h = let e : n - s ≡ suc (n - (s + 1)) = omega arith in rw (e, kept_states, add-one)
 
-  pub nexts-end : k ≤ v → kept_nexts table s (k - v) v ≡ []
-  unfolding kept_nexts
-  nexts-end h = let e : k - v ≡ 0 = omega arith in rw e
+-- The next states for the lists from v on, with one more; and the states from s on.
+nexts-last : (table : List ℕ) (s n v : ℕ)
+    → kept_nexts table s n v ++ two_bytes (slice_index table (row_width * s + (v + n))) ≡ kept_nexts table s (suc n) v
+unfolding kept_nexts
+nexts-last table s zero v = rw (add-zero v) (sym (append-nil (two_bytes (slice_index table (row_width * s + v)))))
+nexts-last table s (suc n) v =
+    let next : Bytes = two_bytes (slice_index table (row_width * s + v)) in
+    let e : v + suc n ≡ suc v + n = omega arith in
+    append_assoc next (kept_nexts table s n (suc v)) (two_bytes (slice_index table (row_width * s + (v + suc n))))
+    ∙ ap (λ (r : Bytes). next ++ r)
+    (ap (λ (k : ℕ). kept_nexts table s n (suc v) ++ two_bytes (slice_index table (row_width * s + k))) e ∙ nexts-last table s n (suc v))
 
-module _ (R : Rewriting) (k n s : ℕ) where
-  pub states-from : s < n
-      → kept_states R k (n - s) s ≡ (slice_index R.flags s ∷ kept_nexts R.table s k 0) ++ kept_states R k (n - (s + 1)) (s + 1)
-  unfolding kept_states
-  states-from h = let e : n - s ≡ suc (n - (s + 1)) = omega arith in rw (e, kept_states, add-one)
+pub nexts-more : (table : List ℕ) (s n : ℕ)
+    → kept_nexts table s n 0 ++ two_bytes (slice_index table (row_width * s + n)) ≡ kept_nexts table s (n + 1) 0
+nexts-more table s n =
+    ap (λ (k : ℕ). kept_nexts table s n 0 ++ two_bytes (slice_index table (row_width * s + k))) (sym (zero-add n))
+    ∙ (nexts-last table s n 0 ∙ ap (λ (k : ℕ). kept_nexts table s k 0) (sym (add-one n)))
 
-  pub puts-state : (w : Writing) {x y : Writing} {b : ℕ} → s < n → b ≡ slice_index R.flags s → x ≡ put w b
-      → y ≡ puts x (kept_nexts R.table s k 0) → puts y (kept_states R k (n - (s + 1)) (s + 1)) ≡ puts w (kept_states R k (n - s) s)
-  puts-state w h e flagged wrote =
-      puts_first w _ _ (states-from h) (wrote ∙ puts_one w (slice_index R.flags s) (kept_nexts R.table s k 0) (flagged ∙ ap (put w) e))
+module _ (R : Rewriting) (k : ℕ) where
+  one-state : ℕ → Bytes
+  one-state s = slice_index R.flags s ∷ kept_nexts R.table s k 0
 
-  pub states-end : n ≤ s → kept_states R k (n - s) s ≡ []
-  unfolding kept_states
-  states-end h = let e : n - s ≡ 0 = omega arith in rw e
+  states-last : (n s : ℕ) → kept_states R k n s ++ one-state (s + n) ≡ kept_states R k (suc n) s
+  unfolding kept_states one-state
+  states-last zero s = rw (add-zero s) (sym (append-nil (slice_index R.flags s ∷ kept_nexts R.table s k 0)))
+  states-last (suc n) s =
+      let e : s + suc n ≡ suc s + n = omega arith in
+      append_assoc (one-state s) (kept_states R k n (suc s)) (one-state (s + suc n))
+      ∙ ap (λ (r : Bytes). one-state s ++ r)
+      (ap (λ (j : ℕ). kept_states R k n (suc s) ++ one-state j) e ∙ states-last n (suc s))
 
-module _ (text : Bytes) (l : List ℕ) (i : ℕ) where
-  names-from : 2 * i + 1 < length l
-      → name_bytes (names_at text (drop (2 * i) l)) ≡ one_name (name_at text l i) ++ name_bytes (names_at text (drop (2 * (i + 1)) l))
-  unfolding name_bytes
-  names-from h = ap name_bytes (names_at-next text l i h)
+  pub states-more : (n : ℕ) → kept_states R k n 0 ++ (slice_index R.flags n ∷ kept_nexts R.table n k 0) ≡ kept_states R k (n + 1) 0
+  unfolding one-state
+  states-more n =
+      ap (λ (j : ℕ). kept_states R k n 0 ++ one-state j) (sym (zero-add n))
+      ∙ (states-last n 0 ∙ ap (λ (j : ℕ). kept_states R k j 0) (sym (add-one n)))
 
-  pub puts-name : (w : Writing) {x : Writing} {n : Bytes} → 2 * i + 1 < length l → n ≡ name_at text l i → x ≡ puts w (one_name n)
-      → puts x (name_bytes (names_at text (drop (2 * (i + 1)) l))) ≡ puts w (name_bytes (names_at text (drop (2 * i) l)))
-  puts-name w h e wrote = puts_first w _ _ (names-from h) (wrote ∙ ap (λ (n : Bytes). puts w (one_name n)) e)
+-- The names at the first places of a table, with one more.
+names-last : (text : Bytes) (l : List Span) (span : Span)
+    → name_bytes (names_at text l) ++ one_name (take span.size (drop span.start text)) ≡ name_bytes (names_at text (l ++ (span ∷ [])))
+unfolding name_bytes names_at
+names-last text [] span = sym (append-nil (one_name (take span.size (drop span.start text))))
+names-last text (s ∷ l) span =
+    append_assoc (one_name (take s.size (drop s.start text))) (name_bytes (names_at text l)) (one_name (take span.size (drop span.start text)))
+    ∙ ap (λ (r : Bytes). one_name (take s.size (drop s.start text)) ++ r) (names-last text l span)
 
-  pub names-end : length l ≤ 2 * i + 1 → name_bytes (names_at text (drop (2 * i) l)) ≡ []
-  unfolding name_bytes
-  names-end h = ap name_bytes (names_at-end text l i h)
+pub names-more : (text : Bytes) (l : List Span) (i : ℕ) (d : Span) → i < length l
+    → name_bytes (names_at text (take i l)) ++ one_name (take (get_or l i d).size (drop (get_or l i d).start text))
+    ≡ name_bytes (names_at text (take (i + 1) l))
+names-more text l i d h =
+    names-last text (take i l) (get_or l i d) ∙ ap (λ (k : List Span). name_bytes (names_at text k)) (sym (take_more l i d h))

@@ -1,6 +1,7 @@
 -- What the writer of kept files promises.
 use Rattle.std.specs.Prelude.{◌≡◌, ℕ, ◌+◌, ◌-◌, ◌*◌, ◌%◌, ◌<◌, ◌≤◌, List, [], ◌∷◌, ◌++◌, length, take, drop, replicate, slice_index}
 use Rattle.std.proofs.Math.Option.{none}
+use Rattle.syntax.specs.declared.table.Span.{Span}
 use Rattle.syntax.specs.Byte.{Bytes}
 use Rattle.syntax.specs.Resolve.{names_at}
 use Rattle.reading.specs.ReadFacts.{ShortNames}
@@ -29,12 +30,10 @@ pub record Agree (R S : Rewriting) (lists states : ℕ) : Type 0 where
   pub nexts : (s v : ℕ) → s < states → v < lists → slice_index R.table (row_width * s + v) ≡ slice_index S.table (row_width * s + v)
   pub flags : (s : ℕ) → s < states → slice_index R.flags s ≡ slice_index S.flags s
 
--- The numbers of lists and states are within document 01's limits, each list has its pair in the table of names, and the output is long
--- enough.
-pub record Within (names : List ℕ) (lists states : ℕ) (out : Bytes) : Type 0 where
-  pub few : lists ≤ 16
+-- The numbers of lists and states are within document 01's limits, and the output is long enough.
+pub record Within (spans : List Span) (states : ℕ) (out : Bytes) : Type 0 where
+  pub few : length spans ≤ 16
   pub small : states ≤ 256
-  pub pairs : 2 * lists ≤ length names
   pub room : kept_length ≤ length out
 
 -- The output holds the kept bytes of a rewriting and then zeros up to the end of its named part; the length of the kept bytes is told.
@@ -43,14 +42,9 @@ pub record Keeps (names : List Bytes) (R : Rewriting) (before : Bytes) (told : �
   pub fits : length (kept names R) ≤ kept_length
   pub bytes : after ≡ kept names R ++ (replicate (kept_length - length (kept names R)) 0 ++ drop kept_length before)
 
--- The names of the first lists of a table of places in a text.
-abbrev pub list_names : Bytes → List ℕ → ℕ → List Bytes
-list_names text names lists = names_at text (take (2 * lists) names)
-
--- Within the limits and for short names, the output keeps every rewriting that the table and the flags hold; beyond the limits nothing is
--- written and 0 is told.
-pub record Writes (text : Bytes) (names : List ℕ) (lists states : ℕ) (table flags : List ℕ) (before : Bytes) (told : ℕ) (after : Bytes)
-    : Type 0 where
-  pub keeps : Within names lists states before → ShortNames (list_names text names lists) → (R : Rewriting) → R.states ≡ states
-      → Agree R (lent states table flags) lists states → Keeps (list_names text names lists) R before told after
-  pub nothing : (Within names lists states before → ⊥) → (told ≡ 0) × (after ≡ before)
+-- Within the limits and for short names, the output keeps every rewriting that the table and the flags hold, in terms of the lists whose
+-- names stand at these places; beyond the limits nothing is written and 0 is told.
+pub record Writes (text : Bytes) (spans : List Span) (states : ℕ) (table flags : List ℕ) (before : Bytes) (told : ℕ) (after : Bytes) : Type 0 where
+  pub keeps : Within spans states before → ShortNames (names_at text spans) → (R : Rewriting) → R.states ≡ states
+      → Agree R (lent states table flags) (length spans) states → Keeps (names_at text spans) R before told after
+  pub nothing : (Within spans states before → ⊥) → (told ≡ 0) × (after ≡ before)

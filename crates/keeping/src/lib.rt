@@ -7,4 +7,4 @@ mod put;
 mod states;
 mod writer;
 
-pub use operation::{KeepAnswer, keep};
+pub use operation::keep;

@@ -1,14 +1,12 @@
 // Numbers put into a lent buffer, high byte first.
-ghost use Rattle.std.specs.Prelude.{◌≡◌};
-ghost use Rattle.output.specs.Put.{writing, puts};
+ghost use Rattle.output.specs.Writer.{Puts};
 ghost use Rattle.keeping.specs.Kept.{two_bytes};
 
-use output::put::put;
+use output::Writer;
 
 // A number of 16 bits.
-pub fn put16(out: &mut [u8], at: usize, n: u16) -> usize
-    ensures { writing out.new result ≡ puts (writing out.old at) (two_bytes n) }
+pub fn put16(w: &mut Writer<'_>, n: u16)
+    ensures { Puts w.old (two_bytes n) w.new }
 {
-    let next = put(out, at, (n / 256) as u8);
-    put(out, next, (n % 256) as u8)
+    w.put_part(&n.to_be_bytes());
 }

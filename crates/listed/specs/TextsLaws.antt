@@ -1,45 +1,33 @@
 -- Why what is put is a listed text.
-use Rattle.std.specs.Prelude.{ℕ, zero, suc, ◌-◌, ◌≤◌, ◌<◌, List, [], ◌∷◌, ◌++◌, ◌≡◌, refl, length}
-use Rattle.std.proofs.Common.{sym, ap, ◌∙◌, arith}
+use Rattle.std.specs.Prelude.{ℕ, zero, suc, ◌+◌, ◌-◌, ◌≤◌, ◌<◌, List, [], ◌∷◌, ◌++◌, ◌≡◌, refl, length}
+use Rattle.std.proofs.Common.{sym, ap, ◌∙◌, append_assoc, add-one, arith}
+use Rattle.std.proofs.lemmas.List.{append-nil}
 use Rattle.syntax.specs.Byte.{Bytes}
-use Rattle.output.specs.Put.{Writing, puts, puts_then}
-use Rattle.listed.specs.declared.texts.Listed.{Listed}
 use Rattle.listed.specs.Cases.{Case, p7, cases}
-use Rattle.listed.specs.Texts.{text_at, proved_text, repeated, letter, dot_letter, sequence_of, sequence_text, optional_text, text_of}
+use Rattle.listed.specs.Texts.{text_at, proved_text, repeated, letter, dot_letter, sequence_of, sequence_text, optional_text}
 
--- Three writings, one after the other.
-pub puts-three : (w : Writing) {a b c : Writing} (x y z : Bytes) → a ≡ puts w x → b ≡ puts a y → c ≡ puts b z → c ≡ puts w (x ++ (y ++ z))
-puts-three w {a} x y z e f g = puts_then w x (y ++ z) e (puts_then a y z f g)
-
--- The bytes once, and the rest of the times.
-pub puts-repeated : (w : Writing) {v : Writing} (n : ℕ) (s : Bytes) → 0 < n → v ≡ puts w s
-    → puts v (repeated (n - 1) s) ≡ puts w (repeated n s)
+-- The bytes once more.
+repeated-suc : (n : ℕ) (s : Bytes) → repeated n s ++ s ≡ repeated (suc n) s
 unfolding repeated
-puts-repeated w zero s h e = absurd (omega arith)
-puts-repeated w {v} (suc n) s h e =
-    let f : suc n - 1 ≡ n = omega arith in
-    ap (λ (k : ℕ). puts v (repeated k s)) f ∙ puts_then w s (repeated n s) e refl
+repeated-suc zero s = sym (append-nil s)
+repeated-suc (suc n) s = append_assoc s (repeated n s) s ∙ ap (λ (t : Bytes). s ++ t) (repeated-suc n s)
 
-pub none-repeated : (n : ℕ) (s : Bytes) → n ≡ 0 → repeated n s ≡ []
-unfolding repeated
-none-repeated n s e = ap (λ (k : ℕ). repeated k s) e
+pub repeated-more : (n : ℕ) (s : Bytes) → repeated n s ++ s ≡ repeated (n + 1) s
+repeated-more n s = rw add-one (repeated-suc n s)
 
 -- No a is no byte, and others are an `a` and the rest with dots.
-pub puts-no-letter : (w : Writing) (n : ℕ) → n ≡ 0 → w ≡ puts w (sequence_of n)
-unfolding sequence_of puts
-puts-no-letter w n e = ap (λ (k : ℕ). puts w (sequence_of k)) (sym e)
-
-pub puts-letters : (w : Writing) {v u : Writing} (n : ℕ) → 0 < n → v ≡ puts w letter → u ≡ puts v (repeated (n - 1) dot_letter)
-    → u ≡ puts w (sequence_of n)
+pub no-letter : (n : ℕ) → n ≡ 0 → [] ≡ sequence_of n
 unfolding sequence_of
-puts-letters w zero h e f = absurd (omega arith)
-puts-letters w {v} (suc n) h e f =
-    let g : suc n - 1 ≡ n = omega arith in
-    puts_then w letter (repeated n dot_letter) e (f ∙ ap (λ (k : ℕ). puts v (repeated k dot_letter)) g)
+no-letter n e = ap sequence_of (sym e)
+
+pub letters : (n : ℕ) → 0 < n → letter ++ repeated (n - 1) dot_letter ≡ sequence_of n
+unfolding sequence_of
+letters zero h = absurd (omega arith)
+letters (suc n) h = let e : suc n - 1 ≡ n = omega arith in rw e
 
 -- The text of a number.
-pub puts-proved : (w : Writing) {v : Writing} (n k : ℕ) → n ≡ k → v ≡ puts w (proved_text k) → v ≡ puts w (proved_text n)
-puts-proved w n k e wrote = wrote ∙ ap (λ (m : ℕ). puts w (proved_text m)) (sym e)
+pub same-text : (n k : ℕ) → n ≡ k → proved_text k ≡ proved_text n
+same-text n k e = ap proved_text (sym e)
 
 -- Numbers beside 1 to 8 have none.
 text-beyond : (l : List Case) (n : ℕ) → length l ≤ n → text_at l n ≡ []
@@ -47,14 +35,10 @@ text-beyond [] n h = refl
 text-beyond (c ∷ l) zero h = absurd (omega arith)
 text-beyond (c ∷ l) (suc n) h = text-beyond l n (omega arith)
 
-pub puts-no-text : (w : Writing) (n : ℕ) → (0 < n → 8 < n) → w ≡ puts w (proved_text n)
-unfolding proved_text puts
-puts-no-text w zero h = refl
-puts-no-text w (suc n) h = ap (puts w) (sym (text-beyond cases n (omega (arith, h (omega arith)))))
-
--- What is put by a case's kind is the text of the case.
-pub puts-listed : (w : Writing) {v : Writing} (c d : Listed) → c ≡ d → v ≡ puts w (text_of d) → v ≡ puts w (text_of c)
-puts-listed w c d e wrote = wrote ∙ ap (λ (x : Listed). puts w (text_of x)) (sym e)
+pub no-text : (n : ℕ) → (0 < n → 8 < n) → [] ≡ proved_text n
+unfolding proved_text
+no-text zero h = refl
+no-text (suc n) h = sym (text-beyond cases n (omega (arith, h (omega arith))))
 
 -- P7 is one of the texts with the lists `a` and `a?`.
 pub optional-p7 : optional_text 3 ≡ p7

@@ -1,43 +1,42 @@
 // The texts of the cases at a limit.
-ghost use Rattle.std.specs.Prelude.{◌≡◌};
-ghost use Rattle.output.specs.Put.{writing, puts};
+ghost use Rattle.output.specs.Writer.{Puts};
 ghost use Rattle.listed.specs.Texts.{sequence_text, followed_text, optional_text, joined_text};
 
 use crate::sequence::{put_repeated, put_sequence};
-use output::put::put_part;
+use output::Writer;
 
 // So many a's in sequence, and no list.
-pub fn put_sequence_text(out: &mut [u8], count: u64) -> usize
-    ensures { writing out.new result ≡ puts (writing out.old 0) (sequence_text count) }
+pub fn put_sequence_text(w: &mut Writer<'_>, count: u64)
+    ensures { Puts w.old (sequence_text count) w.new }
 {
-    let asked = put_part(out, 0, b"label a\nquery ");
-    let joined = put_sequence(out, asked, count);
-    put_part(out, joined, b"\n")
+    w.put_part(b"label a\nquery ");
+    put_sequence(w, count);
+    w.put(b'\n');
 }
 
 // `(a|b)*.a` followed by so many `.(a|b)`, and no list.
-pub fn put_followed_text(out: &mut [u8], count: u64) -> usize
-    ensures { writing out.new result ≡ puts (writing out.old 0) (followed_text count) }
+pub fn put_followed_text(w: &mut Writer<'_>, count: u64)
+    ensures { Puts w.old (followed_text count) w.new }
 {
-    let asked = put_part(out, 0, b"label a\nlabel b\nquery (a|b)*.a");
-    let followed = put_repeated(out, asked, count, b".(a|b)");
-    put_part(out, followed, b"\n")
+    w.put_part(b"label a\nlabel b\nquery (a|b)*.a");
+    put_repeated(w, count, b".(a|b)");
+    w.put(b'\n');
 }
 
 // So many a's, lists `a` and `a?`.
-pub fn put_optional_text(out: &mut [u8], count: u64) -> usize
-    ensures { writing out.new result ≡ puts (writing out.old 0) (optional_text count) }
+pub fn put_optional_text(w: &mut Writer<'_>, count: u64)
+    ensures { Puts w.old (optional_text count) w.new }
 {
-    let asked = put_sequence_text(out, count);
-    put_part(out, asked, b"list l a\nlist m a?\n")
+    put_sequence_text(w, count);
+    w.put_part(b"list l a\nlist m a?\n");
 }
 
 // So many a's, lists `a` and so many a's.
-pub fn put_joined_text(out: &mut [u8], count: u64, listed: u64) -> usize
-    ensures { writing out.new result ≡ puts (writing out.old 0) (joined_text count listed) }
+pub fn put_joined_text(w: &mut Writer<'_>, count: u64, listed: u64)
+    ensures { Puts w.old (joined_text count listed) w.new }
 {
-    let asked = put_sequence_text(out, count);
-    let named = put_part(out, asked, b"list l a\nlist m ");
-    let joined = put_sequence(out, named, listed);
-    put_part(out, joined, b"\n")
+    put_sequence_text(w, count);
+    w.put_part(b"list l a\nlist m ");
+    put_sequence(w, listed);
+    w.put(b'\n');
 }

@@ -1,30 +1,24 @@
 // Expressions of a's in sequence.
-ghost use Rattle.std.specs.Prelude.{◌≡◌};
-ghost use Rattle.output.specs.Put.{writing, puts};
+ghost use Rattle.output.specs.Writer.{Puts};
 ghost use Rattle.listed.specs.Texts.{repeated, sequence_of};
 
-use output::put::put_part;
+use output::Writer;
 
 // The same bytes so many times.
-pub fn put_repeated(out: &mut [u8], at: usize, count: u64, bytes: &[u8]) -> usize
-    ensures { writing out.new result ≡ puts (writing out.old at) (repeated count bytes.now) }
+pub fn put_repeated(w: &mut Writer<'_>, count: u64, bytes: &[u8])
+    ensures { Puts w.old (repeated count bytes.now) w.new }
 {
-    let mut next = at;
-    let mut left = count;
-    while 0 < left {
-        next = put_part(out, next, bytes);
-        left -= 1;
+    for _ in 0..count {
+        w.put_part(bytes);
     }
-    next
 }
 
 // So many a's in sequence.
-pub fn put_sequence(out: &mut [u8], at: usize, count: u64) -> usize
-    ensures { writing out.new result ≡ puts (writing out.old at) (sequence_of count) }
+pub fn put_sequence(w: &mut Writer<'_>, count: u64)
+    ensures { Puts w.old (sequence_of count) w.new }
 {
-    if count == 0 {
-        return at;
+    if 0 < count {
+        w.put_part(b"a");
+        put_repeated(w, count - 1, b".a");
     }
-    let next = put_part(out, at, b"a");
-    put_repeated(out, next, count - 1, b".a")
 }

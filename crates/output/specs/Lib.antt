@@ -1,3 +1,5 @@
 pub mod Put
+pub mod Writer
+pub mod Within
 pub mod Decimal
 pub mod DecimalLaws

@@ -1,5 +1,7 @@
 // Bytes and numbers put into lent buffers.
 #![tactic(auto)]
 
-pub mod number;
-pub mod put;
+mod number;
+mod writer;
+
+pub use writer::Writer;

@@ -6,3 +6,4 @@ pub mod NextPlace
 pub mod LeastPlace
 pub mod Followed
 pub mod Joined
+pub mod MembersTold

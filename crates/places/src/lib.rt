@@ -3,13 +3,16 @@
 #![tactic(auto)]
 
 pub mod joined;
+pub mod members;
 pub mod wide;
 pub mod words;
 
 ghost use Rattle.std.specs.Prelude.{◌≡◌, ltb, ◌&&◌};
 ghost use Rattle.theory.specs.Places.{member, one, union, intersection, when};
 
-#[derive(Clone, Copy)]
+use members::Members;
+
+#[derive(Clone, Copy, Debug, PartialEq, Eq)]
 pub struct Places(pub u64);
 
 impl Places {
@@ -38,6 +41,13 @@ impl Places {
         ensures { result.0 ≡ intersection self.0 other.0 }
     {
         Places(self.0 & other.0)
+    }
+
+    // The places of the set, from the least.
+    pub fn members(self) -> Members
+        ensures { result.rest ≡ self.0 }
+    {
+        Members { rest: self.0 }
     }
 
     // Whether the place is in the set.

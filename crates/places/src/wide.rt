@@ -5,7 +5,7 @@ ghost use Rattle.places.specs.Words.{number_of, Without};
 
 use crate::words::add_shifted;
 
-#[derive(Clone, Copy)]
+#[derive(Clone, Copy, Debug, PartialEq, Eq)]
 pub struct Wide {
     pub words: [u64; 16],
 }
@@ -35,10 +35,8 @@ impl Wide {
     {
         let mut words = self.words;
         let others = other.words;
-        let mut i = 0;
-        while i < 16 {
-            words[i] = words[i] ^ (words[i] & others[i]);
-            i += 1;
+        for i in 0..16 {
+            words[i] ^= words[i] & others[i];
         }
         Wide { words }
     }
@@ -49,12 +47,10 @@ impl Wide {
     {
         let words = self.words;
         let others = other.words;
-        let mut i = 0;
-        while i < 16 {
+        for i in 0..16 {
             if words[i] & others[i] != 0 {
                 return true;
             }
-            i += 1;
         }
         false
     }
@@ -63,15 +59,6 @@ impl Wide {
     pub fn same(self, other: Wide) -> bool
         ensures { result ≡ eqb (number_of self.words) (number_of other.words) }
     {
-        let words = self.words;
-        let others = other.words;
-        let mut i = 0;
-        while i < 16 {
-            if words[i] != others[i] {
-                return false;
-            }
-            i += 1;
-        }
-        true
+        self == other
     }
 }

@@ -10,7 +10,7 @@ fn add_word(words: &mut [u64], index: usize, word: u64)
     ensures { number_of words.new ≡ union (number_of words.old) ((word * 2 ^ (64 * index)) % 2 ^ 1024) }
 {
     if index < 16 {
-        words[index] = words[index] | word;
+        words[index] |= word;
     }
 }
 
@@ -37,6 +37,7 @@ pub fn next_place(words: &[u64], from: u64) -> u64
     }
     let mut index = (from / 64) as usize;
     let mut word = (words[index] >> (from % 64)) << (from % 64);
+    // The first word is cut and the others are not: a `for` would need the answer written twice.
     while word == 0 {
         index += 1;
         if index == 16 {

@@ -3,25 +3,25 @@
 use Prim.Native.Nat.{ℕ, zero, suc, ◌+◌, ◌*◌, ◌-◌, ◌≤◌}
 use mathlib.Core.List.{List, [], ◌∷◌, ◌++◌}
 use Rattle.std.proofs.Math.Option.{Option}
-use Rattle.std.specs.Prelude.{◌≡◌, length, get_or}
+use Rattle.std.specs.Prelude.{◌≡◌, length, get_or, Result, Ok, Err}
 use Rattle.std.proofs.Math.Path.{refl, sym, ap, ap₂}
 use Rattle.std.proofs.Common.{◌∙◌, arith, length-take, length-drop}
 use Rattle.std.proofs.Math.ListN.{take, drop}
 use Rattle.std.proofs.Math.Seq.{take-length}
 use Rattle.theory.specs.Word.{Word}
 use Rattle.syntax.specs.declared.refusal.Refusal.{Refusal}
+use Rattle.syntax.specs.declared.table.Span.{Span}
 use Rattle.syntax.specs.Byte.{Bytes}
 use Rattle.syntax.specs.Resolve.{names_at}
 use Rattle.reading.specs.Text.{space, query_word, line}
 use Rattle.reading.specs.JobText.{NamedJob, job_of}
 use Rattle.reading.specs.Read.{job, read}
 use Rattle.reading.specs.Tables.{lists_from}
-use Rattle.finding.specs.declared.answer.FindAnswer.{FindAnswer}
-use Rattle.finding.specs.declared.answer.Finding.TheVariants.{Found as Told, Refused as Unfound}
-use Rattle.finding.specs.declared.first.FirstWord.{FirstWord}
-use Rattle.finding.specs.WordTold.{word_of, word-told}
+use Rattle.reading.specs.declared.answer.Refused.{Refused}
+use Rattle.finding.specs.declared.answer.Found.{Found as Told}
+use Rattle.finding.specs.WordTold.{first_word, word_of, word-told}
 use Rattle.finding.specs.Find.{Rewriting, Found, found, find, row_width, refused as unfound}
-use Rattle.finding.specs.Outcome.{left, find_reply, told, left_by}
+use Rattle.finding.specs.Outcome.{left, find_reply, first_told, told, refused_with, found_answer, left_by}
 use Rattle.finding.specs.FoundSizes.{job-sizes}
 use Rattle.finding.specs.WrittenLaws.{written_read}
 use Rattle.finding.specs.Operation.{outcome, left_by_reading, long-buffers}
@@ -55,19 +55,19 @@ module _ (table table' flags flags' : List ℕ) (t : (i : ℕ) → get_or table 
   rows_same k (suc n) s = ap₂ (λ (a b : Bytes). a ++ b) (row_same k s) (rows_same k n (suc s))
 
 -- The lines depend on the counts, the rows and the word.
-same_lines : (names : List Bytes) (m n : ℕ) (table flags : List ℕ) (f : FirstWord) (R : Rewriting) → m ≡ R.standings → n ≡ R.states
-    → ((i : ℕ) → get_or table i 0 ≡ get_or R.table i 0) → ((i : ℕ) → get_or flags i 0 ≡ get_or R.flags i 0) → word_of f ≡ R.first
-    → rewriting_lines names (rewriting_told m n table flags f) ≡ rewriting_lines names R
+same_lines : (names : List Bytes) (f : Told) (table flags : List ℕ) (R : Rewriting) → f.standings ≡ R.standings → f.states ≡ R.states
+    → ((i : ℕ) → get_or table i 0 ≡ get_or R.table i 0) → ((i : ℕ) → get_or flags i 0 ≡ get_or R.flags i 0) → word_of f.first ≡ R.first
+    → rewriting_lines names (rewriting_told f table flags) ≡ rewriting_lines names R
 unfolding rewriting_lines
-same_lines names m n table flags f R i s t g word =
+same_lines names f table flags R i s t g word =
     ap₂ (λ (x y : ℕ). count_line query_word x
-    ++ (count_line states_word y ++ (rows table flags (length names) y 0 ++ first_line names (word_of f)))) i s
+    ++ (count_line states_word y ++ (rows table flags (length names) y 0 ++ first_line names (word_of f.first)))) i s
     ∙ ap₂ (λ (r : Bytes) (o : Option Word). count_line query_word R.standings ++ (count_line states_word R.states ++ (r ++ first_line names o)))
     (rows_same table R.table flags R.flags t g (length names) R.states 0) word
 
-module _ (text : Bytes) (table flags : List ℕ) (wide : length table ≡ 4096) (long : length flags ≡ 256) (a : FindAnswer)
-    (table' flags' : List ℕ) (left-told : told (left a table' flags') ≡ outcome text table flags) (names : List ℕ)
-    (places : length names ≡ 96) (labels lists allowance : ℕ) (w v : Writing) where
+module _ (text : Bytes) (table flags : List ℕ) (wide : length table ≡ 4096) (long : length flags ≡ 256) (a : Result Told Refused)
+    (table' flags' : List ℕ) (left-told : told (left a table' flags') ≡ outcome text table flags) (names : List Span)
+    (places : length names ≡ 48) (labels lists allowance : ℕ) (w v : Writing) where
   -- What Find leaves for a job.
   job-left : (J : NamedJob) → read text ≡ job J → told (left a table' flags') ≡ told (left_by (find (job_of J)) table flags)
   unfolding left_by_reading
@@ -79,8 +79,8 @@ module _ (text : Bytes) (table flags : List ℕ) (wide : length table ≡ 4096) 
   printed-job J e = ap (printed_reading allowance) e
 
   -- By what Find gives for the job.
-  of-finding : ((J : NamedJob) → read text ≡ job J → names_at text (take (2 * labels) names) ≡ J.labels
-      → names_at text (take (2 * lists) (drop lists_from names)) ≡ J.list_names
+  of-finding : ((J : NamedJob) → read text ≡ job J → names_at text (take labels names) ≡ J.labels
+      → names_at text (take lists (drop lists_from names)) ≡ J.list_names
       → (x : Found) → find (job_of J) ≡ x → told (left a table' flags') ≡ told (left_by x table flags)
       → v ≡ puts w (printed_found allowance J x))
       → JobPut text names labels lists allowance w v
@@ -89,61 +89,62 @@ module _ (text : Bytes) (table flags : List ℕ) (wide : length table ≡ 4096) 
         told = λ J e n k. h J e n k (find (job_of J)) refl (job-left J e) ∙ ap (puts w) (sym (printed-job J e));
       }
 
-  pub unfound-put : (r : Refusal) (m : ℕ) → a.finding ≡ Unfound r m → v ≡ puts w (refusal_line r m)
+  pub unfound-put : (r : Refused) → a ≡ Err r → v ≡ puts w (refusal_line r.refusal r.line)
       → JobPut text names labels lists allowance w v
   unfolding left_by printed_found
-  unfound-put r m e wrote = of-finding there
+  unfound-put r e wrote = of-finding there
     where
-      there : (J : NamedJob) → read text ≡ job J → names_at text (take (2 * labels) names) ≡ J.labels
-          → names_at text (take (2 * lists) (drop lists_from names)) ≡ J.list_names
+      there : (J : NamedJob) → read text ≡ job J → names_at text (take labels names) ≡ J.labels
+          → names_at text (take lists (drop lists_from names)) ≡ J.list_names
           → (x : Found) → find (job_of J) ≡ x → told (left a table' flags') ≡ told (left_by x table flags)
           → v ≡ puts w (printed_found allowance J x)
       there J p n k (found R) q b =
-          let c : find_reply (Unfound r m) ≡ find_reply (Told R.standings R.states) = sym (ap find_reply e) ∙ ap (λ o. o.reply) b in
+          let c : find_reply (Err r) ≡ find_reply (found_answer R) = sym (ap find_reply e) ∙ ap (λ o. o.reply) b in
           let d : [] ≡ R.standings ∷ (R.states ∷ []) = ap (λ y. y.values) c in
           clash (cc)
       there J p n k (unfound s) q b =
-          let c : find_reply (Unfound r m) ≡ find_reply (Unfound s 0) = sym (ap find_reply e) ∙ ap (λ o. o.reply) b in
-          wrote ∙ ap (puts w) (same-refusal r s (ap (λ y. y.number) c) (ap (λ y. y.line) c))
+          let c : find_reply (Err r) ≡ find_reply (refused_with s 0) = sym (ap find_reply e) ∙ ap (λ o. o.reply) b in
+          wrote ∙ ap (puts w) (same-refusal r.refusal s (ap (λ y. y.number) c) (ap (λ y. y.line) c))
 
   -- The lines of the rewriting, and those of the verdict behind them.
-  pub found-put : (m n : ℕ) {u : Writing} (listed labelled : List ℕ) → a.finding ≡ Told m n
-      → listed ≡ take (2 * lists) (take (length names - lists_from) (drop lists_from names)) → labelled ≡ take (2 * labels) names
-      → (length listed ≤ 32 → n ≤ 256 → u ≡ puts w (rewriting_lines (names_at text listed) (rewriting_told m n table' flags' a.first)))
+  pub found-put : (f : Told) {u : Writing} (listed labelled : List Span) → a ≡ Ok f
+      → listed ≡ take lists (take (length names - lists_from) (drop lists_from names)) → labelled ≡ take labels names
+      → (length listed ≤ 16 → f.states ≤ 256 → u ≡ puts w (rewriting_lines (names_at text listed) (rewriting_told f table' flags')))
       → VerdictPut text labelled allowance u v → JobPut text names labels lists allowance w v
   unfolding left_by printed_found rewriting_lines
-  found-put m n {u} listed labelled e l k wrote judged = of-finding there
+  found-put t {u} listed labelled e l k wrote judged = of-finding there
     where
       rest : take (length names - lists_from) (drop lists_from names) ≡ drop lists_from names
       rest = ap (λ i. take i (drop lists_from names)) (sym (length-drop lists_from names)) ∙ take-length (drop lists_from names)
 
-      few : length listed ≤ 32
+      few : length listed ≤ 16
       few =
           omega (
             arith,
-            ap length (l ∙ ap (take (2 * lists)) rest),
-            length-take (2 * lists) (drop lists_from names),
+            ap length (l ∙ ap (take lists) rest),
+            length-take lists (drop lists_from names),
             length-drop lists_from names,
           )
 
-      there : (J : NamedJob) → read text ≡ job J → names_at text (take (2 * labels) names) ≡ J.labels
-          → names_at text (take (2 * lists) (drop lists_from names)) ≡ J.list_names
+      there : (J : NamedJob) → read text ≡ job J → names_at text (take labels names) ≡ J.labels
+          → names_at text (take lists (drop lists_from names)) ≡ J.list_names
           → (x : Found) → find (job_of J) ≡ x → told (left a table' flags') ≡ told (left_by x table flags)
           → v ≡ puts w (printed_found allowance J x)
       there J p f g (unfound r) q b =
-          let c : find_reply (Told m n) ≡ find_reply (Unfound r 0) = sym (ap find_reply e) ∙ ap (λ o. o.reply) b in
-          let d : m ∷ (n ∷ []) ≡ [] = ap (λ y. y.values) c in
+          let c : find_reply (Ok t) ≡ find_reply (refused_with r 0) = sym (ap find_reply e) ∙ ap (λ o. o.reply) b in
+          let d : t.standings ∷ (t.states ∷ []) ≡ [] = ap (λ y. y.values) c in
           clash (cc)
       there J p f g (found R) q b =
-          let c : find_reply (Told m n) ≡ find_reply (Told R.standings R.states) = sym (ap find_reply e) ∙ ap (λ o. o.reply) b in
-          let d : m ∷ (n ∷ []) ≡ R.standings ∷ (R.states ∷ []) = ap (λ y. y.values) c in
-          let i : m ≡ R.standings = cc in
-          let s : n ≡ R.states = cc in
-          let N : names_at text listed ≡ J.list_names = ap (names_at text) (l ∙ ap (take (2 * lists)) rest) ∙ g in
+          let c : find_reply (Ok t) ≡ find_reply (found_answer R) = sym (ap find_reply e) ∙ ap (λ o. o.reply) b in
+          let d : t.standings ∷ (t.states ∷ []) ≡ R.standings ∷ (R.states ∷ []) = ap (λ y. y.values) c in
+          let i : t.standings ≡ R.standings = cc in
+          let s : t.states ≡ R.states = cc in
+          let N : names_at text listed ≡ J.list_names = ap (names_at text) (l ∙ ap (take lists) rest) ∙ g in
           let lines = wrote few (omega (arith, (job-sizes (job_of J) R q).few-states)) in
-          let word : word_of a.first ≡ R.first = ap (λ o. word_of o.first) b ∙ word-told R.first in
-          let whole = ap (λ M. rewriting_lines M (rewriting_told m n table' flags' a.first)) N
-          ∙ same_lines J.list_names m n table' flags' a.first R i s
+          let first : first_told (Ok t) ≡ first_word R.first = ap first_told (sym e) ∙ ap (λ o. o.first) b in
+          let word : word_of t.first ≡ R.first = ap word_of first ∙ word-told R.first in
+          let whole = ap (λ M. rewriting_lines M (rewriting_told t table' flags')) N
+          ∙ same_lines J.list_names t table' flags' R i s
           (λ j. ap (λ o. get_or o.table j 0) b ∙ written_read 4096 R.table table j wide)
           (λ j. ap (λ o. get_or o.flags j 0) b ∙ written_read 256 R.flags flags j long) word in
           puts_then w (rewriting_lines J.list_names R) (verdict_lines J.labels (judged_at allowance (job_of J)))

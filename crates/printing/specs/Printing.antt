@@ -1,5 +1,6 @@
 -- What the code promises of what it puts.
 use Rattle.std.specs.Prelude.{ℕ, ◌*◌, ◌≤◌, List, ◌++◌, ◌≡◌, length, take, drop}
+use Rattle.syntax.specs.declared.table.Span.{Span}
 use Rattle.syntax.specs.Byte.{Bytes}
 use Rattle.syntax.specs.Resolve.{names_at}
 use Rattle.reading.specs.JobText.{NamedJob, job_of}
@@ -14,14 +15,14 @@ pub record Room (allowance : ℕ) (path workspace : List ℕ) : Type 0 where
   pub words : allowance ≤ 4096 → 18 * allowance ≤ length workspace
 
 -- The lines of the verdict are put, where the table of names is that of the job's labels.
-pub record VerdictPut (text : Bytes) (names : List ℕ) (allowance : ℕ) (w v : Writing) : Type 0 where
+pub record VerdictPut (text : Bytes) (names : List Span) (allowance : ℕ) (w v : Writing) : Type 0 where
   pub told : (J : NamedJob) → read text ≡ job J → names_at text names ≡ J.labels
       → v ≡ puts w (verdict_lines J.labels (judged_at allowance (job_of J)))
 
 -- All is put, where the tables of names are those of the job.
-pub record JobPut (text : Bytes) (names : List ℕ) (labels lists allowance : ℕ) (w v : Writing) : Type 0 where
-  pub told : (J : NamedJob) → read text ≡ job J → names_at text (take (2 * labels) names) ≡ J.labels
-      → names_at text (take (2 * lists) (drop lists_from names)) ≡ J.list_names → v ≡ puts w (printed_at allowance text)
+pub record JobPut (text : Bytes) (names : List Span) (labels lists allowance : ℕ) (w v : Writing) : Type 0 where
+  pub told : (J : NamedJob) → read text ≡ job J → names_at text (take labels names) ≡ J.labels
+      → names_at text (take lists (drop lists_from names)) ≡ J.list_names → v ≡ puts w (printed_at allowance text)
 
 -- The first bytes of a lent buffer are what is printed, and the others are as they were lent; the length of what is printed is told.
 pub record PrintsAt (allowance : ℕ) (text before : Bytes) (r : ℕ) (after : Bytes) : Type 0 where

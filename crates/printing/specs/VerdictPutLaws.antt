@@ -1,5 +1,5 @@
 -- Why the lines that are put for what Verdict tells are those of the verdict.
-use Rattle.std.specs.Prelude.{ℕ, ◌*◌, ◌-◌, ◌≤◌, Bool, ◌&&◌, ◌≡◌, leb, drop, replicate}
+use Rattle.std.specs.Prelude.{ℕ, ◌*◌, ◌-◌, ◌≤◌, Bool, ◌&&◌, ◌≡◌, leb, drop, replicate, Result, Ok, Err}
 use Rattle.std.proofs.Math.Bool.{true, false, and-eq-true_iff}
 use mathlib.Core.List.{List, [], ◌∷◌, ◌++◌, append_assoc}
 use Rattle.std.proofs.Math.Path.{refl, sym, ap, ap₂}
@@ -8,6 +8,7 @@ use borrow.Author.Tests.{le-leb, leb-true}
 use Rattle.std.proofs.Math.ListN.{length, take}
 use Rattle.syntax.specs.declared.refusal.Refusal.{Refusal}
 use Rattle.syntax.specs.declared.refusal.Refusal.TheVariants.{BadAllowance, BufferTooShort}
+use Rattle.syntax.specs.declared.table.Span.{Span}
 use Rattle.syntax.specs.Byte.{Bytes}
 use Rattle.syntax.specs.Reply.{Reply}
 use Rattle.syntax.specs.Resolve.{names_at}
@@ -16,11 +17,12 @@ use Rattle.reading.specs.JobText.{NamedJob, job_of}
 use Rattle.reading.specs.Read.{job, read}
 use Rattle.finding.specs.Find.{find}
 use Rattle.finding.specs.Outcome.{Leaving, left_by as find_left}
-use Rattle.verdict.specs.declared.operation.VerdictAnswer.{VerdictAnswer}
-use Rattle.verdict.specs.declared.operation.VerdictAnswer.TheVariants.{Complete, Missed, Refused}
+use Rattle.reading.specs.declared.answer.Refused.{Refused}
+use Rattle.verdict.specs.declared.verdict.Verdict.{Verdict as Told}
+use Rattle.verdict.specs.declared.verdict.Verdict.TheVariants.{Complete, Missed}
 use Rattle.verdict.specs.Verdict.{Verdict, complete, missed, refused as unjudged}
 use Rattle.verdict.specs.VerdictJob.{verdict_job}
-use Rattle.verdict.specs.VerdictOperation.{verdict_reply, Outcome, left, left_by, left_by_reading, allowed, enough, outcome}
+use Rattle.verdict.specs.VerdictOperation.{verdict_reply, refused_with as unjudged_with, Outcome, left, left_by, left_by_reading, allowed, enough, outcome}
 use Rattle.output.specs.Put.{Writing, puts, puts_then}
 use Rattle.printing.specs.Lines.{complete_word, missed_word, pairs_word, refusal_line, count_line, named_line}
 use Rattle.printing.specs.LinesLaws.{same-refusal}
@@ -31,7 +33,7 @@ clash : {A : Type 0} → ◌≡◌ {A = ℕ} 0 1 → A
 clash z = absurd (omega arith)
 
 -- The values of an answer are those of its reply.
-values : {a b : VerdictAnswer} {o : Reply} → a ≡ b → verdict_reply a ≡ o → (verdict_reply b).values ≡ o.values
+values : {a b : Result Told Refused} {o : Reply} → a ≡ b → verdict_reply a ≡ o → (verdict_reply b).values ≡ o.values
 values e q = ap (λ y. y.values) (sym (ap verdict_reply e) ∙ q)
 
 -- The path in front of a part that is written.
@@ -40,13 +42,13 @@ path-front n p lent =
     ap (take (length p)) (append_assoc p (replicate (n - length p) 0) (drop n lent)) ∙ take_at p _ (length p) refl
 
 module _ (text : Bytes) (allowance : ℕ) (table flags path space : List ℕ) (wide : length table ≡ 4096) (long : length flags ≡ 256)
-    (room : Room allowance path space) (a : VerdictAnswer) (table' flags' path' space' : List ℕ)
-    (left-told : left a table' flags' path' space' ≡ outcome text allowance table flags path space) (names : List ℕ) (w : Writing) where
+    (room : Room allowance path space) (a : Result Told Refused) (table' flags' path' space' : List ℕ)
+    (left-told : left a table' flags' path' space' ≡ outcome text allowance table flags path space) (names : List Span) (w : Writing) where
   -- The answer tells a verdict.
   Tells : Verdict → Type 0
-  Tells (complete n) = verdict_reply a ≡ verdict_reply (Complete n)
-  Tells (missed p n) = (verdict_reply a ≡ verdict_reply (Missed (length p) n)) × (take (length p) path' ≡ p)
-  Tells (unjudged r) = verdict_reply a ≡ verdict_reply (Refused r 0)
+  Tells (complete n) = verdict_reply a ≡ verdict_reply (Ok (Complete n))
+  Tells (missed p n) = (verdict_reply a ≡ verdict_reply (Ok (Missed (length p) n))) × (take (length p) path' ≡ p)
+  Tells (unjudged r) = verdict_reply a ≡ verdict_reply (unjudged_with r 0)
 
   left-tells : (F : Leaving) (x : Verdict) → left a table' flags' path' space' ≡ left_by x F allowance table flags path space → Tells x
   unfolding Tells
@@ -60,7 +62,7 @@ module _ (text : Bytes) (allowance : ℕ) (table flags path space : List ℕ) (w
   sized : Bool → Outcome
   sized b =
       elim b [
-        | false ↦ left (Refused BufferTooShort 0) table flags path space
+        | false ↦ left (unjudged_with BufferTooShort 0) table flags path space
         | true ↦ left_by_reading (read text) allowance table flags path space
       ]
 
@@ -68,7 +70,7 @@ module _ (text : Bytes) (allowance : ℕ) (table flags path space : List ℕ) (w
   unfolding sized
   ranged b =
       elim b [
-        | false ↦ left (Refused BadAllowance 0) table flags path space
+        | false ↦ left (unjudged_with BadAllowance 0) table flags path space
         | true ↦ sized (enough allowance table flags path space)
       ]
 
@@ -98,7 +100,7 @@ module _ (text : Bytes) (allowance : ℕ) (table flags path space : List ℕ) (w
     of-verdict wrote h =
         record { told = λ J e n. wrote ∙ ap (puts w) (h J n (judged_at allowance (job_of J)) (tells J e)) }
 
-    pub complete-put : (n : ℕ) {u : Writing} → a ≡ Complete n → u ≡ puts w (line complete_word) → v ≡ puts u (count_line pairs_word n)
+    pub complete-put : (n : ℕ) {u : Writing} → a ≡ Ok (Complete n) → u ≡ puts w (line complete_word) → v ≡ puts u (count_line pairs_word n)
         → VerdictPut text names allowance w v
     unfolding verdict_lines Tells
     complete-put n e worded counted = of-verdict (puts_then w (line complete_word) (count_line pairs_word n) worded counted) there
@@ -112,7 +114,7 @@ module _ (text : Bytes) (allowance : ℕ) (table flags path space : List ℕ) (w
         there J k (missed p m) q = let c : n ∷ [] ≡ m ∷ (length p ∷ []) = values e q.0 in clash (cc)
         there J k (unjudged r) q = let c : n ∷ [] ≡ [] = values e q in clash (cc)
 
-    pub missed-put : (k n : ℕ) {u : Writing} {l : List ℕ} → a ≡ Missed k n → l ≡ take k path'
+    pub missed-put : (k n : ℕ) {u : Writing} {l : List ℕ} → a ≡ Ok (Missed k n) → l ≡ take k path'
         → u ≡ puts w (named_line missed_word (names_at text names) l) → v ≡ puts u (count_line pairs_word n)
         → VerdictPut text names allowance w v
     unfolding verdict_lines Tells
@@ -131,13 +133,13 @@ module _ (text : Bytes) (allowance : ℕ) (table flags path space : List ℕ) (w
             ap₂ (λ (N : List Bytes) (t : List ℕ). named_line missed_word N t ++ count_line pairs_word n) h g
             ∙ ap (λ t. named_line missed_word J.labels p ++ count_line pairs_word t) i
 
-    pub refused-put : (r : Refusal) (m : ℕ) → a ≡ Refused r m → v ≡ puts w (refusal_line r m) → VerdictPut text names allowance w v
+    pub refused-put : (r : Refused) → a ≡ Err r → v ≡ puts w (refusal_line r.refusal r.line) → VerdictPut text names allowance w v
     unfolding verdict_lines Tells
-    refused-put r m e wrote = of-verdict wrote there
+    refused-put r e wrote = of-verdict wrote there
       where
-        there : (J : NamedJob) → names_at text names ≡ J.labels → (x : Verdict) → Tells x → refusal_line r m ≡ verdict_lines J.labels x
+        there : (J : NamedJob) → names_at text names ≡ J.labels → (x : Verdict) → Tells x → refusal_line r.refusal r.line ≡ verdict_lines J.labels x
         there J h (complete n) q = let c : [] ≡ n ∷ [] = values e q in clash (cc)
         there J h (missed p n) q = let c : [] ≡ n ∷ (length p ∷ []) = values e q.0 in clash (cc)
         there J h (unjudged s) q =
-            let c : verdict_reply (Refused r m) ≡ verdict_reply (Refused s 0) = sym (ap verdict_reply e) ∙ q in
-            same-refusal r s (ap (λ y. y.number) c) (ap (λ y. y.line) c)
+            let c : verdict_reply (Err r) ≡ verdict_reply (unjudged_with s 0) = sym (ap verdict_reply e) ∙ q in
+            same-refusal r.refusal s (ap (λ y. y.number) c) (ap (λ y. y.line) c)

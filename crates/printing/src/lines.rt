@@ -1,36 +1,33 @@
 // Lines of a word and a number, and refusals.
-ghost use Rattle.std.specs.Prelude.{◌≡◌};
-ghost use Rattle.output.specs.Put.{writing, puts};
+ghost use Rattle.output.specs.Writer.{Puts};
 ghost use Rattle.printing.specs.Lines.{count_line, in_line, refusal_line};
 
-use output::number::put_number;
-use output::put::{put, put_part};
-use syntax::Refusal;
+use output::Writer;
+use reading::Refused;
 
-pub fn put_count(out: &mut [u8], at: usize, word: &[u8], n: u64) -> usize
-    ensures { writing out.new result ≡ puts (writing out.old at) (count_line word.now n) }
+pub fn put_count(w: &mut Writer<'_>, word: &[u8], n: u64)
+    ensures { Puts w.old (count_line word.now n) w.new }
 {
-    let worded = put_part(out, at, word);
-    let numbered = put_number(out, worded, n);
-    put(out, numbered, b'\n')
+    w.put_part(word);
+    w.put_number(n);
+    w.put(b'\n');
 }
 
 // Where the refusal is; line 0 is none.
-fn put_place(out: &mut [u8], at: usize, line: u64) -> usize
-    ensures { writing out.new result ≡ puts (writing out.old at) (in_line line) }
+fn put_place(w: &mut Writer<'_>, line: u64)
+    ensures { Puts w.old (in_line line) w.new }
 {
-    if line == 0 {
-        return at;
+    if 0 < line {
+        w.put_part(b" line ");
+        w.put_number(line);
     }
-    let worded = put_part(out, at, b" line ");
-    put_number(out, worded, line)
 }
 
-pub fn put_refusal(out: &mut [u8], at: usize, refusal: Refusal, line: u64) -> usize
-    ensures { writing out.new result ≡ puts (writing out.old at) (refusal_line refusal line) }
+pub fn put_refusal(w: &mut Writer<'_>, refused: Refused)
+    ensures { Puts w.old (refusal_line refused.refusal refused.line) w.new }
 {
-    let worded = put_part(out, at, b"refused ");
-    let numbered = put_number(out, worded, refusal.number());
-    let placed = put_place(out, numbered, line);
-    put(out, placed, b'\n')
+    w.put_part(b"refused ");
+    w.put_number(refused.refusal.number());
+    put_place(w, refused.line);
+    w.put(b'\n');
 }

@@ -1,68 +1,45 @@
 // Lists and labels by their names, as the job spells them.
-ghost use Rattle.std.specs.Prelude.{[], ◌∷◌, ◌≡◌, ◌*◌, get_or, take};
+ghost use Rattle.std.specs.Prelude.{[], ◌∷◌, ◌≡◌, get_or, take};
 ghost use Rattle.syntax.specs.Resolve.{names_at};
 ghost use Rattle.reading.specs.Text.{space};
-ghost use Rattle.output.specs.Put.{writing, puts};
+ghost use Rattle.output.specs.Writer.{Puts};
 ghost use Rattle.printing.specs.Lines.{spelled, named_line};
 
-use output::put::{put, put_part};
-use syntax::table::part;
+use output::Writer;
+use syntax::{Names, Span};
 
 // The places of the first names of a table.
-pub fn first_names(names: &[u64], count: u64) -> &[u64]
-    ensures { result.now ≡ take (2 * count) names.now }
+pub fn first_names(names: &[Span], count: u64) -> &[Span]
+    ensures { result.now ≡ take count names.now }
 {
-    let n = count as usize;
-    if n <= names.len() / 2 {
-        &names[..2 * n]
-    } else {
-        &names[..]
-    }
+    &names[..(count as usize).min(names.len())]
 }
 
 // A space and the name at a place of a table.
-fn put_name(text: &[u8], names: &[u64], place: u8, out: &mut [u8], at: usize) -> usize
-    ensures { writing out.new result ≡ puts (writing out.old at)
-        (space ∷ get_or (names_at text.now names.now) place []) }
+fn put_name(w: &mut Writer<'_>, names: Names<'_>, place: u8)
+    ensures { Puts w.old (space ∷ get_or (names_at names.entry.text.now names.entry.spans.now) place []) w.new }
 {
-    let next = put(out, at, b' ');
-    let i = place as usize;
-    if i < names.len() / 2 {
-        let start = names[2 * i];
-        let size = names[2 * i + 1];
-        put_part(out, next, part(text, start, size))
-    } else {
-        next
+    w.put(b' ');
+    let i = usize::from(place);
+    if i < names.spans.len() {
+        w.put_part(names.spans[i].of(names.text));
     }
 }
 
 // The names at these places of a table, each after a space.
-fn put_names(text: &[u8], names: &[u64], places: &[u8], out: &mut [u8], at: usize) -> usize
-    ensures { writing out.new result ≡ puts (writing out.old at)
-        (spelled (names_at text.now names.now) places.now) }
+fn put_names(w: &mut Writer<'_>, names: Names<'_>, places: &[u8])
+    ensures { Puts w.old (spelled (names_at names.entry.text.now names.entry.spans.now) places.now) w.new }
 {
-    let mut next = at;
-    let mut i = 0;
-    while i < places.len() {
-        next = put_name(text, names, places[i], out, next);
-        i += 1;
+    for &place in places {
+        put_name(w, names, place);
     }
-    next
 }
 
 // A line of a word and names.
-pub fn put_named_line(
-    word: &[u8],
-    text: &[u8],
-    names: &[u64],
-    places: &[u8],
-    out: &mut [u8],
-    at: usize,
-) -> usize
-    ensures { writing out.new result ≡ puts (writing out.old at)
-        (named_line word.now (names_at text.now names.now) places.now) }
+pub fn put_named_line(w: &mut Writer<'_>, word: &[u8], names: Names<'_>, places: &[u8])
+    ensures { Puts w.old (named_line word.now (names_at names.entry.text.now names.entry.spans.now) places.now) w.new }
 {
-    let worded = put_part(out, at, word);
-    let named = put_names(text, names, places, out, worded);
-    put(out, named, b'\n')
+    w.put_part(word);
+    put_names(w, names, places);
+    w.put(b'\n');
 }

@@ -1,6 +1,6 @@
 // The program `rewrite` on a lent text and a lent output (document 01, "The printed form"), and the same with any allowance.
 ghost use Rattle.std.specs.Prelude.{◌≡◌};
-ghost use Rattle.output.specs.Put.{writing, puts};
+ghost use Rattle.output.specs.Writer.{written, Puts};
 ghost use Rattle.printing.specs.Printed.{printed_at};
 ghost use Rattle.printing.specs.Printing.{Room, JobPut, Prints, PrintsAt};
 
@@ -8,61 +8,73 @@ use crate::found::put_found;
 use crate::judged::put_verdict;
 use crate::lines::put_refusal;
 use crate::names::first_names;
-use finding::answer::Finding;
 use finding::operation::find;
-use reading::{ReadAnswer, load};
+use output::Writer;
+use reading::{Job, load};
+use syntax::{Names, Span};
 
 // What is printed for a job, with the places of its names.
 fn put_job(
+    w: &mut Writer<'_>,
     text: &[u8],
-    names: &[u64; 96],
-    labels: u64,
-    lists: u64,
+    names: &[Span; 48],
+    job: Job,
     allowance: u64,
     path: &mut [u8],
     workspace: &mut [u64],
-    out: &mut [u8],
-) -> usize
+)
     requires { Room allowance path.old workspace.old }
-    ensures { JobPut text.now names.now labels lists allowance (writing out.old 0)
-        (writing out.new result) }
+    ensures same_reference { w.new.out.ghost_name ≡ w.old.out.ghost_name }
+    ensures puts { JobPut text.now names.now job.labels job.lists allowance (written w.old) (written w.new) }
 {
-    let all = &names[..];
     let mut table: [u16; 4096] = [0; 4096];
     let mut flags: [u8; 256] = [0; 256];
-    let told = find(text, &mut table, &mut flags);
-    let finding = told.finding;
-    let first = told.first;
-    match finding {
-        Finding::Found(standings, states) => {
-            let listed = first_names(&all[64..], lists);
-            let labelled = first_names(all, labels);
-            let next = put_found(
-                text, listed, standings, states, &table, &flags, first, out, 0,
+    match find(text, &mut table, &mut flags) {
+        Ok(found) => {
+            let listed = first_names(&names[32..], job.lists);
+            let labelled = first_names(names, job.labels);
+            put_found(
+                w,
+                Names {
+                    text,
+                    spans: listed,
+                },
+                found,
+                &table,
+                &flags,
             );
-            put_verdict(text, labelled, allowance, path, workspace, out, next)
+            put_verdict(
+                w,
+                Names {
+                    text,
+                    spans: labelled,
+                },
+                allowance,
+                path,
+                workspace,
+            );
         }
-        Finding::Refused(refusal, line) => put_refusal(out, 0, refusal, line),
+        Err(refused) => put_refusal(w, refused),
     }
 }
 
 // With a path and a workspace for Verdict.
 fn put_printed(
+    w: &mut Writer<'_>,
     text: &[u8],
     allowance: u64,
     path: &mut [u8],
     workspace: &mut [u64],
-    out: &mut [u8],
-) -> usize
+)
     requires { Room allowance path.old workspace.old }
-    ensures { writing out.new result ≡ puts (writing out.old 0) (printed_at allowance text.now) }
+    ensures { Puts w.old (printed_at allowance text.now) w.new }
 {
-    let mut names = [0; 96];
+    let mut names = [Span::EMPTY; 48];
     let mut follow = [0; 1088];
     let mut enter = [0; 544];
     let mut sizes = [0; 17];
     let mut accepting = [0; 17];
-    let told = load(
+    let read = load(
         text,
         &mut names,
         &mut follow,
@@ -70,11 +82,9 @@ fn put_printed(
         &mut sizes,
         &mut accepting,
     );
-    match told {
-        ReadAnswer::Refused(refusal, line) => put_refusal(out, 0, refusal, line),
-        ReadAnswer::Job(labels, lists) => put_job(
-            text, &names, labels, lists, allowance, path, workspace, out,
-        ),
+    match read {
+        Ok(job) => put_job(w, text, &names, job, allowance, path, workspace),
+        Err(refused) => put_refusal(w, refused),
     }
 }
 
@@ -84,7 +94,9 @@ pub fn print(text: &[u8], out: &mut [u8; 32768]) -> usize
 {
     let mut path: [u8; 128] = [0; 128];
     let mut workspace: [u64; 2304] = [0; 2304];
-    put_printed(text, 128, &mut path, &mut workspace, out)
+    let mut w = Writer::new(out);
+    put_printed(&mut w, text, 128, &mut path, &mut workspace);
+    w.at
 }
 
 // The same with this allowance in place of 128: 18 words for each pair that may be allowed, 576 KiB, stand on the stack.
@@ -93,5 +105,7 @@ pub fn print_at(text: &[u8], allowance: u64, out: &mut [u8; 98304]) -> usize
 {
     let mut path: [u8; 4096] = [0; 4096];
     let mut workspace: [u64; 73728] = [0; 73728];
-    put_printed(text, allowance, &mut path, &mut workspace, out)
+    let mut w = Writer::new(out);
+    put_printed(&mut w, text, allowance, &mut path, &mut workspace);
+    w.at
 }

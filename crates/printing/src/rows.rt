@@ -1,12 +1,11 @@
 // The rows of a rewriting: state, `+` or `-`, and next states.
 ghost use Rattle.std.specs.Prelude.{◌≡◌};
-ghost use Rattle.output.specs.Put.{writing, puts};
+ghost use Rattle.output.specs.Writer.{Puts};
 ghost use Rattle.printing.specs.Lines.{nexts, row, rows};
 ghost use Rattle.printing.specs.Lines.{sign as flag_sign};
 
 use finding::rewriting::{flag, next_state};
-use output::number::put_number;
-use output::put::put;
+use output::Writer;
 
 fn sign(flag: u8) -> u8
     ensures { result ≡ flag_sign flag }
@@ -15,46 +14,29 @@ fn sign(flag: u8) -> u8
 }
 
 // A space and a number for each list.
-fn put_nexts(table: &[u16], state: u16, lists: u8, out: &mut [u8], at: usize) -> usize
-    ensures { writing out.new result ≡ puts (writing out.old at) (nexts table.now state lists 0) }
+fn put_nexts(w: &mut Writer<'_>, table: &[u16], state: u16, lists: u8)
+    ensures { Puts w.old (nexts table.now state lists 0) w.new }
 {
-    let mut next = at;
-    let mut list: u8 = 0;
-    while list < lists {
-        let spaced = put(out, next, b' ');
-        next = put_number(out, spaced, next_state(table, state, list) as u64);
-        list += 1;
+    for list in 0..lists {
+        w.put(b' ');
+        w.put_number(u64::from(next_state(table, state, list)));
     }
-    next
 }
 
-fn put_row(table: &[u16], flags: &[u8], lists: u8, state: u16, out: &mut [u8], at: usize) -> usize
-    ensures { writing out.new result ≡ puts (writing out.old at)
-        (row table.now flags.now lists state) }
+fn put_row(w: &mut Writer<'_>, table: &[u16], flags: &[u8], lists: u8, state: u16)
+    ensures { Puts w.old (row table.now flags.now lists state) w.new }
 {
-    let numbered = put_number(out, at, state as u64);
-    let spaced = put(out, numbered, b' ');
-    let signed = put(out, spaced, sign(flag(flags, state)));
-    let stated = put_nexts(table, state, lists, out, signed);
-    put(out, stated, b'\n')
+    w.put_number(u64::from(state));
+    w.put(b' ');
+    w.put(sign(flag(flags, state)));
+    put_nexts(w, table, state, lists);
+    w.put(b'\n');
 }
 
-pub fn put_rows(
-    table: &[u16],
-    flags: &[u8],
-    lists: u8,
-    states: u16,
-    out: &mut [u8],
-    at: usize,
-) -> usize
-    ensures { writing out.new result ≡ puts (writing out.old at)
-        (rows table.now flags.now lists states 0) }
+pub fn put_rows(w: &mut Writer<'_>, table: &[u16], flags: &[u8], lists: u8, states: u16)
+    ensures { Puts w.old (rows table.now flags.now lists states 0) w.new }
 {
-    let mut next = at;
-    let mut state: u16 = 0;
-    while state < states {
-        next = put_row(table, flags, lists, state, out, next);
-        state += 1;
+    for state in 0..states {
+        put_row(w, table, flags, lists, state);
     }
-    next
 }

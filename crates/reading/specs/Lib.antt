@@ -26,3 +26,4 @@ pub mod PartLaws
 pub mod TellingLaws
 pub mod Underway
 pub mod ReadFacts
+pub mod Lent

@@ -1,7 +1,6 @@
 -- How often the bytes `li` stand in a text. Each line of a list begins with them, so that a text has no more lists than these.
-use Rattle.std.specs.Prelude.{ℕ, zero, suc, ◌+◌, ◌*◌, ◌≤◌, ◌<◌, Bool, true, false, ◌&&◌, [], ◌∷◌, ◌++◌, ◌≡◌, refl, eqb, length, get_or, take, drop}
-use Rattle.std.proofs.Common.{sym, ap, ◌∙◌, add-one, arith, drop-cons, get_or-drop, eq-eqb, ne_eqb}
-use Rattle.std.proofs.Math.Decide.{ℕ_discrete}
+use Rattle.std.specs.Prelude.{ℕ, zero, suc, ◌+◌, ◌-◌, ◌≤◌, ◌<◌, Bool, true, false, ◌&&◌, [], ◌∷◌, ◌++◌, ◌≡◌, refl, eqb, length, get_or, take, drop}
+use Rattle.std.proofs.Common.{ap, ◌∙◌, arith, drop-cons, get_or-drop, eq-eqb, ne_eqb}
 use Rattle.syntax.specs.Byte.{Bytes}
 use Rattle.reading.specs.Text.{list_word}
 
@@ -13,33 +12,24 @@ unfoldable pub list_starts : Bytes → ℕ
 list_starts [] = 0
 list_starts (c ∷ s) = start c (get_or s 0 0) + list_starts s
 
-start-there : (c d : ℕ) → c ≡ 108 → d ≡ 105 → start c d ≡ 1
+-- As told by a test of the two bytes.
+pub start-told : (c d : ℕ) → (eqb c 108 && eqb d 105) ≡ true → start c d ≡ 1
 unfolding start
-start-there c d e f = rw (eq-eqb c 108 e, eq-eqb d 105 f, start)
+start-told c d e = rw (e, start) refl
 
-start_first : (c d : ℕ) → ¬ (c ≡ 108) → start c d ≡ 0
+pub start-not : (c d : ℕ) → (eqb c 108 && eqb d 105) ≡ false → start c d ≡ 0
 unfolding start
-start_first c d n = rw (ne_eqb c 108 n, start)
+start-not c d e = rw (e, start) refl
+
+start-there : (c d : ℕ) → c ≡ 108 → d ≡ 105 → start c d ≡ 1
+start-there c d e f = start-told c d (rw (eq-eqb c 108 e, eq-eqb d 105 f) refl)
 
 start-second : (c d : ℕ) → ¬ (d ≡ 105) → start c d ≡ 0
-unfolding start
-start-second c d n = rw (ne_eqb d 105 n, start) (go (eqb c 108))
+start-second c d n = start-not c d (rw (ne_eqb d 105 n) (go (eqb c 108)))
   where
-    go : (b : Bool) → ◌≡◌ {A = ℕ} (elim (b && false) [ true ↦ 1 | false ↦ 0 ]) 0
+    go : (b : Bool) → (b && false) ≡ false
     go true = refl
     go false = refl
-
--- The two bytes as one number.
-
-pub start-pair : (c d : ℕ) → d < 256 → 256 * c + d ≡ 27753 → start c d ≡ 1
-start-pair c d h e = start-there c d (omega arith) (omega arith)
-
-pub start-not : (c d : ℕ) → ¬ (256 * c + d ≡ 27753) → start c d ≡ 0
-start-not c d n = go (ℕ_discrete c 108)
-  where
-    go : Dec (c ≡ 108) → start c d ≡ 0
-    go (yes e) = start-second c d (λ f. n (omega arith))
-    go (no h) = start_first c d h
 
 start_small : (c d : ℕ) → start c d ≤ 1
 unfolding start
@@ -49,15 +39,17 @@ start_small c d = go (eqb c 108 && eqb d 105)
     go true = omega arith
     go false = omega arith
 
--- By the bytes at i and behind it.
-pub starts-next : (s : Bytes) (i : ℕ) → i < length s
-    → list_starts (drop i s) ≡ start (get_or s i 0) (get_or s (i + 1) 0) + list_starts (drop (i + 1) s)
+-- By the bytes before i and at i.
+pub starts-next : (s : Bytes) (i : ℕ) → 0 < i → i ≤ length s
+    → list_starts (drop (i - 1) s) ≡ start (get_or s (i - 1) 0) (get_or s i 0) + list_starts (drop (i + 1 - 1) s)
 unfolding list_starts
-starts-next s i h =
-    let e : suc i + 0 ≡ i + 1 = omega arith in
-    ap list_starts (drop-cons s i 0 h)
-    ∙ ap (λ d. start (get_or s i 0) d + list_starts (drop (suc i) s)) (get_or-drop (suc i) s 0 0 ∙ ap (λ k. get_or s k 0) e)
-    ∙ ap (λ k. start (get_or s i 0) (get_or s (i + 1) 0) + list_starts (drop k s)) (sym (add-one i))
+starts-next s i h l =
+    let e : suc (i - 1) ≡ i = omega arith in
+    let f : suc (i - 1) + 0 ≡ i = omega arith in
+    let g : i ≡ i + 1 - 1 = omega arith in
+    ap list_starts (drop-cons s (i - 1) 0 (omega arith))
+    ∙ ap (λ d. start (get_or s (i - 1) 0) d + list_starts (drop (suc (i - 1)) s)) (get_or-drop (suc (i - 1)) s 0 0 ∙ ap (λ k. get_or s k 0) f)
+    ∙ ap (λ k. start (get_or s (i - 1) 0) (get_or s i 0) + list_starts (drop k s)) (e ∙ g)
 
 -- The last byte begins nothing.
 pub starts_none : (s : Bytes) → length s ≤ 1 → list_starts s ≡ 0

@@ -6,13 +6,15 @@ use Rattle.std.proofs.Common.{ap, ◌∙◌}
 use Rattle.theory.specs.Expression.{Expression, empty}
 use Rattle.theory.specs.Standing.{size}
 use Rattle.syntax.specs.declared.refusal.Refusal.{Refusal}
+use Rattle.syntax.specs.declared.table.Span.{Span}
 use Rattle.syntax.specs.Byte.{Bytes}
 use Rattle.syntax.specs.Some.{is_some}
 use Rattle.syntax.specs.Limits.{most_occurrences}
-use Rattle.reading.specs.declared.answer.ReadAnswer.{ReadAnswer}
+use Rattle.std.specs.declared.result.Result.{Result}
+use Rattle.reading.specs.declared.answer.Job.{Job}
+use Rattle.reading.specs.declared.answer.Refused.{Refused}
 use Rattle.reading.specs.declared.progress.Progress.{Progress as Numbers}
-use Rattle.reading.specs.declared.progress.Given.{Given as Told}
-use Rattle.reading.specs.declared.progress.Given.TheVariants.{Good, Bad}
+use Rattle.std.specs.declared.result.Result.TheVariants.{Ok, Err}
 use Rattle.reading.specs.Text.{most_labels, most_lists}
 use Rattle.reading.specs.JobText.{NamedJob}
 use Rattle.reading.specs.Refusing.{Progress}
@@ -20,7 +22,7 @@ use Rattle.reading.specs.Read.{Given, good, bad, job, read}
 use Rattle.reading.specs.Answering.{answer_of, read_reply, reply_of, reply-answered}
 use Rattle.reading.specs.Tables.{Tables, HoldsSoFar, Holds}
 
-abbrev pub tables : List ℕ → List ℕ → List ℕ → List ℕ → List ℕ → Tables
+abbrev pub tables : List Span → List ℕ → List ℕ → List ℕ → List ℕ → Tables
 tables names follow enter sizes accepting =
     record { names = names; follow = follow; enter = enter; sizes = sizes; accepting = accepting }
 
@@ -38,23 +40,18 @@ pub record Held (text : Bytes) (P : Progress) (p : Numbers) (T : Tables) : Type 
   pub holds : HoldsSoFar text P T
 
 -- What a line gives, as the code tells it: the numbers of what is given, which the tables then hold; or the refusal.
-pub data Tells (text : Bytes) (T : Tables) : Given → Told → Type 0 where
-  more : {Q : Progress} {q : Numbers} → Held text Q q T → Tells text T (good Q) (Good q)
-  refusal : {r : Refusal} → Tells text T (bad r) (Bad r)
+pub data Tells (text : Bytes) (T : Tables) : Given → Result Numbers Refusal → Type 0 where
+  more : {Q : Progress} {q : Numbers} → Held text Q q T → Tells text T (good Q) (Ok q)
+  refusal : {r : Refusal} → Tells text T (bad r) (Err r)
 
 -- Whatever the numbers and the tables held before, the code tells what f gives from there.
-pub record Gives (text : Bytes) (f : Progress → Given) (p : Numbers) (T : Tables) (r : Told) (T' : Tables) : Type 0 where
+pub record Gives (text : Bytes) (f : Progress → Given) (p : Numbers) (T : Tables) (r : Result Numbers Refusal) (T' : Tables) : Type 0 where
   pub gives : (P : Progress) → Held text P p T → Tells text T' (f P) r
 
--- The same where only the table of names is changed.
-pub record GivesName (text : Bytes) (f : Progress → Given) (p : Numbers) (names : List ℕ) (r : Told) (names' : List ℕ) : Type 0 where
-  pub gives : (follow enter sizes accepting : List ℕ)
-      → Gives text f p (tables names follow enter sizes accepting) r (tables names' follow enter sizes accepting)
-
 -- A text is read: the answer is what reading gives, and where that is a job, the tables hold it.
-pub record Loaded (text : Bytes) (r : ReadAnswer) (T : Tables) : Type 0 where
+pub record Loaded (text : Bytes) (r : Result Job Refused) (T : Tables) : Type 0 where
   pub answer : r ≡ answer_of (read text)
   pub holds : (J : NamedJob) → read text ≡ job J → Holds text J T
 
-pub loaded-reply : {text : Bytes} {r : ReadAnswer} {T : Tables} → Loaded text r T → read_reply r ≡ reply_of (read text)
+pub loaded-reply : {text : Bytes} {r : Result Job Refused} {T : Tables} → Loaded text r T → read_reply r ≡ reply_of (read text)
 loaded-reply {text} l = ap read_reply l.answer ∙ reply-answered (read text)

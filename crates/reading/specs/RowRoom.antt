@@ -1,10 +1,13 @@
 -- The rows that the tables need: one for the query, and one for each list.
 use Rattle.std.specs.Prelude.{ℕ, suc, ◌+◌, ◌*◌, ◌≤◌, ◌<◌, List, ◌⊎◌, ◌≡◌, length}
-use Rattle.std.proofs.Common.{inl, inr, sym, arith}
+use Rattle.std.proofs.Common.{inl, inr, sym, ap, arith}
 use Rattle.syntax.specs.declared.refusal.Refusal.{Refusal}
 use Rattle.syntax.specs.Byte.{Bytes}
-use Rattle.reading.specs.declared.answer.ReadAnswer.{ReadAnswer}
-use Rattle.reading.specs.declared.answer.ReadAnswer.TheVariants.{Job, Refused}
+use Rattle.std.specs.declared.result.Result.{Result}
+use Rattle.reading.specs.declared.answer.Job.{Job}
+use Rattle.reading.specs.declared.answer.Refused.{Refused}
+use Rattle.std.specs.declared.result.Result.TheVariants.{Ok, Err}
+use Rattle.reading.specs.Answering.{counts, refused_at}
 use Rattle.reading.specs.Text.{most_lists}
 use Rattle.reading.specs.Tables.{follow_width, enter_width}
 use Rattle.reading.specs.ListStarts.{list_starts}
@@ -23,8 +26,8 @@ pub record HasRows (n : ℕ) (follow enter : List ℕ) : Type 0 where
   pub in-enter : (x : ℕ) → x ≤ n → x ≤ most_lists → enter_width * x + enter_width ≤ length enter
 
 -- The rows of a job's lists are in the tables.
-pub record Roomy (r : ReadAnswer) (follow enter : List ℕ) : Type 0 where
-  pub rows : (labels lists : ℕ) → r ≡ Job labels lists
+pub record Roomy (r : Result Job Refused) (follow enter : List ℕ) : Type 0 where
+  pub rows : (labels lists : ℕ) → r ≡ Ok (counts labels lists)
       → (lists ≤ most_lists) × (follow_width * lists + follow_width ≤ length follow) × (enter_width * lists + enter_width ≤ length enter)
 
 -- Tables of more rows have them, and so have tables of 17 rows.
@@ -44,12 +47,17 @@ fewer-rows h e f r = record {
   in-enter = λ x l m. omega (arith, r.in-enter x (omega arith) m);
 }
 
-pub roomy-refused : (r : Refusal) (n : ℕ) (follow enter : List ℕ) → Roomy (Refused r n) follow enter
+pub roomy-refused : (r : Refusal) (n : ℕ) (follow enter : List ℕ) → Roomy (Err (refused_at r n)) follow enter
 roomy-refused r n follow enter = record { rows = λ labels lists e. absurd (let z : ◌≡◌ {A = ℕ} 0 1 = cc in omega arith) }
 
+-- The number of lists that an answer tells.
+abbrev lists_told : Result Job Refused → ℕ
+lists_told (Ok j) = j.lists
+lists_told (Err e) = 0
+
 pub roomy-job : (labels lists n : ℕ) {follow enter : List ℕ} → lists ≤ n → lists ≤ most_lists → HasRows n follow enter
-    → Roomy (Job labels lists) follow enter
-roomy-job labels lists n {follow} {enter} h few r = record { rows = λ a b e. let d : lists ≡ b = cc in rw (sym d) room }
+    → Roomy (Ok (counts labels lists)) follow enter
+roomy-job labels lists n {follow} {enter} h few r = record { rows = λ a b e. rw (sym (ap lists_told e)) room }
   where
     room : (lists ≤ most_lists) × (follow_width * lists + follow_width ≤ length follow) × (enter_width * lists + enter_width ≤ length enter)
     room = (few, r.in-follow lists h few, r.in-enter lists h few)

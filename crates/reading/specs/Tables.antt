@@ -5,14 +5,15 @@ use Rattle.std.proofs.Math.Option.{some}
 use Rattle.theory.specs.Expression.{Expression, empty}
 use Rattle.theory.specs.Standing.{size}
 use Rattle.theory.specs.Automaton.{glushkov}
+use Rattle.syntax.specs.declared.table.Span.{Span}
 use Rattle.syntax.specs.Byte.{Bytes}
 use Rattle.syntax.specs.Resolve.{names_at}
 use Rattle.reading.specs.JobText.{NamedJob}
 use Rattle.reading.specs.Refusing.{Progress}
 
--- Names are pairs of a start and a length: the labels' from 0 on, the lists' from `lists_from` on.
+-- The labels' names stand from the entry 0 on, the lists' from `lists_from` on.
 abbrev pub lists_from : ℕ
-lists_from = 64
+lists_from = 32
 
 -- The places of a follow row and the labels of an enter row.
 abbrev pub follow_width : ℕ
@@ -22,7 +23,7 @@ abbrev pub enter_width : ℕ
 enter_width = 32
 
 pub record Tables : Type 0 where
-  pub names : List ℕ
+  pub names : List Span
   pub follow : List ℕ
   pub enter : List ℕ
   pub sizes : List ℕ
@@ -37,14 +38,14 @@ pub record Row (e : Expression) (x : ℕ) (T : Tables) : Type 0 where
 
 -- The tables hold what the lines read so far give.
 pub record HoldsSoFar (text : Bytes) (P : Progress) (T : Tables) : Type 0 where
-  pub labels : names_at text (take (2 * length P.labels) T.names) ≡ P.labels
-  pub lists : names_at text (take (2 * length P.list_names) (drop lists_from T.names)) ≡ P.list_names
+  pub labels : names_at text (take (length P.labels) T.names) ≡ P.labels
+  pub lists : names_at text (take (length P.list_names) (drop lists_from T.names)) ≡ P.list_names
   pub query : (q : Expression) → P.query ≡ some q → Row q 0 T
   pub rows : (v : ℕ) → v < length P.lists → Row (get_or P.lists v empty) (suc v) T
 
 -- The tables hold the job.
 pub record Holds (text : Bytes) (J : NamedJob) (T : Tables) : Type 0 where
-  pub labels : names_at text (take (2 * length J.labels) T.names) ≡ J.labels
-  pub lists : names_at text (take (2 * length J.list_names) (drop lists_from T.names)) ≡ J.list_names
+  pub labels : names_at text (take (length J.labels) T.names) ≡ J.labels
+  pub lists : names_at text (take (length J.list_names) (drop lists_from T.names)) ≡ J.list_names
   pub query : Row J.query 0 T
   pub rows : (v : ℕ) → v < length J.lists → Row (get_or J.lists v empty) (suc v) T

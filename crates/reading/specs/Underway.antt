@@ -1,5 +1,5 @@
 -- Reading underway: the lines before the byte `at` are read, n is the next line, and what is left of the text gives what the whole gives.
-use Rattle.std.specs.Prelude.{ℕ, zero, suc, ◌+◌, ◌-◌, ◌<◌, ◌≤◌, true, false, List, ◌≡◌, refl, length, take, drop}
+use Rattle.std.specs.Prelude.{ℕ, zero, suc, ◌+◌, ◌-◌, ◌<◌, ◌≤◌, true, false, Some, None, List, ◌≡◌, refl, length, take, drop}
 use Rattle.std.proofs.Common.{true≢false, sym, ap, ap₂, ◌∙◌, add-one, arith, length-drop, drop_of_length-le, drop-drop}
 use Rattle.std.proofs.lemmas.Bool.{false≢true}
 use Rattle.std.proofs.Math.Option.{Option, some, none, none-ne-some}
@@ -9,21 +9,21 @@ use Rattle.syntax.specs.declared.refusal.Refusal.TheVariants.{TextTooLong, BadLi
 use Rattle.syntax.specs.Byte.{Bytes}
 use Rattle.syntax.specs.Some.{is_some}
 use Rattle.syntax.specs.Resolve.{names_at}
-use Rattle.reading.specs.declared.answer.ReadAnswer.TheVariants.{Job, Refused}
+use Rattle.std.specs.declared.result.Result.TheVariants.{Ok, Err}
 use Rattle.reading.specs.declared.progress.Progress.{Progress as Numbers}
-use Rattle.reading.specs.declared.progress.Given.{Given as Told}
-use Rattle.reading.specs.declared.progress.Given.TheVariants.{Good, Bad}
+use Rattle.std.specs.declared.result.Result.{Result}
 use Rattle.reading.specs.Text.{newline, most_text}
 use Rattle.reading.specs.JobText.{NamedJob}
 use Rattle.reading.specs.Refusing.{Progress, beginning}
 use Rattle.reading.specs.Read.{Given, good, bad, given, cut, cut_at, job, refused, ended, read_lines, read}
 use Rattle.reading.specs.ReadLaws.{read-on, read-fault, read-unclosed, read-end, ended-early, ended-late, whole, read_short, read-long}
-use Rattle.reading.specs.Answering.{answer_of}
+use Rattle.reading.specs.Answering.{counts, refused_at, answer_of}
 use Rattle.reading.specs.Tables.{Tables, HoldsSoFar, Holds}
 use Rattle.reading.specs.Loading.{Held, Tells, Gives, Loaded}
 use Rattle.reading.specs.LabelLaws.{labels-held}
 use Rattle.reading.specs.ListLaws.{lists-held}
-use Rattle.reading.specs.Scan.{before, cut-before, uncut-before}
+use Rattle.reading.specs.PartLaws.{part, span}
+use Rattle.reading.specs.Scan.{first, cut-first, uncut-none}
 use Rattle.reading.specs.RowRoom.{asked_rows, HasRows, Roomy, roomy-job}
 use Rattle.reading.specs.ListStarts.{list_starts, starts-cut}
 use Rattle.reading.specs.OneList.{given-one}
@@ -69,12 +69,12 @@ underway-first text T short =
     }
 
 -- What a line told.
-tells-good : {text : Bytes} {T : Tables} {g : Given} {r : Told} (q : Numbers) → Tells text T g r → r ≡ Good q
+tells-good : {text : Bytes} {T : Tables} {g : Given} {r : Result Numbers Refusal} (q : Numbers) → Tells text T g r → r ≡ Ok q
     → (Q : Progress) × (g ≡ good Q) × Held text Q q T
 tells-good q (Tells.more {Q} {q = s} h) e = let d : s ≡ q = cc in (Q, refl, rw (sym d) h)
 tells-good q Tells.refusal e = absurd (let z : ◌≡◌ {A = ℕ} 0 1 = cc in omega arith)
 
-tells-bad : {text : Bytes} {T : Tables} {g : Given} {r : Told} (f : Refusal) → Tells text T g r → r ≡ Bad f → g ≡ bad f
+tells-bad : {text : Bytes} {T : Tables} {g : Given} {r : Result Numbers Refusal} (f : Refusal) → Tells text T g r → r ≡ Err f → g ≡ bad f
 tells-bad f (Tells.more h) e = absurd (let z : ◌≡◌ {A = ℕ} 0 1 = cc in omega arith)
 tells-bad f (Tells.refusal {r}) e = let d : r ≡ f = cc in ap bad d
 
@@ -84,13 +84,13 @@ holds-whole : (text : Bytes) (P : Progress) (q : Expression) (T : Tables) → P.
 holds-whole text P q T e h = record { labels = h.labels; lists = h.lists; query = h.query q e; rows = h.rows }
 
 -- The answer where the text is refused, or is a job.
-pub loaded-refused : (text : Bytes) (T : Tables) (r : Refusal) (n : ℕ) → read text ≡ refused r n → Loaded text (Refused r n) T
+pub loaded-refused : (text : Bytes) (T : Tables) (r : Refusal) (n : ℕ) → read text ≡ refused r n → Loaded text (Err (refused_at r n)) T
 loaded-refused text T r n e = record {
   answer = sym (ap answer_of e);
   holds = λ J f. absurd (let z : ◌≡◌ {A = ℕ} 0 1 = cc in omega arith);
 }
 
-pub loaded-long : (text : Bytes) (T : Tables) → most_text < length text → Loaded text (Refused TextTooLong 0) T
+pub loaded-long : (text : Bytes) (T : Tables) → most_text < length text → Loaded text (Err (refused_at TextTooLong 0)) T
 loaded-long text T h = loaded-refused text T TextTooLong 0 (read-long text h)
 
 module _ (text : Bytes) (at n : ℕ) (p : Numbers) (T : Tables) (u : Underway text at n p T) where
@@ -102,24 +102,24 @@ module _ (text : Bytes) (at n : ℕ) (p : Numbers) (T : Tables) (u : Underway te
   asked : p.query ≡ is_some u.progress.query
   asked = ap (λ (q : Numbers). q.query) u.held.numbers
 
-  pub loaded-early : length text ≤ at → p.query ≡ false → Loaded text (Refused BadLine n) T
+  pub loaded-early : length text ≤ at → p.query ≡ false → Loaded text (Err (refused_at BadLine n)) T
   loaded-early h q = go u.progress.query refl
     where
-      go : (x : Option Expression) → u.progress.query ≡ x → Loaded text (Refused BadLine n) T
+      go : (x : Option Expression) → u.progress.query ≡ x → Loaded text (Err (refused_at BadLine n)) T
       go none e = loaded-refused text T BadLine n (underway-end h ∙ ended-early u.progress n e)
       go (some y) e = absurd (false≢true (sym q ∙ asked ∙ ap is_some e))
 
-  pub loaded-job : length text ≤ at → p.query ≡ true → Loaded text (Job p.labels p.lists) T
+  pub loaded-job : length text ≤ at → p.query ≡ true → Loaded text (Ok (counts p.labels p.lists)) T
   loaded-job h q = go u.progress.query refl
     where
-      go : (x : Option Expression) → u.progress.query ≡ x → Loaded text (Job p.labels p.lists) T
+      go : (x : Option Expression) → u.progress.query ≡ x → Loaded text (Ok (counts p.labels p.lists)) T
       go none e = absurd (true≢false (sym q ∙ asked ∙ ap is_some e))
       go (some y) e =
           let P = u.progress in
           let J : NamedJob = record { labels = P.labels; query = y; list_names = P.list_names; lists = P.lists } in
           let d : read text ≡ job J = underway-end h ∙ ap (λ x. ended x n) (whole P e) ∙ ended-late J n in
           record {
-            answer = ap₂ Job (labels-held u.held) (lists-held u.held) ∙ sym (ap answer_of d);
+            answer = ap₂ (λ a b. Ok (counts a b)) (labels-held u.held) (lists-held u.held) ∙ sym (ap answer_of d);
             holds = λ K f. let same : J ≡ K = cc in rw (sym same) (holds-whole text P y T e u.held.holds);
           }
 
@@ -128,54 +128,56 @@ module _ (text : Bytes) (at n : ℕ) (p : Numbers) (T : Tables) (u : Underway te
   list-within = omega (arith, u.room)
 
   -- The rows of the lists read so far are in the tables.
-  pub roomy-lists : {follow enter : List ℕ} → HasRows (asked_rows text) follow enter → Roomy (Job p.labels p.lists) follow enter
+  pub roomy-lists : {follow enter : List ℕ} → HasRows (asked_rows text) follow enter → Roomy (Ok (counts p.labels p.lists)) follow enter
   roomy-lists r =
       roomy-job p.labels p.lists (asked_rows text) (omega (arith, u.room)) (omega (arith, lists-held u.held, u.held.few-lists)) r
 
-  module _ (inside : at < length text) (size : ℕ) (found : size ≡ before newline (drop at text)) where
-    pub loaded-unclosed : (T' : Tables) → length text - at ≤ size → Loaded text (Refused BadLine n) T'
+  module _ (inside : at < length text) where
+    pub loaded-unclosed : (T' : Tables) → first newline (drop at text) ≡ None → Loaded text (Err (refused_at BadLine n)) T'
     loaded-unclosed T' h =
         let l = length-drop at text in
         loaded-refused text T' BadLine n
-        (sym u.left
-        ∙ read-unclosed u.calls u.progress n (drop at text) (omega arith) (uncut-before newline (drop at text) (omega arith)))
+        (sym u.left ∙ read-unclosed u.calls u.progress n (drop at text) (omega arith) (uncut-none newline (drop at text) h))
 
-    line-cut : size < length text - at → cut_at newline (drop at text) ≡ cut (take size (drop at text)) (drop (at + size + 1) text)
-    line-cut h =
-        let i : at + suc size ≡ at + size + 1 = omega arith in
-        cut-before newline (drop at text) (omega (arith, length-drop at text))
-        ∙ ap₂ cut (ap (λ k. take k (drop at text)) (sym found))
-        (ap (λ k. drop (suc k) (drop at text)) (sym found) ∙ drop-drop (suc size) at text ∙ ap (λ k. drop k text) i)
+  module _ (size : ℕ) (found : first newline (drop at text) ≡ Some size) where
+    pub line-within : at + size < length text
+    line-within = omega (arith, length-drop at text, (cut-first newline (drop at text) size found).0)
 
-    starts-left : list_starts (take size (drop at text)) + list_starts (drop (at + size + 1) text) ≤ list_starts (drop at text)
+    line-cut : cut_at newline (drop at text) ≡ cut (take size (drop at text)) (drop (at + (size + 1)) text)
+    line-cut =
+        let i : at + suc size ≡ at + (size + 1) = omega arith in
+        (cut-first newline (drop at text) size found).1
+        ∙ ap (cut (take size (drop at text))) (drop-drop (suc size) at text ∙ ap (λ k. drop k text) i)
+
+    starts-left : list_starts (take size (drop at text)) + list_starts (drop (at + (size + 1)) text) ≤ list_starts (drop at text)
     starts-left =
-        let i : at + suc size ≡ at + size + 1 = omega arith in
-        let e : drop (suc size) (drop at text) ≡ drop (at + size + 1) text = drop-drop (suc size) at text ∙ ap (λ k. drop k text) i in
+        let i : at + suc size ≡ at + (size + 1) = omega arith in
+        let e : drop (suc size) (drop at text) ≡ drop (at + (size + 1)) text = drop-drop (suc size) at text ∙ ap (λ k. drop k text) i in
         omega (arith, starts-cut size (drop at text), ap list_starts e)
 
-    pub loaded-fault : size < length text - at → {r : Told} {T' : Tables} → Gives text (λ P. given P (take size (drop at text))) p T r T'
-        → (f : Refusal) → r ≡ Bad f → Loaded text (Refused f n) T'
-    loaded-fault h {T'} g f e =
+    pub loaded-fault : {r : Result Numbers Refusal} {T' : Tables} → Gives text (λ P. given P (part text (span at size))) p T r T'
+        → (f : Refusal) → r ≡ Err f → Loaded text (Err (refused_at f n)) T'
+    loaded-fault {T'} g f e =
         loaded-refused text T' f n
         (sym u.left
-        ∙ read-fault u.calls u.progress n (drop at text) _ _ (line-cut h) (tells-bad f (g.gives u.progress u.held) e))
+        ∙ read-fault u.calls u.progress n (drop at text) _ _ line-cut (tells-bad f (g.gives u.progress u.held) e))
 
-    pub underway-next : size < length text - at → {r : Told} {T' : Tables} → Gives text (λ P. given P (take size (drop at text))) p T r T'
-        → (q : Numbers) → r ≡ Good q → Underway text (at + size + 1) (n + 1) q T'
-    underway-next h {T'} g q e = go (tells-good q (g.gives u.progress u.held) e) u.calls u.enough u.left
+    pub underway-next : {r : Result Numbers Refusal} {T' : Tables} → Gives text (λ P. given P (part text (span at size))) p T r T'
+        → (q : Numbers) → r ≡ Ok q → Underway text (at + (size + 1)) (n + 1) q T'
+    underway-next {T'} g q e = go (tells-good q (g.gives u.progress u.held) e) u.calls u.enough u.left
       where
         go : (Q : Progress) × (given u.progress (take size (drop at text)) ≡ good Q) × Held text Q q T'
             → (k : ℕ) → length text - at ≤ k → read_lines (suc k) u.progress n (drop at text) ≡ read text
-            → Underway text (at + size + 1) (n + 1) q T'
-        go d zero b c = absurd (omega arith)
+            → Underway text (at + (size + 1)) (n + 1) q T'
+        go d zero b c = absurd (omega (arith, line-within))
         go d (suc k) b c = record {
           progress = d.0;
           held = d.2;
           calls = k;
           enough = omega arith;
           left =
-              ap (λ m. read_lines (suc k) d.0 m (drop (at + size + 1) text)) (add-one n)
-              ∙ sym (read-on (suc k) u.progress d.0 n (drop at text) _ _ (line-cut h) d.1) ∙ c;
+              ap (λ m. read_lines (suc k) d.0 m (drop (at + (size + 1)) text)) (add-one n)
+              ∙ sym (read-on (suc k) u.progress d.0 n (drop at text) _ _ line-cut d.1) ∙ c;
           room =
               omega (
                 arith,

@@ -8,6 +8,7 @@ mod progress;
 mod reader;
 mod row;
 mod scan;
+mod tables;
 
-pub use answer::ReadAnswer;
+pub use answer::{Job, Refused};
 pub use reader::{lists_at_most, load, load_rows, read};

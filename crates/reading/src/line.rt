@@ -1,238 +1,123 @@
-// One line of a job text, read into the tables. A line, a name or an expression is given by where it begins in the text and its length.
-ghost use Rattle.std.specs.Prelude.{◌+◌, ◌≤◌, ◌≡◌, length, take, drop};
+// One line of a job text, read into the tables.
+ghost use Rattle.std.specs.Prelude.{◌+◌, ◌≤◌, ◌≡◌, length};
 ghost use Rattle.syntax.specs.Byte.{Bytes};
 ghost use Rattle.reading.specs.Text.{space};
 ghost use Rattle.reading.specs.Read.{cut, cut_at, given_query, given_list, early, late, given};
-ghost use Rattle.reading.specs.Loading.{tables, Gives};
-ghost use Rattle.reading.specs.RowRoom.{HasRows};
+ghost use Rattle.reading.specs.Lent.{held, Ready, SameMemory};
+ghost use Rattle.reading.specs.Loading.{Gives};
+ghost use Rattle.reading.specs.PartLaws.{part, IsBehind};
 
-use super::names::{entries, fresh, label, store};
-use super::progress::{Given, Progress};
-use super::row::expression;
-use super::scan::{begins, find_byte};
-use syntax::table::part;
-use syntax::{Check, Refusal};
+use super::names::fresh;
+use super::progress::Progress;
+use super::scan::find_byte;
+use super::tables::Tables;
+use syntax::{Names, Refusal, Span};
 
-// The query's expression.
-fn query(
-    p: Progress,
-    text: &[u8],
-    start: u64,
-    size: u64,
-    names: &[u64; 96],
-    follow: &mut [u64],
-    enter: &mut [u64],
-    sizes: &mut [u64; 17],
-    accepting: &mut [u64; 17],
-) -> Given
-    requires { (p.labels ≤ 32) × HasRows (p.lists + 1) follow.old enter.old }
-    ensures { Gives text.now (λ P. given_query P (take size (drop start text.now))) p
-        (tables names.now follow.old enter.old sizes.old accepting.old) result
-        (tables names.now follow.new enter.new sizes.new accepting.new) }
+// What comes after the opening word of a line.
+fn behind(text: &[u8], line: Span, word: &[u8]) -> Option<Span>
+    requires { line.start + line.size ≤ length text.now }
+    ensures { IsBehind text.now line word.now result }
 {
-    let labels = p.labels;
-    if labels < 1 {
-        return Given::Bad(Refusal::BadLine);
+    if !line.of(text).starts_with(word) {
+        return None;
     }
-    let count = labels as usize;
-    let told = expression(
-        part(text, start, size),
-        text,
-        entries(names, 0, 2 * count),
-        0,
-        follow,
-        enter,
-        sizes,
-        accepting,
-    );
-    match told {
-        Check::Faulty(r) => Given::Bad(r),
-        Check::Fine => Given::Good(Progress {
-            labels: labels,
-            lists: p.lists,
-            query: true,
-        }),
-    }
+    let n = word.len() as u64;
+    Some(Span {
+        start: line.start + n,
+        size: line.size - n,
+    })
 }
 
-// A list's name, and its expression, of `rest` bytes from `at` on.
-fn listed(
-    p: Progress,
-    text: &[u8],
-    start: u64,
-    size: u64,
-    at: u64,
-    rest: u64,
-    names: &mut [u64; 96],
-    follow: &mut [u64],
-    enter: &mut [u64],
-    sizes: &mut [u64; 17],
-    accepting: &mut [u64; 17],
-) -> Given
-    requires { (p.labels ≤ 32) × HasRows (p.lists + 1) follow.old enter.old }
-    ensures { (s : Bytes) → cut_at space s ≡ cut (take size (drop start text.now)) (take rest (drop at text.now))
-        → Gives text.now (λ P. given_list P s) p
-        (tables names.old follow.old enter.old sizes.old accepting.old) result
-        (tables names.new follow.new enter.new sizes.new accepting.new) }
-{
-    let lists = p.lists;
-    if 16 <= lists {
-        return Given::Bad(Refusal::TooManyNames);
-    }
-    let count = lists as usize;
-    if !fresh(text, entries(names, 64, 2 * count), part(text, start, size)) {
-        return Given::Bad(Refusal::BadName);
-    }
-    let labels = 2 * (p.labels as usize);
-    let told = expression(
-        part(text, at, rest),
-        text,
-        entries(names, 0, labels),
-        count + 1,
-        follow,
-        enter,
-        sizes,
-        accepting,
-    );
-    match told {
-        Check::Faulty(r) => Given::Bad(r),
-        Check::Fine => {
-            store(names, 64 + 2 * count, start, size);
-            Given::Good(Progress {
-                labels: p.labels,
-                lists: lists + 1,
-                query: p.query,
-            })
+impl Tables<'_> {
+    // The query's expression.
+    fn query(&mut self, p: Progress, text: &[u8], s: Span) -> Result<Progress, Refusal>
+        requires { Ready p self.old }
+        ensures same { SameMemory self.old self.new }
+        ensures gives { Gives text.now (λ P. given_query P (part text.now s)) p (held self.old) result (held self.new) }
+    {
+        if p.labels < 1 {
+            return Err(Refusal::BadLine);
         }
+        self.expression(p, text, s, 0)?;
+        Ok(Progress { query: true, ..p })
     }
-}
 
-// What follows `list ` in its line.
-fn list(
-    p: Progress,
-    text: &[u8],
-    start: u64,
-    size: u64,
-    names: &mut [u64; 96],
-    follow: &mut [u64],
-    enter: &mut [u64],
-    sizes: &mut [u64; 17],
-    accepting: &mut [u64; 17],
-) -> Given
-    requires { (p.labels ≤ 32) × (start + size ≤ length text.now) × HasRows (p.lists + 1) follow.old enter.old }
-    ensures { Gives text.now (λ P. given_list P (take size (drop start text.now))) p
-        (tables names.old follow.old enter.old sizes.old accepting.old) result
-        (tables names.new follow.new enter.new sizes.new accepting.new) }
-{
-    let n = find_byte(part(text, start, size), b' ') as u64;
-    if size <= n {
-        return Given::Bad(Refusal::BadLine);
-    }
-    listed(
-        p,
-        text,
-        start,
-        n,
-        start + n + 1,
-        size - n - 1,
-        names,
-        follow,
-        enter,
-        sizes,
-        accepting,
-    )
-}
-
-// A line before the query's.
-fn early(
-    p: Progress,
-    text: &[u8],
-    start: u64,
-    size: u64,
-    names: &mut [u64; 96],
-    follow: &mut [u64],
-    enter: &mut [u64],
-    sizes: &mut [u64; 17],
-    accepting: &mut [u64; 17],
-) -> Given
-    requires { (p.labels ≤ 32) × (start + size ≤ length text.now) × HasRows (p.lists + 1) follow.old enter.old }
-    ensures { Gives text.now (λ P. early P (take size (drop start text.now))) p
-        (tables names.old follow.old enter.old sizes.old accepting.old) result
-        (tables names.new follow.new enter.new sizes.new accepting.new) }
-{
-    let line = part(text, start, size);
-    if begins(line, b"label ") {
-        return label(p, text, start + 6, size - 6, names);
-    }
-    if begins(line, b"query ") {
-        return query(
-            p,
+    // A list's name and its expression s.
+    fn listed(&mut self, p: Progress, text: &[u8], name: Span, s: Span) -> Result<Progress, Refusal>
+        requires { Ready p self.old }
+        ensures same { SameMemory self.old self.new }
+        ensures gives { (more : Bytes) → cut_at space more ≡ cut (part text.now name) (part text.now s)
+            → Gives text.now (λ P. given_list P more) p (held self.old) result (held self.new) }
+    {
+        let lists = p.lists;
+        if 16 <= lists {
+            return Err(Refusal::TooManyNames);
+        }
+        let count = lists as usize;
+        let names = &self.names[..];
+        let others = Names {
             text,
-            start + 6,
-            size - 6,
-            names,
-            follow,
-            enter,
-            sizes,
-            accepting,
-        );
+            spans: &names[32..32 + count],
+        };
+        if !fresh(others, name.of(text)) {
+            return Err(Refusal::BadName);
+        }
+        self.expression(p, text, s, count + 1)?;
+        self.names[32 + count] = name;
+        Ok(Progress {
+            lists: lists + 1,
+            ..p
+        })
     }
-    Given::Bad(Refusal::BadLine)
-}
 
-// A line after the query's.
-fn late(
-    p: Progress,
-    text: &[u8],
-    start: u64,
-    size: u64,
-    names: &mut [u64; 96],
-    follow: &mut [u64],
-    enter: &mut [u64],
-    sizes: &mut [u64; 17],
-    accepting: &mut [u64; 17],
-) -> Given
-    requires { (p.labels ≤ 32) × (start + size ≤ length text.now) × HasRows (p.lists + 1) follow.old enter.old }
-    ensures { Gives text.now (λ P. late P (take size (drop start text.now))) p
-        (tables names.old follow.old enter.old sizes.old accepting.old) result
-        (tables names.new follow.new enter.new sizes.new accepting.new) }
-{
-    let line = part(text, start, size);
-    if begins(line, b"list ") {
-        return list(
-            p,
-            text,
-            start + 5,
-            size - 5,
-            names,
-            follow,
-            enter,
-            sizes,
-            accepting,
-        );
+    // What follows `list ` in its line.
+    fn list(&mut self, p: Progress, text: &[u8], rest: Span) -> Result<Progress, Refusal>
+        requires { Ready p self.old × (rest.start + rest.size ≤ length text.now) }
+        ensures same { SameMemory self.old self.new }
+        ensures gives { Gives text.now (λ P. given_list P (part text.now rest)) p (held self.old) result (held self.new) }
+    {
+        let n = find_byte(rest.of(text), b' ').ok_or(Refusal::BadLine)? as u64;
+        let name = Span { size: n, ..rest };
+        let s = Span {
+            start: rest.start + n + 1,
+            size: rest.size - n - 1,
+        };
+        self.listed(p, text, name, s)
     }
-    Given::Bad(Refusal::BadLine)
-}
 
-pub fn line(
-    p: Progress,
-    text: &[u8],
-    start: u64,
-    size: u64,
-    names: &mut [u64; 96],
-    follow: &mut [u64],
-    enter: &mut [u64],
-    sizes: &mut [u64; 17],
-    accepting: &mut [u64; 17],
-) -> Given
-    requires { (p.labels ≤ 32) × (start + size ≤ length text.now) × HasRows (p.lists + 1) follow.old enter.old }
-    ensures { Gives text.now (λ P. given P (take size (drop start text.now))) p
-        (tables names.old follow.old enter.old sizes.old accepting.old) result
-        (tables names.new follow.new enter.new sizes.new accepting.new) }
-{
-    if p.query {
-        late(p, text, start, size, names, follow, enter, sizes, accepting)
-    } else {
-        early(p, text, start, size, names, follow, enter, sizes, accepting)
+    // A line before the query's.
+    fn early(&mut self, p: Progress, text: &[u8], line: Span) -> Result<Progress, Refusal>
+        requires { Ready p self.old × (line.start + line.size ≤ length text.now) }
+        ensures same { SameMemory self.old self.new }
+        ensures gives { Gives text.now (λ P. early P (part text.now line)) p (held self.old) result (held self.new) }
+    {
+        if let Some(name) = behind(text, line, b"label ") {
+            return self.label(p, text, name);
+        }
+        let s = behind(text, line, b"query ").ok_or(Refusal::BadLine)?;
+        self.query(p, text, s)
+    }
+
+    // A line after the query's.
+    fn late(&mut self, p: Progress, text: &[u8], line: Span) -> Result<Progress, Refusal>
+        requires { Ready p self.old × (line.start + line.size ≤ length text.now) }
+        ensures same { SameMemory self.old self.new }
+        ensures gives { Gives text.now (λ P. late P (part text.now line)) p (held self.old) result (held self.new) }
+    {
+        let rest = behind(text, line, b"list ").ok_or(Refusal::BadLine)?;
+        self.list(p, text, rest)
+    }
+
+    // A line, by whether the query's came before it.
+    pub fn line(&mut self, p: Progress, text: &[u8], line: Span) -> Result<Progress, Refusal>
+        requires { Ready p self.old × (line.start + line.size ≤ length text.now) }
+        ensures same { SameMemory self.old self.new }
+        ensures gives { Gives text.now (λ P. given P (part text.now line)) p (held self.old) result (held self.new) }
+    {
+        if p.query {
+            self.late(p, text, line)
+        } else {
+            self.early(p, text, line)
+        }
     }
 }

@@ -1,6 +1,4 @@
 // What the lines read so far give, in numbers.
-use syntax::Refusal;
-
 #[derive(Clone, Copy)]
 pub struct Progress {
     pub labels: u64,
@@ -9,9 +7,11 @@ pub struct Progress {
     pub query: bool,
 }
 
-// What a line gives: more than before, or a refusal.
-#[derive(Clone, Copy)]
-pub enum Given {
-    Good(Progress),
-    Bad(Refusal),
+impl Progress {
+    // Before any line is read.
+    pub const BEGINNING: Progress = Progress {
+        labels: 0,
+        lists: 0,
+        query: false,
+    };
 }

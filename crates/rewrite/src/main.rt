@@ -4,7 +4,7 @@
 
 mod input;
 
-use input::{Input, read_input};
+use input::read_input;
 use printing::print;
 use std::io;
 use std::io::Write;
@@ -12,16 +12,15 @@ use std::io::Write;
 fn main(rt: HostRuntime) -> io::Result<()> {
     let mut text = [0u8; 8193];
     let mut out = [0u8; 32768];
-    let got = read_input(rt.stdin(), &mut text);
-    match got {
-        Input::Bytes(count) => {
+    match read_input(rt.stdin(), &mut text) {
+        Ok(count) => {
             let size = print(&text[..count], &mut out);
             if rt.stdout().write_all(&out[..size]).is_err() {
                 rt.stderr()
                     .write_all(b"rewrite: standard output cannot be written\n")?;
             }
         }
-        Input::Failed => {
+        Err(_) => {
             rt.stderr()
                 .write_all(b"rewrite: standard input cannot be read\n")?;
         }

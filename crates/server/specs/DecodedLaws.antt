@@ -88,7 +88,7 @@ module _ (text : Bytes) (table flags : List ℕ) where
   pub find-decodes : FindDecodes (find_number (outcome text table flags).reply (outcome text table flags).first) (outcome text table flags)
   find-decodes =
       let s = find-small text table flags in
-      let f = find-few (leaving text table flags).answer.finding in
+      let f = find-few (leaving text table flags).answer in
       let w = word-few (outcome text table flags).first s.short in
       record {
         refused = decodes (outcome text table flags).reply _ f s.line;

@@ -1,6 +1,6 @@
 -- What Find leaves at the boundary: its number, the table, the flags, and the first word in a lent word. The lent word's named part is 256
 -- bytes; a shorter one is refused with 8, as a short table and short flags are.
-use Rattle.std.specs.Prelude.{ℕ, Bool, true, false, ◌||◌, List, ◌++◌, eqb, ltb, length, drop}
+use Rattle.std.specs.Prelude.{ℕ, Bool, true, false, ◌||◌, List, ◌++◌, eqb, ltb, length, drop, replicate, Option, Some, None}
 use Rattle.syntax.specs.Byte.{Bytes}
 use Rattle.syntax.specs.Reply.{Reply, refusing}
 use Rattle.syntax.specs.declared.refusal.Refusal.TheVariants.{BufferTooShort}
@@ -17,8 +17,12 @@ abbrev pub writes : ℕ → Bool
 writes number = eqb number 0 || (eqb number 9 || eqb number 10)
 
 -- The first word's list numbers and zeros behind them; zeros alone where there is no first word, which is so with every refusal.
-abbrev pub word_left : Reply → FirstWord → List ℕ → List ℕ
-word_left r w word = elim (writes r.number) [ true ↦ w.word ++ drop word_part word | false ↦ word ]
+abbrev pub letters : Option FirstWord → List ℕ
+letters None = replicate word_part 0
+letters (Some w) = w.word
+
+abbrev pub word_left : Reply → Option FirstWord → List ℕ → List ℕ
+word_left r w word = elim (writes r.number) [ true ↦ letters w ++ drop word_part word | false ↦ word ]
 
 pub record Left : Type 0 where
   pub number : ℕ

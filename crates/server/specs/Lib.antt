@@ -1,4 +1,5 @@
 pub mod Packed
+pub mod Small
 pub mod SameReply
 pub mod NumberSome
 pub mod ReadSmall

@@ -1,6 +1,6 @@
 -- The one number that each function of the boundary returns; document 01 leaves its form free. A refusal's number stands in bits 0 to 7 and
 -- its line in bits 8 to 31, both 0 where nothing is refused; the values of an answer stand from bit 32 on, all 0 with a refusal.
-use Rattle.std.specs.Prelude.{ℕ, ◌+◌, ◌*◌, true, false, List, [], ◌∷◌, get_or}
+use Rattle.std.specs.Prelude.{ℕ, ◌+◌, ◌*◌, List, [], ◌∷◌, get_or, Option, Some, None}
 use Rattle.syntax.specs.Reply.{Reply}
 use Rattle.finding.specs.declared.first.FirstWord.{FirstWord}
 
@@ -15,15 +15,16 @@ abbrev pub read_number : Reply → ℕ
 read_number r = packed r (read_values r.values)
 
 -- One more than the length of the first word; 0 where no word is accepted.
-abbrev pub word_number : FirstWord → ℕ
-word_number w = elim w.any [ true ↦ w.length + 1 | false ↦ 0 ]
+abbrev pub word_number : Option FirstWord → ℕ
+word_number None = 0
+word_number (Some w) = w.length + 1
 
 -- Find: the standings from bit 32, the states from bit 40, the first word's number from bit 52.
-abbrev pub find_values : List ℕ → FirstWord → ℕ
+abbrev pub find_values : List ℕ → Option FirstWord → ℕ
 find_values [] w = 0
 find_values (standings ∷ more) w = standings + 256 * get_or more 0 0 + 1048576 * word_number w
 
-abbrev pub find_number : Reply → FirstWord → ℕ
+abbrev pub find_number : Reply → Option FirstWord → ℕ
 find_number r w = packed r (find_values r.values w)
 
 -- One more than the length of the missed path; 0 where the verdict is complete, and so has no second value.

@@ -1,5 +1,5 @@
 -- The number of a reply is 0 or that of a refusal, so it is at most 17, whatever an operation is given.
-use Rattle.std.specs.Prelude.{ℕ, ◌*◌, ◌≤◌, Bool, ◌&&◌, ◌||◌, List, ◌++◌, eqb, ltb, length, drop, replicate}
+use Rattle.std.specs.Prelude.{ℕ, ◌*◌, ◌≤◌, Bool, ◌&&◌, ◌||◌, List, ◌++◌, eqb, ltb, length, drop, replicate, Result, Ok, Err}
 use Rattle.std.proofs.Math.Bool.{true, false}
 use native.Mathlib.Omega.{arith}
 use Rattle.std.proofs.Math.Dec.{leb}
@@ -12,26 +12,26 @@ use Rattle.syntax.specs.Reply.{Reply, refusing}
 use Rattle.syntax.specs.declared.refusal.Refusal.TheVariants.{BufferTooShort, BadAllowance, BadRecordings}
 use Rattle.reading.specs.JobText.{job_of}
 use Rattle.reading.specs.Read.{Reading, job, refused, read}
-use Rattle.finding.specs.declared.answer.Finding.{Finding}
+use Rattle.reading.specs.Answering.{unlined}
+use Rattle.reading.specs.declared.answer.Refused.{Refused}
+use Rattle.finding.specs.declared.answer.Found.{Found as Told}
 use Rattle.finding.specs.Find as found
 use Rattle.finding.specs.Outcome.{Leaving, find_reply, left_by as find_left}
-use Rattle.verdict.specs.declared.operation.VerdictAnswer.TheVariants.{Refused as Unjudged}
 use Rattle.verdict.specs.Verdict.{Verdict, complete, missed}
 use Rattle.verdict.specs.VerdictJob.{verdict_job}
 use Rattle.verdict.specs.VerdictOperation as judging
 use Rattle.answering.specs.AnswerJob.{Marking, marked, links_job, lists_job}
 use Rattle.answering.specs.LinksOperation.{Outcome, outcome, left_of, by_reading, lent_checked, links_answer}
 use Rattle.answering.specs.ListsOperation.{lists_answer}
-use Rattle.keeping.specs.declared.operation.KeepAnswer.TheVariants.{Refused as Unkept}
 use Rattle.keeping.specs.Kept.{kept_length}
 use Rattle.keeping.specs.KeepOperation as keeping
 
 abbrev pub Few : Reply → Type 0
 Few r = r.number ≤ 17
 
-pub find-few : (x : Finding) → Few (find_reply x)
-find-few (Finding.Found m n) = omega arith
-find-few (Finding.Refused r n) = number-few r
+pub find-few : (x : Result Told Refused) → Few (find_reply x)
+find-few (Ok f) = omega arith
+find-few (Err e) = number-few e.refusal
 
 module _ (text : Bytes) (allowance : ℕ) (table flags path workspace : List ℕ) where
   by-verdict : (v : Verdict) (F : Leaving) → Few (judging.left_by v F allowance table flags path workspace).reply
@@ -48,16 +48,16 @@ module _ (text : Bytes) (allowance : ℕ) (table flags path workspace : List ℕ
   verdict-few = ranged (judging.allowed allowance)
     where
       sized : (b : Bool) → Few (elim b as (λ b. judging.Outcome) [
-        | false ↦ judging.left (Unjudged BufferTooShort 0) table flags path workspace
+        | false ↦ judging.left (Err (unlined BufferTooShort)) table flags path workspace
         | true ↦ judging.left_by_reading (read text) allowance table flags path workspace
       ]).reply
       sized true = by-reading (read text)
       sized false = omega arith
 
       ranged : (b : Bool) → Few (elim b as (λ b. judging.Outcome) [
-        | false ↦ judging.left (Unjudged BadAllowance 0) table flags path workspace
+        | false ↦ judging.left (Err (unlined BadAllowance)) table flags path workspace
         | true ↦ elim (judging.enough allowance table flags path workspace) [
-          | false ↦ judging.left (Unjudged BufferTooShort 0) table flags path workspace
+          | false ↦ judging.left (Err (unlined BufferTooShort)) table flags path workspace
           | true ↦ judging.left_by_reading (read text) allowance table flags path workspace
         ]
       ]).reply
@@ -126,7 +126,7 @@ keep-few text out = measured (ltb (length out) kept_length)
     by-text (job J) = by-find J.list_names (found.find (job_of J))
 
     measured : (b : Bool) → Few (elim b as (λ b. keeping.Outcome) [
-      | true ↦ keeping.left (Unkept BufferTooShort 0) out
+      | true ↦ keeping.left (Err (unlined BufferTooShort)) out
       | false ↦ keeping.left_by_reading (read text) out
     ]).reply
     measured true = omega arith

@@ -3,7 +3,7 @@ ghost use Rattle.std.specs.Prelude.{◌≡◌};
 ghost use Rattle.server.specs.VerdictLeft.{left, verdict_left};
 
 use crate::packed::{answered, refused};
-use verdict::{VerdictAnswer, judge};
+use verdict::{Verdict, judge};
 
 #[unsafe(no_mangle)]
 pub extern "C" fn cezhappu_verdict(
@@ -19,8 +19,10 @@ pub extern "C" fn cezhappu_verdict(
         workspace.old }
 {
     match judge(job, allowance, table, flags, path, workspace) {
-        VerdictAnswer::Complete(pairs) => answered(pairs),
-        VerdictAnswer::Missed(length, pairs) => answered(pairs + 65536 * (length + 1)),
-        VerdictAnswer::Refused(refusal, line) => refused(refusal, line),
+        Ok(told) => match told {
+            Verdict::Complete(pairs) => answered(pairs),
+            Verdict::Missed(length, pairs) => answered(pairs + 65536 * (length + 1)),
+        },
+        Err(told) => refused(told),
     }
 }

@@ -2,15 +2,11 @@
 ghost use Rattle.std.specs.Prelude.{◌≡◌};
 ghost use Rattle.server.specs.KeepLeft.{left, keep_left};
 
-use crate::packed::{answered, refused};
-use keeping::KeepAnswer;
+use crate::packed::one;
 
 #[unsafe(no_mangle)]
 pub extern "C" fn cezhappu_keep(job: &[u8], out: &mut [u8]) -> u64
     ensures { left result out.new ≡ keep_left job.now out.old }
 {
-    match keeping::keep(job, out) {
-        KeepAnswer::Kept(length) => answered(length),
-        KeepAnswer::Refused(refusal, line) => refused(refusal, line),
-    }
+    one(keeping::keep(job, out))
 }

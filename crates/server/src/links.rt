@@ -2,8 +2,8 @@
 ghost use Rattle.std.specs.Prelude.{◌≡◌};
 ghost use Rattle.server.specs.AnswersLeft.{left, links_left};
 
-use crate::packed::{answered, refused};
-use answering::{LinksAnswer, answer_from_links};
+use crate::packed::one;
+use answering::answer_from_links;
 
 #[unsafe(no_mangle)]
 pub extern "C" fn cezhappu_answer_from_links(
@@ -18,8 +18,5 @@ pub extern "C" fn cezhappu_answer_from_links(
     ensures { left result marks.new workspace.new
         ≡ links_left job.now recordings chosen links.now start marks.old workspace.old }
 {
-    match answer_from_links(job, recordings, chosen, links, start, marks, workspace) {
-        LinksAnswer::Marked(ones) => answered(ones),
-        LinksAnswer::Refused(refusal, line) => refused(refusal, line),
-    }
+    one(answer_from_links(job, recordings, chosen, links, start, marks, workspace))
 }

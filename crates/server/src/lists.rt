@@ -2,8 +2,8 @@
 ghost use Rattle.std.specs.Prelude.{◌≡◌};
 ghost use Rattle.server.specs.AnswersLeft.{left, lists_left};
 
-use crate::packed::{answered, refused};
-use answering::{ListsAnswer, answer_from_lists};
+use crate::packed::one;
+use answering::answer_from_lists;
 
 #[unsafe(no_mangle)]
 pub extern "C" fn cezhappu_answer_from_lists(
@@ -17,8 +17,5 @@ pub extern "C" fn cezhappu_answer_from_lists(
     ensures { left result marks.new workspace.new
         ≡ lists_left job.now recordings lists.now start marks.old workspace.old }
 {
-    match answer_from_lists(job, recordings, lists, start, marks, workspace) {
-        ListsAnswer::Marked(ones) => answered(ones),
-        ListsAnswer::Refused(refusal, line) => refused(refusal, line),
-    }
+    one(answer_from_lists(job, recordings, lists, start, marks, workspace))
 }

@@ -5,14 +5,13 @@ ghost use Rattle.reading.specs.Answering.{reply_of};
 ghost use Rattle.server.specs.Packed.{read_number};
 
 use crate::packed::{answered, refused};
-use reading::ReadAnswer;
 
 #[unsafe(no_mangle)]
 pub extern "C" fn cezhappu_read(job: &[u8]) -> u64
     ensures { result ≡ read_number (reply_of (read job.now)) }
 {
     match reading::read(job) {
-        ReadAnswer::Job(labels, lists) => answered(labels + 256 * lists),
-        ReadAnswer::Refused(refusal, line) => refused(refusal, line),
+        Ok(counts) => answered(counts.labels + 256 * counts.lists),
+        Err(told) => refused(told),
     }
 }

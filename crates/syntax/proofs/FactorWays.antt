@@ -19,10 +19,10 @@ use Rattle.syntax.specs.Unread.{group, simple, factors-simple}
 use Rattle.syntax.specs.Limits.{most_nesting, nesting, leaves}
 use Rattle.syntax.specs.NestingLaws.{deeper}
 use Rattle.syntax.specs.Resolve.{numbered, known}
-use Rattle.syntax.specs.Part.{nowhere, unit, fault, ended}
+use Rattle.syntax.specs.Part.{unit, ended}
 use Rattle.syntax.specs.PlaceLaws.{Past, past-opening, past-closing}
-use Rattle.syntax.specs.Build.{Built, Room, Read, Reads, Sure, Builds, Suffixed, Marked}
-use Rattle.syntax.specs.BuildLaws.{builds-fault, built-empty, built-ended, built-suffixes}
+use Rattle.syntax.specs.Build.{Built, Room, Read, Reads, Unbuilt, Sure, Builds, Suffixed, Marked}
+use Rattle.syntax.specs.BuildLaws.{built-empty, built-ended, built-suffixes}
 use Rattle.syntax.specs.MarkedLaws.{After, take-marked, marked-read, suffixes-after}
 use Rattle.syntax.proofs.Ways.{some_same, never}
 
@@ -137,7 +137,8 @@ module _ (labels : List Bytes) (s : Bytes) (at k d : ℕ) (follow enter : List �
         kept = kept-after p r f₁ f₂ marks name.lasts ∙ name.kept;
         lasts = lasts_after p r f₁ f₂ marks name.lasts;
         reads = reads;
-        sure = λ h. sure (name.sure (omega (arith, next-after p r f₁ f₂ marks)));
+        within = λ h. omega (arith, name.within h, next-after p r f₁ f₂ marks);
+        sure = sure name.sure;
       }
     where
       reads : Reads factors 1 labels s at k d follow enter r f₂ e₁
@@ -151,15 +152,25 @@ module _ (labels : List Bytes) (s : Bytes) (at k d : ℕ) (follow enter : List �
           sure-marks x.tree p r f₁ f₂ marks x.names x.next x.shallow
           (λ n enough. factors-named n (drop at s) none_open ∙ ap suffixed (x.read n (omega arith)))
 
+  -- No name that can be built.
+  pub factor-no-name : past_mark opening (drop at s) ≡ none → Unbuilt (λ n. named) 0 labels s at k d follow → Unbuilt factors 1 labels s at k d follow
+  factor-no-name none_open name = record { none = none_read }
+    where
+      none_read : (n : ℕ) (t : Tree) (rest : Bytes) → 3 * (length s - at) + 1 < n → factors n (drop at s) ≡ parsed t rest → Room labels t k follow
+          → nesting d (drop at s) ≤ most_nesting → ⊥
+      none_read zero t rest enough e room shallow = omega arith
+      none_read (suc n) t rest enough e room shallow =
+          let (u, w, q, h) = suffixed-cases (named (drop at s)) t rest (sym (factors-named n (drop at s) none_open) ∙ e) in
+          name.none (suc n) u w (omega arith) q (room_after u t w rest h room) shallow
+
   module _ (c : Cursor) (opened : Past opening s at c) where
     nests : nesting d (drop at s) ≡ nesting (d + 1) (drop c.at s)
     nests = past-opening s at c d opened
 
     -- A parenthesis too deep.
-    pub factor-deep : most_nesting ≤ d → k ≤ nowhere → Builds factors 1 labels s at k d follow enter (fault c.at) follow enter
-    factor-deep deep counts =
-        builds-fault factors 1 labels s at k d c.at follow enter follow enter (omega (arith, opened.next)) counts refl refl refl
-        (λ n t rest enough e room shallow. omega (arith, nests, deeper (d + 1) (drop c.at s)))
+    pub factor-deep : most_nesting ≤ d → Unbuilt factors 1 labels s at k d follow
+    factor-deep deep =
+        record { none = λ n t rest enough e room shallow. omega (arith, nests, deeper (d + 1) (drop c.at s)) }
 
     -- `()`, and the marks after it.
     pub factor-unit : d < most_nesting → (c' : Cursor) (r : Part) (f₂ : List ℕ) → Past closing s c.at c'
@@ -174,7 +185,8 @@ module _ (labels : List Bytes) (s : Bytes) (at k d : ℕ) (follow enter : List �
           kept = kept-after (unit c'.at k) r follow f₂ marks (λ x m. absurd (member-none x m));
           lasts = lasts_after (unit c'.at k) r follow f₂ marks (λ x m. absurd (member-none x m));
           reads = reads;
-          sure = λ h.
+          within = λ h. omega (arith, next-after (unit c'.at k) r follow f₂ marks);
+          sure =
               sure-marks empty (unit c'.at k) r follow f₂ marks refl (sym (add-zero k)) (omega (arith, nests, closes))
               (λ n enough. factors-unit n (drop at s) (drop c.at s) (drop c'.at s) opened.past shut.past);
         }
@@ -190,11 +202,25 @@ module _ (labels : List Bytes) (s : Bytes) (at k d : ℕ) (follow enter : List �
             (λ small. record { left = refl; shallow = omega (arith, nests, closes); built = built-empty k c'.at follow enter })
 
     -- An alternative in parentheses.
+    group_reads : past_mark closing (drop c.at s) ≡ none → (n : ℕ)
+        → factors (suc n) (drop at s) ≡ suffixed (closed (alternatives n (drop c.at s)))
+    group_reads not-unit n = factors-group n (drop at s) (drop c.at s) opened.past not-unit
+
+    -- None that can be built.
+    pub factor-no-group : past_mark closing (drop c.at s) ≡ none → Unbuilt alternatives 3 labels s c.at k (d + 1) follow
+        → Unbuilt factors 1 labels s at k d follow
+    factor-no-group not-unit inner = record { none = none_read }
+      where
+        none_read : (n : ℕ) (t : Tree) (rest : Bytes) → 3 * (length s - at) + 1 < n → factors n (drop at s) ≡ parsed t rest → Room labels t k follow
+            → nesting d (drop at s) ≤ most_nesting → ⊥
+        none_read zero t rest enough e room shallow = omega arith
+        none_read (suc n) t rest enough e room shallow =
+            let (u, w, q, h) = suffixed-cases (closed (alternatives n (drop c.at s))) t rest (sym (group_reads not-unit n) ∙ e) in
+            let (v, a, m) = closed-cases (alternatives n (drop c.at s)) u w q in
+            inner.none n u v (omega (arith, opened.inside, opened.next)) a (room_after u t w rest h room) (omega (arith, nests))
+
     module _ (not-unit : past_mark closing (drop c.at s) ≡ none) (p : Part) (f₁ e₁ : List ℕ)
         (inner : Builds alternatives 3 labels s c.at k (d + 1) follow enter p f₁ e₁) where
-      group_reads : (n : ℕ) → factors (suc n) (drop at s) ≡ suffixed (closed (alternatives n (drop c.at s)))
-      group_reads n = factors-group n (drop at s) (drop c.at s) opened.past not-unit
-
       -- It is closed, and marks come after it.
       pub factor-group : d < most_nesting → (c' : Cursor) (r : Part) (f₂ : List ℕ) → Past closing s p.at c'
           → Suffixed s (ended c'.at p.nullable p) f₁ r f₂ → Builds factors 1 labels s at k d follow enter r f₂ e₁
@@ -208,7 +234,8 @@ module _ (labels : List Bytes) (s : Bytes) (at k d : ℕ) (follow enter : List �
             kept = kept-after (ended c'.at p.nullable p) r f₁ f₂ marks inner.lasts ∙ inner.kept;
             lasts = lasts_after (ended c'.at p.nullable p) r f₁ f₂ marks inner.lasts;
             reads = reads;
-            sure = λ h. sure (inner.sure (omega (arith, next-after (ended c'.at p.nullable p) r f₁ f₂ marks)));
+            within = λ h. omega (arith, inner.within h, next-after (ended c'.at p.nullable p) r f₁ f₂ marks);
+            sure = sure inner.sure;
           }
         where
           closes : nesting (d + 1) (drop p.at s) ≡ max (d + 1) (nesting d (drop c'.at s))
@@ -227,7 +254,7 @@ module _ (labels : List Bytes) (s : Bytes) (at k d : ℕ) (follow enter : List �
           reads : Reads factors 1 labels s at k d follow enter r f₂ e₁
           reads zero t rest enough e room shallow = absurd (omega arith)
           reads (suc n) t rest enough e room shallow =
-              let (u, w, q, h) = suffixed-cases (closed (alternatives n (drop c.at s))) t rest (sym (group_reads n) ∙ e) in
+              let (u, w, q, h) = suffixed-cases (closed (alternatives n (drop c.at s))) t rest (sym (group_reads not-unit n) ∙ e) in
               let (v, a, m) = closed-cases (alternatives n (drop c.at s)) u w q in
               with-marks u t w rest (ended c'.at p.nullable p) r f₁ f₂ e₁ marks h room
               (λ small. part u v w m
@@ -236,22 +263,19 @@ module _ (labels : List Bytes) (s : Bytes) (at k d : ℕ) (follow enter : List �
           sure : Sure alternatives 3 labels s c.at k (d + 1) p → Sure factors 1 labels s at k d r
           sure x =
               sure-marks x.tree (ended c'.at p.nullable p) r f₁ f₂ marks x.names x.next (omega (arith, x.shallow, nests, closes))
-              (λ n enough. group_reads n
+              (λ n enough. group_reads not-unit n
               ∙ ap suffixed (closed_at (alternatives n (drop c.at s)) x.tree (drop p.at s) (drop c'.at s)
               (x.read n (omega (arith, opened.inside, opened.next))) shut.past))
 
       -- It is not closed, and so is no factor.
-      pub factor-open : k ≤ nowhere → past_mark closing (drop p.at s) ≡ none
-          → Builds factors 1 labels s at k d follow enter (fault p.at) f₁ e₁
-      factor-open counts not-closed =
-          builds-fault factors 1 labels s at k d p.at follow enter f₁ e₁ (omega (arith, opened.next, inner.onward)) counts
-          inner.same-follow inner.same-enter inner.kept none_read
+      pub factor-open : past_mark closing (drop p.at s) ≡ none → Unbuilt factors 1 labels s at k d follow
+      factor-open not-closed = record { none = none_read }
         where
           none_read : (n : ℕ) (t : Tree) (rest : Bytes) → 3 * (length s - at) + 1 < n → factors n (drop at s) ≡ parsed t rest
               → Room labels t k follow → nesting d (drop at s) ≤ most_nesting → ⊥
           none_read zero t rest enough e room shallow = omega arith
           none_read (suc n) t rest enough e room shallow =
-              let (u, w, q, h) = suffixed-cases (closed (alternatives n (drop c.at s))) t rest (sym (group_reads n) ∙ e) in
+              let (u, w, q, h) = suffixed-cases (closed (alternatives n (drop c.at s))) t rest (sym (group_reads not-unit n) ∙ e) in
               let (v, a, m) = closed-cases (alternatives n (drop c.at s)) u w q in
               let done = inner.reads n u v (omega (arith, opened.inside, opened.next)) a (room_after u t w rest h room)
               (omega (arith, nests)) in

@@ -9,7 +9,7 @@ use lib.Dec.{eqb}
 use lib.ListN.{length, drop, get_or, length-drop, drop_of_length-le}
 use lib.Seq.{drop-cons}
 use Rattle.syntax.specs.declared.cursor.Cursor.{Cursor}
-use Rattle.syntax.specs.declared.cursor.Moved.TheVariants.{To}
+use Rattle.std.specs.Prelude.{Some}
 use Rattle.theory.specs.Expression.{star, optional}
 use Rattle.syntax.specs.Byte.{Bytes, asterisk, question, name_byte}
 use Rattle.syntax.specs.Grammar.{Tree}
@@ -34,15 +34,15 @@ past-run (b ∷ s) = go (name_byte b) refl (past-run s)
 abbrev pub suffix : ℕ → Bool
 suffix b = eqb b asterisk || eqb b question
 
-pub past-suffixes : (w : Bytes) (t : Tree) (s : Bytes) → To (cursor_at w (past_while suffix s)) ≡ parsed_to w (suffixes t s)
+pub past-suffixes : (w : Bytes) (t : Tree) (s : Bytes) → Some (cursor_at w (past_while suffix s)) ≡ parsed_to w (suffixes t s)
 unfolding suffixes past_while
 past-suffixes w t [] = refl
 past-suffixes w t (b ∷ s) = go (eqb b asterisk) refl (eqb b question) refl (past-suffixes w (star t) s) (past-suffixes w (optional t) s)
   where
     go : (x : Bool) → eqb b asterisk ≡ x → (y : Bool) → eqb b question ≡ y
-        → To (cursor_at w (past_while suffix s)) ≡ parsed_to w (suffixes (star t) s)
-        → To (cursor_at w (past_while suffix s)) ≡ parsed_to w (suffixes (optional t) s)
-        → To (cursor_at w (cond (x || y) (past_while suffix s) (b ∷ s))) ≡ parsed_to w (suffixes t (b ∷ s))
+        → Some (cursor_at w (past_while suffix s)) ≡ parsed_to w (suffixes (star t) s)
+        → Some (cursor_at w (past_while suffix s)) ≡ parsed_to w (suffixes (optional t) s)
+        → Some (cursor_at w (cond (x || y) (past_while suffix s) (b ∷ s))) ≡ parsed_to w (suffixes t (b ∷ s))
     go true e y f g h = rw (e, suffixes) g
     go false e true f g h = rw (e, suffixes, f, suffixes) h
     go false e false f g h = rw (e, suffixes, f, suffixes)

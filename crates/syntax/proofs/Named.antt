@@ -1,30 +1,20 @@
 -- When a name stands at a place of a text: the length of the run of name bytes there and its first byte decide.
 use Prim.Native.Nat.{ℕ, ◌+◌, ◌-◌, ◌<◌, ◌≤◌}
 use mathlib.Core.Bool.{true, false, ◌&&◌, and-false}
-use mathlib.Core.List.{List}
-use mathlib.Core.Path.{◌≡◌, sym, ap, ◌∙◌}
+use mathlib.Core.Path.{◌≡◌, ap, ◌∙◌}
 use native.Mathlib.Nat.{add-zero}
 use native.Mathlib.Omega.{arith}
 use lib.Dec.{eqb, leb}
 use lib.ListN.{length, drop, get_or, length-drop}
 use lib.Seq.{get_or-drop}
-use borrow.Author.Tests.{le-leb, lt-leb, eq-eqb, ne_eqb}
+use borrow.Author.Tests.{le-leb, lt-leb}
 use Rattle.theory.specs.Expression.{label}
 use Rattle.syntax.specs.Byte.{Bytes, kind, letter}
-use Rattle.syntax.specs.KindTable.{kind_table, kind_at}
 use Rattle.syntax.specs.Name.{is_name}
 use Rattle.syntax.specs.NameLaws.{no_bytes}
 use Rattle.syntax.specs.Parser.{failed, parsed, run, past_run, named}
 use Rattle.syntax.proofs.Run.{run-lengths}
 use Rattle.syntax.proofs.RunName.{run-name}
-
--- A byte's entry in the table of kinds tells whether it is a letter.
-module _ (kinds : List ℕ) (same : kinds ≡ kind_table) (b : ℕ) (byte : b < 256) where
-  pub letter-entry : get_or kinds b 0 ≡ letter → eqb (kind b) letter ≡ true
-  letter-entry e = eq-eqb (kind b) letter (sym (kind_at kinds same b byte) ∙ e)
-
-  pub other-entry : (get_or kinds b 0 ≡ letter → ⊥) → eqb (kind b) letter ≡ false
-  other-entry f = ne_eqb (kind b) letter (λ e. f (kind_at kinds same b byte ∙ e))
 
 -- The run at the place `at` ends at `end`.
 module _ (s : Bytes) (at end : ℕ) (ends : end ≡ length s - length (past_run (drop at s))) where

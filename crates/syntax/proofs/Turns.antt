@@ -2,10 +2,9 @@
 -- far, is what is to be built from the beginning.
 use Prim.Native.Nat.{ℕ, ◌+◌, ◌≤◌, ◌<◌}
 use mathlib.Core.List.{List, ◌++◌}
-use mathlib.Core.Logic.{◌⊎◌, inl, inr, ⊎_elim}
+use mathlib.Core.Logic.{⊎_elim}
 use mathlib.Core.Option.{none}
 use mathlib.Core.Path.{◌≡◌, refl, sym, ap, ◌∙◌, subst}
-use native.Mathlib.Decide.{dec_le}
 use native.Mathlib.Omega.{arith}
 use lib.ListN.{length, take, drop}
 use lib.Seq.{length-take-le, drop-drop, drop_at}
@@ -14,41 +13,19 @@ use Rattle.theory.specs.PlacesLaws.{member-none, member_union, member-when}
 use Rattle.theory.specs.Automaton.{link, follows}
 use Rattle.theory.proofs.AutomatonLaws.{length-link}
 use Rattle.syntax.specs.declared.cursor.Cursor.{Cursor}
-use Rattle.syntax.specs.declared.cursor.Moved.{Moved}
-use Rattle.syntax.specs.declared.cursor.Moved.TheVariants.{To, Failed}
 use Rattle.syntax.specs.declared.parts.Part.{Part}
 use Rattle.syntax.specs.Byte.{Bytes, dot, bar}
 use Rattle.syntax.specs.Parser.{Parsed, past_mark, alternatives, sequences, factors}
 use Rattle.syntax.specs.Resolve.{numbered}
-use Rattle.syntax.specs.Place.{moved}
-use Rattle.syntax.specs.PlaceLaws.{Past, mark-to, mark-failed}
+use Rattle.syntax.specs.PlaceLaws.{Past}
 use Rattle.syntax.specs.Part.{unit, nothing, either, both}
 use Rattle.syntax.specs.Link.{link-over, drop-link}
 use Rattle.syntax.specs.Splice.{splice}
 use Rattle.syntax.specs.Joining.{either-nothing, either-either, both-unit, both-both, link-link}
 use Rattle.syntax.specs.Joining.{up_to, length-up_to, take-up_to, link-up_to}
-use Rattle.syntax.specs.Build.{Reads, Builds}
-use Rattle.syntax.proofs.Ways.{alternative-fault, alternative-alone, alternative-more, sequence-fault, sequence-alone, sequence-more}
-
--- What it tells to have moved behind a part, or not.
-module _ (m : ℕ) (s : Bytes) (p : Part) (r : Moved) (fine : p.next ≤ 64 → r ≡ moved s (past_mark m (drop p.at s)))
-    (many : 64 < p.next → r ≡ Failed) where
-  pub behind-to : (c : Cursor) → To c ≡ r → Past m s p.at c
-  behind-to c e = go (dec_le p.next 64)
-    where
-      go : Dec (p.next ≤ 64) → Past m s p.at c
-      go (yes h) = mark-to m s p.at c (e ∙ fine h)
-      go (no n) =
-          let same : To c ≡ Failed = e ∙ many (omega arith) in
-          let z : ◌≡◌ {A = ℕ} 0 1 = cc in
-          absurd (omega arith)
-
-  pub behind-failed : Failed ≡ r → (64 < p.next) ⊎ (past_mark m (drop p.at s) ≡ none)
-  behind-failed e = go (dec_le p.next 64)
-    where
-      go : Dec (p.next ≤ 64) → (64 < p.next) ⊎ (past_mark m (drop p.at s) ≡ none)
-      go (yes h) = inr (mark-failed m s p.at (e ∙ fine h))
-      go (no n) = inl (omega arith)
+use Rattle.syntax.specs.Build.{Reads, Unbuilt, Builds}
+use Rattle.syntax.proofs.Ways.{alternative-none, alternative-none-after, alternative-alone, alternative-more}
+use Rattle.syntax.proofs.Ways.{sequence-none, sequence-none-after, sequence-alone, sequence-more}
 
 -- The part p has been read of alternatives that begin at the place `at₀`; the next one is read from the place `at` on.
 pub record Choosing (labels : List Bytes) (s : Bytes) (at₀ k₀ d : ℕ) (follow₀ enter₀ : List ℕ) (p : Part) (at : ℕ) (follow enter : List ℕ)
@@ -58,6 +35,7 @@ pub record Choosing (labels : List Bytes) (s : Bytes) (at₀ k₀ d : ℕ) (foll
   pub same-enter : length enter ≡ length enter₀
   pub whole : (r : Part) (f' e' : List ℕ) → Builds alternatives 3 labels s at p.next d follow enter r f' e'
       → Builds alternatives 3 labels s at₀ k₀ d follow₀ enter₀ (either p r) f' e'
+  pub none : Unbuilt alternatives 3 labels s at p.next d follow → Unbuilt alternatives 3 labels s at₀ k₀ d follow₀
 
 module _ (labels : List Bytes) (s : Bytes) (at₀ k₀ d : ℕ) (follow₀ enter₀ : List ℕ) where
   pub choosing-start : (p : Part) → p ≡ nothing at₀ k₀ → Choosing labels s at₀ k₀ d follow₀ enter₀ p at₀ follow₀ enter₀
@@ -69,7 +47,12 @@ module _ (labels : List Bytes) (s : Bytes) (at₀ k₀ d : ℕ) (follow₀ enter
         same-enter = refl;
         whole = λ r f' e' b.
             subst (λ x. Builds alternatives 3 labels s at₀ k₀ d follow₀ enter₀ x f' e') (sym (either-nothing at₀ k₀ r)) b;
+        none = λ u. u;
       }
+
+  pub choosing-none : (p : Part) (at : ℕ) (follow enter : List ℕ) → Choosing labels s at₀ k₀ d follow₀ enter₀ p at follow enter
+      → Unbuilt sequences 2 labels s at p.next d follow → Unbuilt alternatives 3 labels s at₀ k₀ d follow₀
+  choosing-none p at follow enter so_far right = so_far.none (alternative-none labels s at p.next d follow right)
 
   module _ (p : Part) (at : ℕ) (follow enter : List ℕ) (so_far : Choosing labels s at₀ k₀ d follow₀ enter₀ p at follow enter)
       (q : Part) (f₁ e₁ : List ℕ) (right : Builds sequences 2 labels s at p.next d follow enter q f₁ e₁) where
@@ -83,13 +66,12 @@ module _ (labels : List Bytes) (s : Bytes) (at₀ k₀ d : ℕ) (follow₀ enter
               subst (λ x. Builds alternatives 3 labels s at₀ k₀ d follow₀ enter₀ x f' e') (sym (either-either p q r))
               (so_far.whole (either q r) f' e'
               (alternative-more labels s at p.next d follow enter q f₁ e₁ right c r f' e' mark b));
+          none = λ u. so_far.none (alternative-none-after labels s at p.next d follow enter q f₁ e₁ right c mark u);
         }
 
-    pub choosing-end : (64 < q.next) ⊎ (past_mark bar (drop q.at s) ≡ none)
+    pub choosing-end : past_mark bar (drop q.at s) ≡ none
         → Builds alternatives 3 labels s at₀ k₀ d follow₀ enter₀ (either p q) f₁ e₁
-    choosing-end (inl many) =
-        so_far.whole q f₁ e₁ (alternative-fault labels s at p.next d follow enter q f₁ e₁ right many)
-    choosing-end (inr no-mark) =
+    choosing-end no-mark =
         so_far.whole q f₁ e₁ (alternative-alone labels s at p.next d follow enter q f₁ e₁ right no-mark)
 
 -- Building from the place j on does the same on two tables that differ only in the entries before it.
@@ -118,6 +100,7 @@ module _ (f : ℕ → Bytes → Parsed) (rank : ℕ) (labels : List Bytes) (s : 
         kept = take-up_to j follow f₁ longs;
         lasts = builds.lasts;
         reads = reads;
+        within = builds.within;
         sure = builds.sure;
       }
     where
@@ -150,6 +133,7 @@ pub record Chaining (labels : List Bytes) (s : Bytes) (at₀ k₀ d : ℕ) (foll
   pub lasts : (x : ℕ) → Member x p.last.0 → x < p.next
   pub whole : (r : Part) (f' e' : List ℕ) → Builds sequences 2 labels s at p.next d follow enter r f' e'
       → Builds sequences 2 labels s at₀ k₀ d follow₀ enter₀ (both p r) (link p.last.0 r.first.0 0 f') e'
+  pub none : Unbuilt sequences 2 labels s at p.next d follow → Unbuilt sequences 2 labels s at₀ k₀ d follow₀
 
 module _ (labels : List Bytes) (s : Bytes) (at₀ k₀ d : ℕ) (follow₀ enter₀ : List ℕ) where
   same-builds : (p q : Part) (f₁ f₂ e₁ : List ℕ) → p ≡ q → f₁ ≡ f₂ → Builds sequences 2 labels s at₀ k₀ d follow₀ enter₀ q f₂ e₁
@@ -168,7 +152,12 @@ module _ (labels : List Bytes) (s : Bytes) (at₀ k₀ d : ℕ) (follow₀ enter
         lasts = λ x m. absurd (member-none x m);
         whole = λ r f' e' b.
             same-builds (both (unit at₀ k₀) r) r (link 0 r.first.0 0 f') f' e' (both-unit at₀ k₀ r) (link-over r.first.0 f') b;
+        none = λ u. u;
       }
+
+  pub chaining-none : (p : Part) (at : ℕ) (follow enter : List ℕ) → Chaining labels s at₀ k₀ d follow₀ enter₀ p at follow enter
+      → Unbuilt factors 1 labels s at p.next d follow → Unbuilt sequences 2 labels s at₀ k₀ d follow₀
+  chaining-none p at follow enter so_far right = so_far.none (sequence-none labels s at p.next d follow right)
 
   module _ (p : Part) (at : ℕ) (follow enter : List ℕ) (so_far : Chaining labels s at₀ k₀ d follow₀ enter₀ p at follow enter)
       (q : Part) (f₁ e₁ : List ℕ) (right : Builds factors 1 labels s at p.next d follow enter q f₁ e₁) where
@@ -204,9 +193,10 @@ module _ (labels : List Bytes) (s : Bytes) (at₀ k₀ d : ℕ) (follow₀ enter
           lasts = λ x m. ⊎_elim (λ n. before x ((member-when q.nullable x p.last.0).0 n).1) (λ n. (right.lasts x n).1)
               ((member_union x (when q.nullable p.last.0) q.last.0).0 m);
           whole = whole-on c mark;
+          none = λ u. so_far.none (sequence-none-after labels s at p.next d follow enter q f₁ e₁ right c mark linked
+              (length-link p.last.0 q.first.0 0 f₁) u);
         }
 
-    pub chaining-end : (64 < q.next) ⊎ (past_mark dot (drop q.at s) ≡ none)
+    pub chaining-end : past_mark dot (drop q.at s) ≡ none
         → Builds sequences 2 labels s at₀ k₀ d follow₀ enter₀ (both p q) linked e₁
-    chaining-end (inl many) = so_far.whole q f₁ e₁ (sequence-fault labels s at p.next d follow enter q f₁ e₁ right many)
-    chaining-end (inr no-mark) = so_far.whole q f₁ e₁ (sequence-alone labels s at p.next d follow enter q f₁ e₁ right no-mark)
+    chaining-end no-mark = so_far.whole q f₁ e₁ (sequence-alone labels s at p.next d follow enter q f₁ e₁ right no-mark)

@@ -1,6 +1,6 @@
 -- What building Glushkov's automaton from an expression's text promises. Building finds on its way whether the text is fine: what is read
 -- without fault is in the grammar and within the limits, and a text that is both is read without fault.
-use Rattle.std.specs.Prelude.{ℕ, suc, max, ◌+◌, ◌*◌, ◌-◌, ◌≤◌, ◌<◌, Bool, true, false, List, [], ◌∷◌, ◌++◌, ◌≡◌, eqb, length, take, drop, replicate}
+use Rattle.std.specs.Prelude.{ℕ, suc, max, ◌+◌, ◌*◌, ◌-◌, ◌≤◌, ◌<◌, Bool, true, false, List, [], ◌∷◌, ◌++◌, ◌≡◌, Option, Some, None, MatchOption, eqb, length, take, drop, replicate}
 use Rattle.theory.specs.Expression.{Expression}
 use Rattle.theory.specs.Standing.{size}
 use Rattle.theory.specs.Places.{Member, none}
@@ -47,7 +47,12 @@ Reads f rank labels s at k d follow enter r follow' enter' =
     (n : ℕ) (t : Tree) (rest : Bytes) → 3 * (length s - at) + rank < n → f n (drop at s) ≡ parsed t rest → Room labels t k follow
     → nesting d (drop at s) ≤ most_nesting → Read labels s k d t rest follow enter r follow' enter'
 
--- What a part that is no fault tells: the parser f reads a tree up to where the part ends, whose labels are known, and no parenthesis is
+-- Nothing that the parser f reads there has room, for any number of calls that is enough, or else a parenthesis is too deep.
+pub record Unbuilt (f : ℕ → Bytes → Parsed) (rank : ℕ) (labels : List Bytes) (s : Bytes) (at k d : ℕ) (follow : List ℕ) : Type 0 where
+  pub none : (n : ℕ) (t : Tree) (rest : Bytes) → 3 * (length s - at) + rank < n → f n (drop at s) ≡ parsed t rest → Room labels t k follow
+      → nesting d (drop at s) ≤ most_nesting → ⊥
+
+-- What a part tells: the parser f reads a tree up to where the part ends, whose labels are known, and no parenthesis is
 -- too deep before that end.
 pub record Sure (f : ℕ → Bytes → Parsed) (rank : ℕ) (labels : List Bytes) (s : Bytes) (at k d : ℕ) (r : Part) : Type 0 where
   pub tree : Tree
@@ -56,8 +61,8 @@ pub record Sure (f : ℕ → Bytes → Parsed) (rank : ℕ) (labels : List Bytes
   pub next : r.next ≡ k + length (leaves tree)
   pub shallow : nesting d (drop at s) ≤ max most_nesting (nesting d (drop r.at s))
 
--- What each of the three reading functions promises, for the parser f of its level, d parentheses being open around what it reads: it
--- builds what f reads, and a part that is no fault is one that f reads. It never goes back, in the text or in the numbers of places; the
+-- What each of the three reading functions promises of a part, for the parser f of its level, d parentheses being open around what it
+-- reads: it builds what f reads, and the part is one that f reads. It never goes back, in the text or in the numbers of places; the
 -- entries of places before the part's stay as they are, and the part's last places are its own.
 pub record Builds (f : ℕ → Bytes → Parsed) (rank : ℕ) (labels : List Bytes) (s : Bytes) (at k d : ℕ) (follow enter : List ℕ) (r : Part)
     (follow' enter' : List ℕ) : Type 0 where
@@ -68,7 +73,14 @@ pub record Builds (f : ℕ → Bytes → Parsed) (rank : ℕ) (labels : List Byt
   pub kept : take k follow' ≡ take k follow
   pub lasts : (x : ℕ) → Member x r.last.0 → (k ≤ x) × (x < r.next)
   pub reads : Reads f rank labels s at k d follow enter r follow' enter'
-  pub sure : r.next ≤ 64 → Sure f rank labels s at k d r
+  pub within : k ≤ 64 → r.next ≤ 64
+  pub sure : Sure f rank labels s at k d r
+
+-- What each of them promises: a part, or that there is none.
+abbrev pub Answers : (f : ℕ → Bytes → Parsed) (rank : ℕ) (labels : List Bytes) (s : Bytes) (at k d : ℕ) (follow enter : List ℕ) (r : Option Part)
+    (follow' enter' : List ℕ) → Type 0
+Answers f rank labels s at k d follow enter r follow' enter' =
+    MatchOption r (Unbuilt f rank labels s at k d follow) (λ p. Builds f rank labels s at k d follow enter p follow' enter')
 
 -- The marks after a part with the given last and first places: whether the part has the empty path, the follow table, and what is left
 -- of the text.
@@ -102,8 +114,9 @@ pub record Outcome : Type 0 where
   pub enter : List ℕ
 
 -- The same, read off the code's answer and the tables that it leaves.
-abbrev pub outcome : Answer → List ℕ → List ℕ → Outcome
-outcome r follow enter = record { fine = r.fine; size = r.size; accepting = r.accepting.0; follow = follow; enter = enter }
+abbrev pub outcome : Option Answer → List ℕ → List ℕ → Outcome
+outcome (Some r) follow enter = record { fine = true; size = r.size; accepting = r.accepting.0; follow = follow; enter = enter }
+outcome None follow enter = record { fine = false; size = 0; accepting = none; follow = follow; enter = enter }
 
 -- Of an expression: Glushkov's automaton, the follow table from its first entry on, and the places of each label added to the enter table.
 abbrev pub automaton : Expression → List ℕ → List ℕ → Outcome

@@ -1,5 +1,4 @@
 pub mod Byte
-pub mod ByteLaws
 pub mod Values
 pub mod KindTable
 pub mod Name

@@ -1,6 +1,6 @@
 -- Names (document 01): 1 to 16 bytes, a letter a to z, then letters, digits or hyphens.
 use Prim.Native.Nat.{ℕ, ◌≤◌}
-use Rattle.std.specs.Prelude.{Bool, true, false, ◌&&◌, List, [], ◌∷◌, ◌≡◌, eqb, leb, length}
+use Rattle.std.specs.Prelude.{Bool, true, false, ◌&&◌, List, [], ◌∷◌, ◌≡◌, Option, cond, Some, None, eqb, ltb, leb, length}
 use Rattle.syntax.specs.Byte.{Bytes, kind, letter, NameByte, name_byte}
 
 -- Every byte is one that a name may have.
@@ -38,3 +38,7 @@ same_name (a ∷ m) (b ∷ n) = eqb a b && same_name m n
 unfoldable pub find : Bytes → ℕ → List Bytes → ℕ
 find n i [] = i
 find n i (m ∷ t) = elim (same_name m n) [ true ↦ i | false ↦ find n (Prim.Native.Nat.suc i) t ]
+
+-- The place of a name in a table of names, if the table has it.
+abbrev pub place_of : Bytes → List Bytes → Option ℕ
+place_of n names = cond (ltb (find n 0 names) (length names)) (Some (find n 0 names)) None

@@ -4,6 +4,7 @@ use Rattle.std.proofs.Math.Bool.{and-eq-true_iff, and-false}
 use Rattle.std.proofs.lemmas.Bool.{false≢true}
 use Rattle.std.proofs.Common.{sym, ◌∙◌, ap, ap₂, arith, eqb-true, eq-eqb, leb-true, le-leb}
 use Rattle.std.proofs.Math.Decide.{dec_lt}
+use Rattle.std.specs.List.{list_all}
 use Rattle.syntax.specs.Byte.{Bytes, kind, letter, NameByte, name_byte, hyphen}
 use Rattle.syntax.specs.Name.{NameBytes, nothing, next, IsName, SameName, name_bytes, is_name, same_name, find}
 use Rattle.syntax.specs.Check.{Distinct}
@@ -58,6 +59,12 @@ pub no_bytes : (s : Bytes) → length s ≡ 0 → is_name s ≡ false
 unfolding is_name
 no_bytes [] e = refl
 no_bytes (b ∷ s) e = absurd (omega arith)
+
+-- The bytes are looked at one by one.
+pub name-bytes-all : (s : Bytes) → list_all name_byte s ≡ name_bytes s
+unfolding name_bytes
+name-bytes-all [] = refl
+name-bytes-all (b ∷ s) = ap (λ t. name_byte b && t) (name-bytes-all s)
 
 -- What is asked of a text that has a byte.
 pub name-parts : (s : Bytes) → 0 < length s → is_name s ≡ ((eqb (kind (get_or s 0 0)) letter && name_bytes (drop 1 s)) && leb (length s) 16)

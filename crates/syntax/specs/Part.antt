@@ -15,14 +15,6 @@ unit at next = record { at = at; next = next; nullable = true; first = places no
 abbrev pub nothing : ℕ → ℕ → Part
 nothing at next = record { at = at; next = next; nullable = false; first = places none; last = places none }
 
--- A number beyond all places.
-abbrev pub nowhere : ℕ
-nowhere = 18446744073709551615
-
--- What is no part, at the byte `at`: the number of its next place is beyond all places.
-abbrev pub fault : ℕ → Part
-fault at = unit at nowhere
-
 -- One occurrence of a label.
 abbrev pub single : ℕ → ℕ → Places → Part
 single at next place = record { at = at; next = next; nullable = false; first = place; last = place }

@@ -1,6 +1,7 @@
 -- Label names in an expression, and the numbers of the labels that they name.
 use Rattle.std.specs.Prelude.{ℕ, ◌<◌, Bool, true, ◌&&◌, List, [], ◌∷◌, ltb, length, get_or, take, drop}
 use Rattle.theory.specs.Expression.{empty, label, alternative, sequence, star, optional, Expression}
+use Rattle.syntax.specs.declared.table.Span.{Span}
 use Rattle.syntax.specs.Byte.{Bytes}
 use Rattle.syntax.specs.Name.{SameName, find}
 use Rattle.syntax.specs.Grammar.{Tree}
@@ -29,8 +30,7 @@ unfoldable pub known : List Bytes → List Bytes → Bool
 known labels [] = true
 known labels (n ∷ t) = ltb (find n 0 labels) (length labels) && known labels t
 
--- The names of a table of places in a text: pairs of a start and a length.
-unfoldable pub names_at : Bytes → List ℕ → List Bytes
+-- The names of a table of places in a text.
+unfoldable pub names_at : Bytes → List Span → List Bytes
 names_at text [] = []
-names_at text (start ∷ []) = []
-names_at text (start ∷ (size ∷ t)) = take size (drop start text) ∷ names_at text t
+names_at text (span ∷ t) = take span.size (drop span.start text) ∷ names_at text t

@@ -1,77 +1,63 @@
 // The grammar of expressions (document 01): an alternative holds sequences, a sequence holds factors, a factor may hold an alternative.
 // Three reading functions that call each other; the number of unread bytes falls through the cycle.
 ghost use Rattle.std.specs.Prelude.{◌≡◌};
-ghost use Rattle.syntax.specs.KindTable.{kind_table};
 ghost use Rattle.syntax.specs.Limits.{nesting};
 ghost use Rattle.syntax.specs.Parser.{alternatives, sequences, factors, parse};
 ghost use Rattle.syntax.specs.Place.{Follows};
 ghost use Rattle.syntax.specs.Some.{is_some};
 
-use super::cursor::{Cursor, Moved};
+use super::cursor::Cursor;
 
 #[cycle(alternative_factor_sequence)]
-fn alternative(s: &[u8], c: Cursor, kinds: &[u8; 256]) -> Moved
-    requires { kinds.now ≡ kind_table }
+fn alternative(s: &[u8], c: Cursor) -> Option<Cursor>
     ensures { Follows alternatives 3 s.now c.at result }
 {
-    match sequence(s, c, kinds) {
-        Moved::Failed => Moved::Failed,
-        Moved::To(d) => match d.mark(s, b'|') {
-            Moved::Failed => Moved::To(d),
-            Moved::To(e) => alternative(s, e, kinds),
-        },
+    let end = sequence(s, c)?;
+    match end.mark(s, b'|') {
+        None => Some(end),
+        Some(next) => alternative(s, next),
     }
 }
 
 #[cycle(alternative_factor_sequence)]
-fn sequence(s: &[u8], c: Cursor, kinds: &[u8; 256]) -> Moved
-    requires { kinds.now ≡ kind_table }
+fn sequence(s: &[u8], c: Cursor) -> Option<Cursor>
     ensures { Follows sequences 2 s.now c.at result }
 {
-    match factor(s, c, kinds) {
-        Moved::Failed => Moved::Failed,
-        Moved::To(d) => match d.mark(s, b'.') {
-            Moved::Failed => Moved::To(d),
-            Moved::To(e) => sequence(s, e, kinds),
-        },
+    let end = factor(s, c)?;
+    match end.mark(s, b'.') {
+        None => Some(end),
+        Some(next) => sequence(s, next),
     }
 }
 
 #[cycle(alternative_factor_sequence)]
-fn factor(s: &[u8], c: Cursor, kinds: &[u8; 256]) -> Moved
-    requires { kinds.now ≡ kind_table }
+fn factor(s: &[u8], c: Cursor) -> Option<Cursor>
     ensures { Follows factors 1 s.now c.at result }
 {
-    match c.mark(s, b'(') {
-        Moved::Failed => match c.name(s, kinds) {
-            Moved::Failed => Moved::Failed,
-            Moved::To(d) => Moved::To(d.suffixes(s)),
-        },
-        Moved::To(d) => match d.mark(s, b')') {
-            Moved::To(e) => Moved::To(e.suffixes(s)),
-            Moved::Failed => match alternative(s, d, kinds) {
-                Moved::Failed => Moved::Failed,
-                Moved::To(e) => match e.mark(s, b')') {
-                    Moved::Failed => Moved::Failed,
-                    Moved::To(f) => Moved::To(f.suffixes(s)),
-                },
-            },
-        },
+    let Some(inner) = c.mark(s, b'(') else {
+        let name = c.name(s)?;
+        return Some(name.suffixes(s));
+    };
+    if let Some(unit) = inner.mark(s, b')') {
+        return Some(unit.suffixes(s));
     }
+    let end = alternative(s, inner)?;
+    let group = end.mark(s, b')')?;
+    Some(group.suffixes(s))
 }
 
 // In the grammar every parenthesis is closed: a text that nests deeper than half its bytes is not in it. So the three functions call each
 // other no deeper than half the bytes allow.
-pub fn in_grammar(s: &[u8], deep: u64, kinds: &[u8; 256]) -> bool
-    requires { (deep ≡ nesting 0 s.now) × (kinds.now ≡ kind_table) }
+pub fn in_grammar(s: &[u8], deep: u64) -> bool
+    requires { deep ≡ nesting 0 s.now }
     ensures { result ≡ is_some (parse s.now) }
 {
     let half = (s.len() / 2) as u64;
     if half < deep {
         return false;
     }
-    match alternative(s, Cursor { at: 0 }, kinds) {
-        Moved::Failed => false,
-        Moved::To(c) => c.at == s.len(),
+    match alternative(s, Cursor { at: 0 }) {
+        Some(end) => end.at == s.len(),
+        None => false,
     }
 }

@@ -1,37 +1,73 @@
 // The kinds of bytes (document 01: "every byte of an expression is of one of ten kinds").
+ghost use Rattle.std.specs.Prelude.{◌≡◌, eqb, leb};
+ghost use Rattle.syntax.specs.Byte.{kind, letter, hyphen};
+ghost use Rattle.syntax.specs.KindTable.{kind_number};
 
-// At each byte its kind: 0 a letter, 1 a digit, 2 the hyphen, 3 to 8 the marks `.` `|` `*` `?` `(` `)`, 9 the rest.
-// A constant is laid out anew wherever it is named, so each check and each building names the table once and lends it.
-pub const KINDS: [u8; 256] = [
+#[derive(Clone, Copy, Debug, PartialEq, Eq)]
+pub enum Kind {
+    Letter,
+    Digit,
+    Hyphen,
+    Dot,
+    Bar,
+    Star,
+    Question,
+    Opening,
+    Closing,
+    Rest,
+}
+
+use Kind::{
+    Bar, Closing, Digit as D, Dot, Hyphen as H, Letter as L, Opening, Question, Rest as R, Star,
+};
+
+// At each byte its kind.
+static KINDS: [Kind; 256] = [
     // below `(`
-    9, 9, 9, 9, 9, 9, 9, 9, 9, 9, 9, 9, 9, 9, 9, 9, 9, 9, 9, 9, 9, 9, 9, 9, 9, 9, 9, 9, 9, 9, 9, 9,
-    9, 9, 9, 9, 9, 9, 9, 9,
+    R, R, R, R, R, R, R, R, R, R, R, R, R, R, R, R, R, R, R, R, R, R, R, R, R, R, R, R, R, R, R, R,
+    R, R, R, R, R, R, R, R,
     // `(` `)` `*` `+` `,` `-` `.` `/`
-    7, 8, 5, 9, 9, 2, 3, 9,
+    Opening, Closing, Star, R, R, H, Dot, R,
     // `0` to `9`
-    1, 1, 1, 1, 1, 1, 1, 1, 1, 1,
+    D, D, D, D, D, D, D, D, D, D,
     // `:` `;` `<` `=` `>`
-    9, 9, 9, 9, 9,
+    R, R, R, R, R,
     // `?`
-    6,
+    Question,
     // `@` to the byte before `a`
-    9, 9, 9, 9, 9, 9, 9, 9, 9, 9, 9, 9, 9, 9, 9, 9, 9, 9, 9, 9, 9, 9, 9, 9, 9, 9, 9, 9, 9, 9, 9, 9,
-    9,
+    R, R, R, R, R, R, R, R, R, R, R, R, R, R, R, R, R, R, R, R, R, R, R, R, R, R, R, R, R, R, R, R,
+    R,
     // `a` to `z`
-    0, 0, 0, 0, 0, 0, 0, 0, 0, 0, 0, 0, 0, 0, 0, 0, 0, 0, 0, 0, 0, 0, 0, 0, 0, 0,
+    L, L, L, L, L, L, L, L, L, L, L, L, L, L, L, L, L, L, L, L, L, L, L, L, L, L,
     // `{`
-    9,
+    R,
     // `|`
-    4,
+    Bar,
     // above `|`
-    9, 9, 9, 9, 9, 9, 9, 9, 9, 9, 9, 9, 9, 9, 9, 9, 9, 9, 9, 9, 9, 9, 9, 9, 9, 9, 9, 9, 9, 9, 9, 9,
-    9, 9, 9, 9, 9, 9, 9, 9, 9, 9, 9, 9, 9, 9, 9, 9, 9, 9, 9, 9, 9, 9, 9, 9, 9, 9, 9, 9, 9, 9, 9, 9,
-    9, 9, 9, 9, 9, 9, 9, 9, 9, 9, 9, 9, 9, 9, 9, 9, 9, 9, 9, 9, 9, 9, 9, 9, 9, 9, 9, 9, 9, 9, 9, 9,
-    9, 9, 9, 9, 9, 9, 9, 9, 9, 9, 9, 9, 9, 9, 9, 9, 9, 9, 9, 9, 9, 9, 9, 9, 9, 9, 9, 9, 9, 9, 9, 9,
-    9, 9, 9,
+    R, R, R, R, R, R, R, R, R, R, R, R, R, R, R, R, R, R, R, R, R, R, R, R, R, R, R, R, R, R, R, R,
+    R, R, R, R, R, R, R, R, R, R, R, R, R, R, R, R, R, R, R, R, R, R, R, R, R, R, R, R, R, R, R, R,
+    R, R, R, R, R, R, R, R, R, R, R, R, R, R, R, R, R, R, R, R, R, R, R, R, R, R, R, R, R, R, R, R,
+    R, R, R, R, R, R, R, R, R, R, R, R, R, R, R, R, R, R, R, R, R, R, R, R, R, R, R, R, R, R, R, R,
+    R, R, R,
 ];
 
-pub const LETTER: u8 = 0;
+impl Kind {
+    pub fn of(b: u8) -> Kind
+        ensures { kind_number result ≡ kind b }
+    {
+        KINDS[b as usize]
+    }
 
-// The last of the kinds that a name may have.
-pub const HYPHEN: u8 = 2;
+    pub fn is_letter(self) -> bool
+        ensures { result ≡ eqb (kind_number self) letter }
+    {
+        self == Kind::Letter
+    }
+
+    // Whether a name may have a byte of the kind.
+    pub fn in_name(self) -> bool
+        ensures { result ≡ leb (kind_number self) hyphen }
+    {
+        matches!(self, Kind::Letter | Kind::Digit | Kind::Hyphen)
+    }
+}

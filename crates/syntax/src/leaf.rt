@@ -1,72 +1,64 @@
 // What stands around the leaves of an expression: a label's occurrence, and the marks after a factor.
 ghost use Rattle.std.specs.Prelude.{ℕ, ◌≡◌};
-ghost use Rattle.syntax.specs.KindTable.{kind_table};
 ghost use Rattle.syntax.specs.Parser.{named};
 ghost use Rattle.syntax.specs.Resolve.{names_at};
-ghost use Rattle.syntax.specs.Build.{Builds, Suffixed};
+ghost use Rattle.syntax.specs.Build.{Answers, Suffixed};
 
 use super::cursor::Cursor;
-use super::kind::LETTER;
-use super::name::LONGEST;
 use super::parts::Part;
 use super::sets::{add, link, put};
-use super::table::find;
+use super::table::Names;
 use places::Places;
 
-// The occurrence of a label that stands at the cursor, which is place k; a fault where no known label stands there, or 63 have been read.
+// An expression's text, and the labels that it may name.
+#[derive(Clone, Copy)]
+pub struct Source<'a> {
+    pub s: &'a [u8],
+    pub names: Names<'a>,
+}
+
+// The occurrence of a label that stands at the cursor, which is place k, if a known label stands there and fewer than 63 have been read.
 pub fn occurrence(
-    s: &[u8],
-    text: &[u8],
-    names: &[u64],
+    source: Source<'_>,
     follow: &mut [u64],
     enter: &mut [u64],
     c: Cursor,
     k: u64,
-    kinds: &[u8; 256],
-) -> Part
-    requires { kinds.now ≡ kind_table }
-    ensures { (d : ℕ) → Builds (λ n. named) 0 (names_at text.now names.now) s.now c.at k d
+) -> Option<Part>
+    ensures { (d : ℕ) → Answers (λ n. named) 0 (names_at source.entry.names.text.now source.entry.names.spans.now) source.entry.s.now c.at k d
         follow.old enter.old result follow.new enter.new }
 {
-    let at = c.at;
-    let past = c.past_run(s, kinds);
-    let end = past.at;
-    if at < end {
-        if k < 64 && end - at <= LONGEST && kinds[s[at] as usize] == LETTER {
-            let label = find(text, names, &s[at..end]);
-            if label < (names.len() / 2) as u64 {
-                let place = Places::one(k);
-                put(follow, k, Places::EMPTY);
-                add(enter, label, place);
-                return Part::single(end, k + 1, place);
-            }
-        }
+    let end = c.name(source.s)?;
+    if 64 <= k {
+        return None;
     }
-    Part::fault(at)
+    let label = source.names.find(&source.s[c.at..end.at])?;
+    let place = Places::one(k);
+    put(follow, k, Places::EMPTY);
+    add(enter, label, place);
+    Some(Part::single(end.at, k + 1, place))
 }
 
 // A part with the marks `*` and `?` that stand after it.
 pub fn suffixes(s: &[u8], follow: &mut [u64], part: Part) -> Part
     ensures { Suffixed s.now part follow.old result follow.new }
 {
-    let first = part.first;
-    let last = part.last;
-    let mut at = part.at;
     let mut nullable = part.nullable;
-    while at < s.len() {
-        if s[at] == b'*' {
-            link(follow, last, first);
-        } else if s[at] != b'?' {
-            break;
+    for at in part.at..s.len() {
+        match s[at] {
+            b'*' => link(follow, part.last, part.first),
+            b'?' => {}
+            _ => return Part {
+                at,
+                nullable,
+                ..part
+            },
         }
         nullable = true;
-        at += 1;
     }
     Part {
-        at: at,
-        next: part.next,
-        nullable: nullable,
-        first: first,
-        last: last,
+        at: part.at.max(s.len()),
+        nullable,
+        ..part
     }
 }

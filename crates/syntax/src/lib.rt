@@ -15,7 +15,7 @@ mod refusal;
 mod sets;
 pub mod table;
 
-pub use checks::{Check, check_expression};
+pub use checks::check_expression;
 pub use name::is_name;
 pub use refusal::Refusal;
-pub use sets::clear;
+pub use table::{Names, Span};

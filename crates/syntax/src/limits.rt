@@ -1,38 +1,22 @@
 // The limits of an expression (document 01): how deep its parentheses nest.
-ghost use Rattle.std.specs.Prelude.{max, ◌≡◌};
+ghost use Rattle.std.specs.Prelude.{◌≡◌};
 ghost use Rattle.syntax.specs.Limits.{nesting};
 
-// How deep a byte stands, by the parentheses open before it and behind it: a parenthesis stands in what it opens or closes, so that
-// `()` counts.
-fn depth(before: u64, behind: u64) -> u64
-    ensures { result ≡ max before behind }
-{
-    if before < behind { behind } else { before }
-}
-
+// A parenthesis stands in what it opens or closes, so that `()` counts: a byte is as deep as the parentheses open before it or behind it.
 // A `)` that closes nothing is passed over.
 pub fn nesting(s: &[u8]) -> u64
     ensures { result ≡ nesting 0 s.now }
 {
     let mut open: u64 = 0;
     let mut most: u64 = 0;
-    let mut i = 0;
-    while i < s.len() {
+    for b in s {
         let before = open;
-        match s[i] {
+        match *b {
             b'(' => open += 1,
-            b')' => {
-                if 0 < open {
-                    open -= 1;
-                }
-            }
+            b')' => open = open.saturating_sub(1),
             _ => {}
         }
-        let here = depth(before, open);
-        if most < here {
-            most = here;
-        }
-        i += 1;
+        most = most.max(before.max(open));
     }
     most
 }

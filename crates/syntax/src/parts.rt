@@ -1,13 +1,13 @@
 // Parts of an expression as Glushkov's construction sees them.
 ghost use Rattle.std.specs.Prelude.{◌≡◌};
 ghost use Rattle.theory.specs.Places.{when};
-ghost use Rattle.syntax.specs.Part.{unit, nothing, fault, single, either, both, ended};
+ghost use Rattle.syntax.specs.Part.{unit, nothing, single, either, both, ended};
 
 use places::Places;
 
 // What reading a part of an expression gives: where it ends in the text, the number of the next place, whether it has the empty path,
 // and the places that can be read first and last in it.
-#[derive(Clone, Copy)]
+#[derive(Clone, Copy, Debug, PartialEq, Eq)]
 pub struct Part {
     pub at: usize,
     pub next: u64,
@@ -23,24 +23,14 @@ pub fn when(holds: bool, places: Places) -> Places
     if holds { places } else { Places::EMPTY }
 }
 
-// The number of the next place where there is no part.
-const NOWHERE: u64 = 18446744073709551615;
-
 impl Part {
-    // What is read where no part stands, or one with a place too many: the number of its next place is beyond all places.
-    pub fn fault(at: usize) -> Part
-        ensures { result ≡ fault at }
-    {
-        Part::unit(at, NOWHERE)
-    }
-
     // `()`, which has no place.
     pub fn unit(at: usize, next: u64) -> Part
         ensures { result ≡ unit at next }
     {
         Part {
-            at: at,
-            next: next,
+            at,
+            next,
             nullable: true,
             first: Places::EMPTY,
             last: Places::EMPTY,
@@ -52,8 +42,8 @@ impl Part {
         ensures { result ≡ nothing at next }
     {
         Part {
-            at: at,
-            next: next,
+            at,
+            next,
             nullable: false,
             first: Places::EMPTY,
             last: Places::EMPTY,
@@ -65,8 +55,8 @@ impl Part {
         ensures { result ≡ single at next place }
     {
         Part {
-            at: at,
-            next: next,
+            at,
+            next,
             nullable: false,
             first: place,
             last: place,
@@ -77,34 +67,19 @@ impl Part {
     pub fn ending(self, at: usize) -> Part
         ensures { result ≡ ended at self.nullable self }
     {
-        let first = self.first;
-        let last = self.last;
-        Part {
-            at: at,
-            next: self.next,
-            nullable: self.nullable,
-            first: first,
-            last: last,
-        }
+        Part { at, ..self }
     }
 
     // This part or the one read after it.
     pub fn either(self, right: Part) -> Part
         ensures { result ≡ either self right }
     {
-        let left_first = self.first;
-        let left_last = self.last;
-        let right_first = right.first;
-        let right_last = right.last;
-        let first = left_first.union(right_first);
-        let last = left_last.union(right_last);
-        let nullable = self.nullable || right.nullable;
         Part {
             at: right.at,
             next: right.next,
-            nullable: nullable,
-            first: first,
-            last: last,
+            nullable: self.nullable || right.nullable,
+            first: self.first.union(right.first),
+            last: self.last.union(right.last),
         }
     }
 
@@ -112,19 +87,12 @@ impl Part {
     pub fn both(self, right: Part) -> Part
         ensures { result ≡ both self right }
     {
-        let left_first = self.first;
-        let left_last = self.last;
-        let right_first = right.first;
-        let right_last = right.last;
-        let first = left_first.union(when(self.nullable, right_first));
-        let last = when(right.nullable, left_last).union(right_last);
-        let nullable = self.nullable && right.nullable;
         Part {
             at: right.at,
             next: right.next,
-            nullable: nullable,
-            first: first,
-            last: last,
+            nullable: self.nullable && right.nullable,
+            first: self.first.union(when(self.nullable, right.first)),
+            last: when(right.nullable, self.last).union(right.last),
         }
     }
 }

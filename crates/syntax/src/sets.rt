@@ -1,20 +1,9 @@
 // Tables of sets of places, in lent slices: an entry is a set. A store beyond the table's end does nothing.
-ghost use Rattle.std.specs.Prelude.{◌≡◌, length, set, get_or, replicate};
+ghost use Rattle.std.specs.Prelude.{◌≡◌, set, get_or};
 ghost use Rattle.theory.specs.Places.{union};
 ghost use Rattle.theory.specs.Automaton.{link};
 
 use places::Places;
-
-// Makes each entry the empty set.
-pub fn clear(table: &mut [u64])
-    ensures { table.new ≡ replicate (length table.old) 0 }
-{
-    let mut i = 0;
-    while i < table.len() {
-        table[i] = 0;
-        i += 1;
-    }
-}
 
 // Makes an entry the given set.
 pub fn put(table: &mut [u64], index: u64, places: Places)
@@ -32,7 +21,7 @@ pub fn add(table: &mut [u64], index: u64, places: Places)
 {
     let i = index as usize;
     if i < table.len() {
-        table[i] = table[i] | places.0;
+        table[i] |= places.0;
     }
 }
 
@@ -40,9 +29,7 @@ pub fn add(table: &mut [u64], index: u64, places: Places)
 pub fn link(table: &mut [u64], ends: Places, more: Places)
     ensures { table.new ≡ link ends.0 more.0 0 table.old }
 {
-    let mut rest = ends.0;
-    while rest != 0 {
-        add(table, u64::trailing_zeros(rest) as u64, more);
-        rest = rest & (rest - 1);
+    for place in ends.members() {
+        add(table, place as u64, more);
     }
 }

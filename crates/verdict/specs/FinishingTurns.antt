@@ -3,76 +3,34 @@
 use Rattle.std.specs.Prelude.{◌≡◌, ℕ, ◌+◌, ◌*◌, ◌/◌, ◌%◌, ◌^◌, ◌<◌, ◌≤◌, Bool, true, ◌↔◌, List, length, slice_index, slice_index_or, slice_set}
 use Rattle.std.specs.Prelude.{refl}
 use Rattle.std.proofs.Common.{sym, ap, ◌∙◌, subst, mul_comm, arith, length-set, pow_pos, get_or-set_same, get_or-set_other, below_more}
-use Rattle.std.proofs.Math.Decide.{ℕ_discrete, dec_lt}
-use Rattle.std.proofs.Math.ListN.{get_or-eq_default}
+use Rattle.std.proofs.Math.Decide.{dec_lt}
 use Rattle.theory.specs.Places.{Member}
 use Rattle.theory.specs.PlacesLaws.{member-none, member_below}
 use Rattle.places.specs.Words.{number_of, Words}
 use Rattle.places.specs.WordsLaws.{member-number}
 use Rattle.verdict.specs.Columns.{LeadsIn, Passing, Finishing}
 
--- The words of the state 0, as four words: those from j on are given.
-pub record FirstFrom (k : ℕ) (passes first : List ℕ) (j : ℕ) : Type 0 where
-  pub given : (i : ℕ) → j ≤ i → i < 4 → i < k → slice_index first i ≡ slice_index passes i
-  pub empty : (i : ℕ) → j ≤ i → i < 4 → k ≤ i → slice_index first i ≡ 0
-  pub small : (i : ℕ) → j ≤ i → i < 4 → slice_index first i < 2 ^ 64
-
-pub first-start : (k : ℕ) (passes first : List ℕ) → FirstFrom k passes first 4
-first-start k passes first =
-    record {
-      given = λ i h l a. absurd (omega arith);
-      empty = λ i h l a. absurd (omega arith);
-      small = λ i h l. absurd (omega arith);
-    }
-
-pub first-turn : (k : ℕ) (passes first : List ℕ) (j next word : ℕ) → next ≡ j + 1 → j < length first → (j < k → word ≡ slice_index passes j)
-    → (k ≤ j → word ≡ 0) → word < 2 ^ 64 → FirstFrom k passes first next → FirstFrom k passes (slice_set first j word) j
-first-turn k passes first j next word turn room low high fits l =
-    record {
-      given = λ i h b a. word-given i h b a (ℕ_discrete i j);
-      empty = λ i h b a. word-empty i h b a (ℕ_discrete i j);
-      small = λ i h b. word_small i h b (ℕ_discrete i j);
-    }
-  where
-    new : (i : ℕ) → i ≡ j → slice_index (slice_set first j word) i ≡ word
-    new i e = ap (λ (z : ℕ). slice_index (slice_set first j word) z) e ∙ get_or-set_same first j word 0 room
-
-    word-given : (i : ℕ) → j ≤ i → i < 4 → i < k → Dec (i ≡ j) → slice_index (slice_set first j word) i ≡ slice_index passes i
-    word-given i h b a (yes e) = new i e ∙ low (omega arith) ∙ ap (λ (z : ℕ). slice_index passes z) (sym e)
-    word-given i h b a (no d) = get_or-set_other first j i word 0 d ∙ l.given i (omega arith) b a
-
-    word-empty : (i : ℕ) → j ≤ i → i < 4 → k ≤ i → Dec (i ≡ j) → slice_index (slice_set first j word) i ≡ 0
-    word-empty i h b a (yes e) = new i e ∙ high (omega arith)
-    word-empty i h b a (no d) = get_or-set_other first j i word 0 d ∙ l.empty i (omega arith) b a
-
-    word_small : (i : ℕ) → j ≤ i → i < 4 → Dec (i ≡ j) → slice_index (slice_set first j word) i < 2 ^ 64
-    word_small i h b (yes e) = subst (λ (z : ℕ). z < 2 ^ 64) (sym (new i e)) fits
-    word_small i h b (no d) = subst (λ (z : ℕ). z < 2 ^ 64) (sym (get_or-set_other first j i word 0 d)) (l.small i (omega arith) b)
-
-pub first-end : (k : ℕ) (passes first : List ℕ) (j : ℕ) → j ≡ 0 → k ≤ 4 → length first ≡ 4 → FirstFrom k passes first j
-    → (t : ℕ) → Member t (number_of first) ↔ LeadsIn k passes 0 t
-first-end k passes first j e few size l t = (
+-- The words of the state 0, as four words, the first k of which are given.
+pub first-copied : (k : ℕ) (passes first : List ℕ) → Words passes → ((i : ℕ) → i < k → slice_index first i ≡ slice_index passes i)
+    → ((i : ℕ) → k ≤ i → slice_index first i ≡ 0) → (t : ℕ) → Member t (number_of first) ↔ LeadsIn k passes 0 t
+first-copied k passes first fits given empty t = (
   λ m. there ((member-number first words t).0 m) (dec_lt (t / 64) k),
   λ (h, m). (member-number first words t).1 (subst (Member (t % 64)) (sym (word h)) m),
 )
   where
     words : Words first
-    words i = side (dec_lt i 4)
+    words i = side (dec_lt i k)
       where
-        side : Dec (i < 4) → slice_index first i < 2 ^ 64
-        side (yes h) = l.small i (omega arith) h
-        side (no h) = subst (λ (z : ℕ). z < 2 ^ 64) (sym (get_or-eq_default first 0 (omega (arith, size)))) (pow_pos 64)
+        side : Dec (i < k) → slice_index first i < 2 ^ 64
+        side (yes h) = subst (λ (z : ℕ). z < 2 ^ 64) (sym (given i h)) (fits i)
+        side (no h) = subst (λ (z : ℕ). z < 2 ^ 64) (sym (empty i (omega arith))) (pow_pos 64)
 
     word : t / 64 < k → slice_index first (t / 64) ≡ slice_index passes (k * 0 + t / 64)
-    word h = l.given (t / 64) (omega arith) (omega arith) h ∙ ap (λ (z : ℕ). slice_index passes z) (omega (arith, mul_comm k 0))
-
-    past : ¬ (t / 64 < k) → Dec (t / 64 < 4) → slice_index first (t / 64) ≡ 0
-    past d (yes h) = l.empty (t / 64) (omega arith) h (omega arith)
-    past d (no h) = get_or-eq_default first 0 (omega (arith, size))
+    word h = given (t / 64) h ∙ ap (λ (z : ℕ). slice_index passes z) (omega (arith, mul_comm k 0))
 
     there : Member (t % 64) (slice_index first (t / 64)) → Dec (t / 64 < k) → LeadsIn k passes 0 t
     there m (yes h) = (h, subst (Member (t % 64)) (word h) m)
-    there m (no d) = absurd (member-none (t % 64) (subst (Member (t % 64)) (past d (dec_lt (t / 64) 4)) m))
+    there m (no d) = absurd (member-none (t % 64) (subst (Member (t % 64)) (empty (t / 64) (omega arith)) m))
 
 -- The entries of the states before p, for the list v, are those of the next states; no other entry is changed.
 pub record EntriesBefore (states v : ℕ) (table passes ended ended' : List ℕ) (p : ℕ) : Type 0 where

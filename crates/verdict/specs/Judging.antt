@@ -1,6 +1,6 @@
 -- The answers of the verdict's functions are the definition's (VerdictTold): the first missed pair of those held and its path, and the four
 -- ways through the verdict.
-use Rattle.std.specs.Prelude.{◌≡◌, ℕ, suc, ◌+◌, ◌-◌, ◌*◌, ◌<◌, ◌≤◌, List, reverse, length, take, drop, ◌≢◌, slice_index}
+use Rattle.std.specs.Prelude.{◌≡◌, ℕ, suc, ◌+◌, ◌-◌, ◌*◌, ◌<◌, ◌≤◌, List, reverse, length, take, drop, ◌≢◌, slice_index, Option as Maybe, Some, None, Result, Ok, Err}
 use Rattle.std.proofs.Math.Option.{Option, some, none}
 use Rattle.std.proofs.Math.Path.{refl, sym, ap, subst}
 use Rattle.std.proofs.Common.{◌∙◌, arith, length-drop, ext_get_or, get_or-drop, le-leb}
@@ -20,13 +20,12 @@ use Rattle.verdict.specs.TablesLaws.{width-exactly}
 use Rattle.verdict.specs.Coded.{Sided}
 use Rattle.verdict.specs.PairsTold.{Lent, Lending, PairsCase, SearchTold}
 use Rattle.verdict.specs.PathTold.{DepthTold, PathWritten}
-use Rattle.verdict.specs.Missing.{gap, Yields, FirstTold, none-missed, some-missed}
+use Rattle.verdict.specs.Missing.{gap, Yields, FirstAt, none-missed, some-missed}
 use Rattle.verdict.specs.Verdict.{refused, verdict}
 use Rattle.verdict.specs.VerdictTold.{told_of, PathAfter, Fit, verdict_of, VerdictTold, Placed, JudgedAs, Judged}
-use Rattle.verdict.specs.declared.pairs.Explored.{Explored}
-use Rattle.verdict.specs.declared.pairs.Explored.TheVariants.{All, Over}
-use Rattle.verdict.specs.declared.verdict.Told.{Told}
-use Rattle.verdict.specs.declared.verdict.Told.TheVariants.{Complete, Missed, Refused}
+use Rattle.syntax.specs.declared.refusal.Refusal.{Refusal}
+use Rattle.verdict.specs.declared.verdict.Verdict.{Verdict as Told}
+use Rattle.verdict.specs.declared.verdict.Verdict.TheVariants.{Complete, Missed}
 
 -- Lists that agree from d on.
 pub same_rest : (d : ℕ) (l m : List ℕ) → length l ≡ length m → ((n : ℕ) → d ≤ n → slice_index l n ≡ slice_index m n) → drop d l ≡ drop d m
@@ -37,12 +36,12 @@ same_rest d l m e h =
 -- The pairs held are judged.
 
 module _ (states : ℕ) (flags : List ℕ) (w c ends n : ℕ) (space path yields : List ℕ) (i : ℕ)
-    (yielded : Yields flags (gap c w) states yields) (first : FirstTold n space ends (number_of yields) i) where
+    (yielded : Yields flags (gap c w) states yields) (first : FirstAt n space ends (number_of yields) i) where
   first_of : (A : Automaton) (table : List ℕ) (lists : List Automaton) → A.accepting ≡ ends → width lists ≡ w
-      → FirstTold n space A.accepting (yielding (rewritten states table flags) (gap c (width lists)) states) i
+      → FirstAt n space A.accepting (yielding (rewritten states table flags) (gap c (width lists)) states) i
   first_of A table lists e f =
-      subst (λ x. FirstTold n space x (yielding (rewritten states table flags) (gap c (width lists)) states) i) (sym e)
-      (subst (λ x. FirstTold n space ends x i) (yielded.told states table ∙ ap (λ x. yielding (rewritten states table flags) (gap c x) states) (sym f)) first)
+      subst (λ x. FirstAt n space x (yielding (rewritten states table flags) (gap c (width lists)) states) i) (sym e)
+      (subst (λ x. FirstAt n space ends x i) (yielded.told states table ∙ ap (λ x. yielding (rewritten states table flags) (gap c x) states) (sym f)) first)
 
   pub judged-none : i ≡ n → Judged states flags w c ends n space path (Complete n) path
   judged-none q =
@@ -114,7 +113,7 @@ module _ (D : Lent) (flags : List ℕ) (most allowance : ℕ) where
       }
 
   -- Nothing is promised.
-  pub told-unfit : (space path : List ℕ) (r : Told) → ¬ Fit D flags → VerdictTold D flags most allowance space path r space path
+  pub told-unfit : (space path : List ℕ) (r : Result Told Refusal) → ¬ Fit D flags → VerdictTold D flags most allowance space path r space path
   told-unfit space path r h =
       record {
         answer = λ f. absurd (h f);
@@ -125,7 +124,7 @@ module _ (D : Lent) (flags : List ℕ) (most allowance : ℕ) where
 
   -- There are too many places.
   pub told-places : (space path : List ℕ) → Placed D.states D.lists D.sizes most 0
-      → VerdictTold D flags most allowance space path (Refused TooManyPlaces) space path
+      → VerdictTold D flags most allowance space path (Err TooManyPlaces) space path
   unfolding verdict
   told-places space path p =
       record {
@@ -149,8 +148,8 @@ module _ (D : Lent) (flags : List ℕ) (most allowance : ℕ) where
     lending f = fit-lending f (omega (arith, few-places f, (placed.few some-width).1))
 
     -- There are too many pairs.
-    pub told-pairs : (c : ℕ) (space path : List ℕ) (r : Explored) (space' : List ℕ) → SearchTold D c allowance space r space' → r ≡ Over
-        → VerdictTold D flags most allowance space path (Refused TooManyPairs) space' path
+    pub told-pairs : (c : ℕ) (space path : List ℕ) (r : Maybe ℕ) (space' : List ℕ) → SearchTold D c allowance space r space' → r ≡ None
+        → VerdictTold D flags most allowance space path (Err TooManyPairs) space' path
     unfolding verdict PairsCase
     told-pairs c space path r space' t e =
         record {
@@ -167,10 +166,10 @@ module _ (D : Lent) (flags : List ℕ) (most allowance : ℕ) where
             rw (le-leb (places rewriting lists) most (within f), verdict, o)
 
     -- All pairs are found, and judged.
-    pub told-judged : (c : ℕ) (space path : List ℕ) (r : Explored) (space' : List ℕ) (m : ℕ) (answer : Told) (path' : List ℕ)
-        → SearchTold D c allowance space r space' → r ≡ All m
+    pub told-judged : (c : ℕ) (space path : List ℕ) (r : Maybe ℕ) (space' : List ℕ) (m : ℕ) (answer : Told) (path' : List ℕ)
+        → SearchTold D c allowance space r space' → r ≡ Some m
         → Judged D.states flags w c (slice_index D.accepting 0) m space' path answer path'
-        → VerdictTold D flags most allowance space path answer space' path'
+        → VerdictTold D flags most allowance space path (Ok answer) space' path'
     unfolding verdict PairsCase
     told-judged c space path r space' m answer path' t e j =
         record {
@@ -181,7 +180,7 @@ module _ (D : Lent) (flags : List ℕ) (most allowance : ℕ) where
         }
       where
         final : Fit D flags → allowance ≤ 4096 → 18 * allowance ≤ length space → allowance ≤ length path
-            → (answer ≡ told_of (verdict_of D flags most allowance)) × PathAfter path path' (verdict_of D flags most allowance)
+            → (Ok answer ≡ told_of (verdict_of D flags most allowance)) × PathAfter path path' (verdict_of D flags most allowance)
         final f a s k =
             let (l, o, held, count) = subst (PairsCase D t.layout flags allowance space') e (t.told.told (lending f) a s flags) in
             go l o count (first_missed query rewriting lists l) refl
@@ -190,9 +189,9 @@ module _ (D : Lent) (flags : List ℕ) (most allowance : ℕ) where
           where
             go : (l : List (Entry Pair)) → pairs query D.labels rewriting lists allowance ≡ all l → length l ≡ m
                 → (p : Option Path) → first_missed query rewriting lists l ≡ p → JudgedAs m path answer path' p
-                → (answer ≡ told_of (verdict_of D flags most allowance)) × PathAfter path path' (verdict_of D flags most allowance)
+                → (Ok answer ≡ told_of (verdict_of D flags most allowance)) × PathAfter path path' (verdict_of D flags most allowance)
             go l o count none q x =
-                rw (le-leb (places rewriting lists) most (within f), verdict, o, q) (x.0 ∙ ap Complete (sym count), x.1)
+                rw (le-leb (places rewriting lists) most (within f), verdict, o, q) (ap Ok (x.0 ∙ ap Complete (sym count)), x.1)
             go l o count (some p) q x =
                 rw (le-leb (places rewriting lists) most (within f), verdict, o, q)
-                (x.0 ∙ ap (Missed (length p)) (sym count), (x.1, x.2))
+                (ap Ok (x.0 ∙ ap (Missed (length p)) (sym count)), (x.1, x.2))

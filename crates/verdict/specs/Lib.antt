@@ -75,6 +75,8 @@ pub mod Workspace
 pub mod PairIndex
 pub mod PairIndexLaws
 pub mod PairsTold
+pub mod Ways
+pub mod LentTables
 pub mod Searches
 pub mod PairRows
 pub mod PathTold

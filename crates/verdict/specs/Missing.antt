@@ -1,5 +1,5 @@
 -- The first pair whose paths are missed, among the pairs held in a workspace (PairTable).
-use Rattle.std.specs.Prelude.{◌≡◌, ℕ, zero, suc, ◌+◌, ◌*◌, ◌^◌, ◌<◌, ◌≤◌, Bool, true, false, not, ◌&&◌, ◌↔◌, List, [], ◌∷◌, reverse, length, ◌==◌, ◌≢◌, slice_index, slice_index_or}
+use Rattle.std.specs.Prelude.{◌≡◌, ℕ, zero, suc, ◌+◌, ◌*◌, ◌^◌, ◌<◌, ◌≤◌, Bool, true, false, not, ◌&&◌, ◌↔◌, List, [], ◌∷◌, reverse, length, ◌==◌, ◌≢◌, slice_index, slice_index_or, Option, MatchOption}
 use Rattle.std.proofs.Math.Option.{some, none}
 use Rattle.std.proofs.Math.Path.{refl}
 use Rattle.std.proofs.Common.{sym, ap, ap₂, ◌∙◌, subst, mul-le-mul_right, mul_comm, mul-suc, mul-zero, one-mul, add-one, lit<, shl_exact, eq-eqb, ne_eqb}
@@ -114,10 +114,14 @@ misses-coded R w ends c L least side x y e =
     (stands-yields R w c L x.cover y.cover least side e.cover))
 
 -- The first of n pairs whose paths are missed; n where there is none.
-pub record FirstTold (n : ℕ) (space : List ℕ) (ends yields r : ℕ) : Type 0 where
+pub record FirstAt (n : ℕ) (space : List ℕ) (ends yields r : ℕ) : Type 0 where
   pub inside : r ≤ n
   pub before : (k : ℕ) → k < r → misses_with ends yields (pair_at space k) ≡ false
   pub here : r < n → misses_with ends yields (pair_at space r) ≡ true
+
+-- The first one, if there is one.
+abbrev pub FirstTold : ℕ → List ℕ → ℕ → ℕ → Option ℕ → Type 0
+FirstTold n space ends yields r = MatchOption r (FirstAt n space ends yields n) (λ i. (i < n) × FirstAt n space ends yields i)
 
 -- The same on entries.
 
@@ -137,7 +141,7 @@ module _ (A : Automaton) (R : Rewritten) (lists : List Automaton) where
 
   module _ (c : ℕ) (L : Layout) (side : Sided c (width lists) L) (S : System Pair) (space : List ℕ) (l : List (Entry Pair))
       (held : Holds L R.states S space l) (n : ℕ) (count : length l ≡ n) (r : ℕ)
-      (told : FirstTold n space A.accepting (yielding R (gap c (width lists)) R.states) r) where
+      (told : FirstAt n space A.accepting (yielding R (gap c (width lists)) R.states) r) where
     some-width : 0 < width lists
     unfolding width
     some-width = omega arith
@@ -157,16 +161,3 @@ module _ (A : Automaton) (R : Rewritten) (lists : List Automaton) where
         let b : r < length l = omega (arith, count) in
         first_some l (record { value = S.start; trail = [] }) r b (λ k c. misses-at k (omega arith) ∙ told.before k c)
         (misses-at r b ∙ told.here h)
-
--- The three ways through the test.
-
-pub misses-dead : (ends yields : ℕ) (x : Pair) → intersection x.standing ends ≡ 0 → misses_with ends yields x ≡ false
-misses-dead ends yields x e = ap (λ b. not b && intersection x.cover yields == 0) (eq-eqb (intersection x.standing ends) 0 e)
-
-pub misses-alive : (ends yields : ℕ) (x : Pair) → (intersection x.standing ends ≢ 0)
-    → misses_with ends yields x ≡ (intersection x.cover yields == 0)
-misses-alive ends yields x d = ap (λ b. not b && intersection x.cover yields == 0) (ne_eqb (intersection x.standing ends) 0 d)
-
-pub not-not : (a b : Bool) → a ≡ not b → b ≡ not a
-not-not a true e = sym (ap not e)
-not-not a false e = sym (ap not e)

@@ -1,12 +1,10 @@
 -- An index of the pairs in a workspace (PairTable), by which a pair is found again (finding: Buckets): 4,093 buckets.
-use Rattle.std.specs.Prelude.{◌≡◌, ℕ, zero, suc, ◌+◌, ◌*◌, ◌/◌, ◌%◌, ◌^◌, ◌<◌, List, bit_xor}
+use Rattle.std.specs.Prelude.{◌≡◌, ℕ, zero, suc, ◌+◌, ◌*◌, ◌/◌, ◌%◌, ◌^◌, ◌<◌, List, bit_xor, Option, Some}
 use Rattle.theory.specs.Places.{union}
 use Rattle.places.specs.Words.{number_of}
 use Rattle.finding.specs.Buckets.{Chained}
 use Rattle.verdict.specs.Pairs.{Pair}
 use Rattle.verdict.specs.PairTable.{words_at, pair_at}
-use Rattle.verdict.specs.declared.pairs.Explored.{Explored}
-use Rattle.verdict.specs.declared.pairs.Explored.TheVariants.{All}
 
 -- A word of 64 bits rotated by 23 places: what leaves it at the upper end comes in at the lower.
 abbrev pub rotated : ℕ → ℕ
@@ -29,13 +27,13 @@ pub record Indexed (space : List ℕ) (n : ℕ) (heads nexts : List ℕ) : Type 
   pub chained : Chained bucket_of 4093 4096 (pair_at space) n heads nexts
 
 -- As many pairs as are told are indexed.
-abbrev pub IndexedAll : (space heads nexts : List ℕ) → Explored → Type 0
-IndexedAll space heads nexts r = (m : ℕ) → r ≡ All m → Indexed space m heads nexts
+abbrev pub IndexedAll : (space heads nexts : List ℕ) → Option ℕ → Type 0
+IndexedAll space heads nexts r = (m : ℕ) → r ≡ Some m → Indexed space m heads nexts
 
 -- The cover sets of the first n pairs stand in their first `used` words.
 pub record Short (used : ℕ) (space : List ℕ) (n : ℕ) : Type 0 where
   pub below : (i : ℕ) → i < n → number_of (words_at space (18 * i + 1) 16) < 2 ^ (64 * used)
 
 -- Those of as many pairs as are told do.
-abbrev pub ShortAll : (used : ℕ) (space : List ℕ) → Explored → Type 0
-ShortAll used space r = (m : ℕ) → r ≡ All m → Short used space m
+abbrev pub ShortAll : (used : ℕ) (space : List ℕ) → Option ℕ → Type 0
+ShortAll used space r = (m : ℕ) → r ≡ Some m → Short used space m

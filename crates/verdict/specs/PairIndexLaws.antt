@@ -1,6 +1,6 @@
 -- The laws of the index of pairs (PairIndex): the bucket is computed word by word, the index grows with the pairs, and the walk along a
 -- chain finds a pair that is among them (finding: BucketsLaws).
-use Rattle.std.specs.Prelude.{◌≡◌, ℕ, zero, suc, ◌+◌, ◌-◌, ◌*◌, ◌/◌, ◌%◌, ◌^◌, ◌<◌, ◌≤◌, true, false, List, [], ◌∷◌, length, drop, replicate, bit_xor, slice_index, slice_index_or}
+use Rattle.std.specs.Prelude.{◌≡◌, ℕ, zero, suc, ◌+◌, ◌-◌, ◌*◌, ◌/◌, ◌%◌, ◌^◌, ◌<◌, ◌≤◌, true, false, List, [], ◌∷◌, length, drop, replicate, bit_xor, slice_index, slice_index_or, Some, None}
 use Rattle.std.proofs.Common.{true≢false, sym, ap, ap₂, ◌∙◌, subst, subst₂, arith, below_none, below_more}
 use Rattle.std.proofs.lemmas.Bool.{false≢true}
 use Rattle.std.specs.Prelude.{refl}
@@ -13,7 +13,6 @@ use Rattle.verdict.specs.PairTableLaws.{stored-pair, other-pair}
 use Rattle.verdict.specs.Workspace.{pair}
 use Rattle.verdict.specs.WordBits.{number_past}
 use Rattle.verdict.specs.PairIndex.{rotated, mix_of, bucket_of, Indexed, IndexedAll, Short, ShortAll}
-use Rattle.verdict.specs.declared.pairs.Explored.TheVariants.{All, Over}
 
 pub bucket-below : (x : Pair) → bucket_of x < 4093
 unfolding bucket_of
@@ -85,10 +84,10 @@ pub indexed-same : {space space' heads heads' nexts nexts' : List ℕ} {n n' : �
 indexed-same {space} {heads'} {nexts'} {n} e p q z old =
     subst₂ (λ l k. Indexed l k heads' nexts') (sym e) (sym z) (subst₂ (Indexed space n) (sym p) (sym q) old)
 
-pub indexed-all : {space heads nexts : List ℕ} {n : ℕ} → Indexed space n heads nexts → IndexedAll space heads nexts (All n)
+pub indexed-all : {space heads nexts : List ℕ} {n : ℕ} → Indexed space n heads nexts → IndexedAll space heads nexts (Some n)
 indexed-all {space} {heads} {nexts} {n} old m e = let z : n ≡ m = cc in subst (λ k. Indexed space k heads nexts) z old
 
-pub indexed-over : {space heads nexts : List ℕ} → IndexedAll space heads nexts Over
+pub indexed-over : {space heads nexts : List ℕ} → IndexedAll space heads nexts None
 indexed-over m e = let z : ◌≡◌ {A = ℕ} 0 1 = cc in absurd (omega arith)
 
 -- No pair is in the workspace.
@@ -108,10 +107,10 @@ short-more {space} {m} {cover} {space'} s sized {used} h old =
 pub short-same : {used : ℕ} {space space' : List ℕ} {n n' : ℕ} → space' ≡ space → n' ≡ n → Short used space n → Short used space' n'
 short-same {used} e z old = subst₂ (Short used) (sym e) (sym z) old
 
-pub short-all : {used : ℕ} {space : List ℕ} {n : ℕ} → Short used space n → ShortAll used space (All n)
+pub short-all : {used : ℕ} {space : List ℕ} {n : ℕ} → Short used space n → ShortAll used space (Some n)
 short-all {used} {space} {n} old m e = let z : n ≡ m = cc in subst (Short used space) z old
 
-pub short-over : {used : ℕ} {space : List ℕ} → ShortAll used space Over
+pub short-over : {used : ℕ} {space : List ℕ} → ShortAll used space None
 short-over m e = let z : ◌≡◌ {A = ℕ} 0 1 = cc in absurd (omega arith)
 
 -- What the walk along the chain of x's bucket ends with.

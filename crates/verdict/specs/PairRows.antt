@@ -1,5 +1,5 @@
 -- What the loops of the exploration of pairs keep, and what one turn of each does: what is left gives what the whole gives.
-use Rattle.std.specs.Prelude.{◌≡◌, ℕ, suc, ◌+◌, ◌-◌, ◌*◌, ◌<◌, ◌≤◌, Bool, true, false, not, List, [], ◌∷◌, ◌++◌, length, ◌≢◌, slice_index, slice_index_or}
+use Rattle.std.specs.Prelude.{◌≡◌, ℕ, suc, ◌+◌, ◌-◌, ◌*◌, ◌<◌, ◌≤◌, Bool, true, false, not, List, [], ◌∷◌, ◌++◌, length, ◌≢◌, slice_index, slice_index_or, Option, Some, None}
 use Rattle.std.proofs.Math.Path.{refl, sym, ap, subst}
 use Rattle.std.proofs.Common.{◌∙◌, add-one}
 use native.Mathlib.Omega.{arith}
@@ -20,8 +20,6 @@ use Rattle.verdict.specs.PairTableLaws.{same-words, earlier-entry, holds-first, 
 use Rattle.verdict.specs.Tables.{automaton_at, automata_of, rewritten}
 use Rattle.verdict.specs.Workspace.{pair}
 use Rattle.verdict.specs.PairsTold.{Lent, Lending, system_of, QueryStep, RowCase, RowTold, PairsCase, PairsTold}
-use Rattle.verdict.specs.declared.pairs.Explored.{Explored}
-use Rattle.verdict.specs.declared.pairs.Explored.TheVariants.{All, Over}
 
 -- The labels of the entry number i: the labels from a on are left, and m entries are found.
 pub record RowLeft (D : Lent) (L : Layout) (flags : List ℕ) (limit i a : ℕ) (l : List (Entry Pair)) (m : ℕ) (space : List ℕ) : Type 0 where
@@ -196,7 +194,7 @@ module _ (D : Lent) (L : Layout) (limit i n : ℕ) (space₀ : List ℕ) (a m : 
       }
 
   -- It is new, and there is no room.
-  pub row-exceeds : (r : Bool) → Seen m space (pair standing cover) r → r ≡ false → limit ≤ m → RowTold D L limit i n space₀ Over space
+  pub row-exceeds : (r : Bool) → Seen m space (pair standing cover) r → r ≡ false → limit ≤ m → RowTold D L limit i n space₀ None space
   unfolding RowCase
   row-exceeds r seen e full =
       record {
@@ -205,12 +203,12 @@ module _ (D : Lent) (L : Layout) (limit i n : ℕ) (space₀ : List ℕ) (a m : 
         told = λ p flags l held count. left_over p flags l held count r seen e full;
       }
     where
-      over-not-all : {k : ℕ} → Over ≢ All k
+      over-not-all : {k : ℕ} → None ≢ Some k
       over-not-all q = let z : ◌≡◌ {A = ℕ} 0 1 = cc in omega arith
 
 -- All labels are tried.
 pub row_told : (D : Lent) (L : Layout) (limit i n : ℕ) (space₀ : List ℕ) (a m : ℕ) (space : List ℕ) → RowLoop D L limit i n space₀ a m space → D.labels ≤ a
-    → RowTold D L limit i n space₀ (All m) space
+    → RowTold D L limit i n space₀ (Some m) space
 unfolding RowCase
 row_told D L limit i n space₀ a m space loop h =
     record {
@@ -267,7 +265,7 @@ sweep-start D L limit space₀ space cover room sized started stored =
     }
 
 module _ (D : Lent) (L : Layout) (limit : ℕ) (space₀ : List ℕ) (i n : ℕ) (space : List ℕ) (loop : SweepLoop D L limit space₀ i n space) (more : i < n)
-    (r : Explored) (space' : List ℕ) (told : RowTold D L limit i n space r space') where
+    (r : Option ℕ) (space' : List ℕ) (told : RowTold D L limit i n space r space') where
   beyond-both : (j : ℕ) → 18 * limit ≤ j → slice_index space' j ≡ slice_index space₀ j
   beyond-both j k = told.beyond j k ∙ loop.beyond j k
 
@@ -275,7 +273,7 @@ module _ (D : Lent) (L : Layout) (limit : ℕ) (space₀ : List ℕ) (i n : ℕ)
   fuel = omega (arith, loop.within)
 
   -- The entry number i is done.
-  pub sweep-turn : (m : ℕ) → r ≡ All m → length space' ≡ length space → SweepLoop D L limit space₀ (i + 1) m space'
+  pub sweep-turn : (m : ℕ) → r ≡ Some m → length space' ≡ length space → SweepLoop D L limit space₀ (i + 1) m space'
   unfolding RowCase
   sweep-turn m e kept =
       record {
@@ -300,7 +298,7 @@ module _ (D : Lent) (L : Layout) (limit : ℕ) (space₀ : List ℕ) (i n : ℕ)
       }
 
   -- There are more pairs than the limit.
-  pub sweep-exceeds : r ≡ Over → PairsTold D L limit space₀ Over space'
+  pub sweep-exceeds : r ≡ None → PairsTold D L limit space₀ None space'
   unfolding RowCase PairsCase pairs
   sweep-exceeds e =
       record {
@@ -316,7 +314,7 @@ module _ (D : Lent) (L : Layout) (limit : ℕ) (space₀ : List ℕ) (i n : ℕ)
 
 -- All entries are done.
 pub pairs-told : (D : Lent) (L : Layout) (limit : ℕ) (space₀ : List ℕ) (i n : ℕ) (space : List ℕ) → SweepLoop D L limit space₀ i n space → n ≤ i
-    → limit ≤ 4096 → 18 * limit ≤ length space₀ → PairsTold D L limit space₀ (All n) space
+    → limit ≤ 4096 → 18 * limit ≤ length space₀ → PairsTold D L limit space₀ (Some n) space
 unfolding PairsCase pairs
 pairs-told D L limit space₀ i n space loop h most room =
     record {
@@ -328,7 +326,7 @@ pairs-told D L limit space₀ i n space loop h most room =
     }
 
 -- What is told after the first pair is stored is told of the workspace before.
-pub told-before : (D : Lent) (L : Layout) (limit : ℕ) (space₀ space : List ℕ) (cover : List ℕ) (r : Explored) (space' : List ℕ) → 0 < limit
+pub told-before : (D : Lent) (L : Layout) (limit : ℕ) (space₀ space : List ℕ) (cover : List ℕ) (r : Option ℕ) (space' : List ℕ) → 0 < limit
     → Stored space₀ 0 1 cover 0 space → PairsTold D L limit space r space' → PairsTold D L limit space₀ r space'
 told-before D L limit space₀ space cover r space' room stored t =
     record {
@@ -338,7 +336,7 @@ told-before D L limit space₀ space cover r space' room stored t =
     }
 
 -- No pair is allowed.
-pub pairs-none : (D : Lent) (L : Layout) (limit : ℕ) (space : List ℕ) → limit ≡ 0 → PairsTold D L limit space Over space
+pub pairs-none : (D : Lent) (L : Layout) (limit : ℕ) (space : List ℕ) → limit ≡ 0 → PairsTold D L limit space None space
 unfolding PairsCase pairs
 pairs-none D L limit space e =
     record {
@@ -349,7 +347,7 @@ pairs-none D L limit space e =
 
 -- Nothing is promised.
 pub pairs-unfit : (D : Lent) (L : Layout) (limit : ℕ) (space : List ℕ) → (Lending D → limit ≤ 4096 → 18 * limit ≤ length space → ⊥)
-    → PairsTold D L limit space Over space
+    → PairsTold D L limit space None space
 pairs-unfit D L limit space h =
     record {
       few = λ k q. let z : ◌≡◌ {A = ℕ} 0 1 = cc in absurd (omega arith);

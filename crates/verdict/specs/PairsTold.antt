@@ -1,6 +1,6 @@
 -- What the exploration of pairs promises: the entries that `pairs` tells (Pairs) are held in the workspace (PairTable), the cover sets in some
 -- layout (Coded); or there are more pairs than the allowance.
-use Rattle.std.specs.Prelude.{◌≡◌, ℕ, suc, ◌+◌, ◌*◌, ◌<◌, ◌≤◌, List, length, take, slice_index, slice_index_or}
+use Rattle.std.specs.Prelude.{◌≡◌, ℕ, suc, ◌+◌, ◌*◌, ◌<◌, ◌≤◌, List, length, take, slice_index, slice_index_or, Option, Some, None}
 use Rattle.theory.specs.Automaton.{nexts, step}
 use Rattle.theory.specs.Exploration.{System, Entry, all, over, row}
 use Rattle.theory.specs.Explored.{entry_at}
@@ -8,8 +8,6 @@ use Rattle.verdict.specs.Pairs.{Pair, pair_system, pairs}
 use Rattle.verdict.specs.Tables.{automaton_at, automata_of, occupied, rewritten, Proper}
 use Rattle.verdict.specs.Coded.{Layout, Sided}
 use Rattle.verdict.specs.PairTable.{Holds}
-use Rattle.verdict.specs.declared.pairs.Explored.{Explored}
-use Rattle.verdict.specs.declared.pairs.Explored.TheVariants.{All, Over}
 
 -- What is lent: the automata of the query and of the lists in tables (Tables), and the table of a rewriting.
 pub record Lent : Type 0 where
@@ -58,42 +56,37 @@ pub record QueryStep (follow enter sizes : List ℕ) (a s r : ℕ) : Type 0 wher
 
 -- The labels of one entry.
 
-unfoldable pub RowCase : (D : Lent) (L : Layout) (flags : List ℕ) (limit i : ℕ) (l : List (Entry Pair)) (space' : List ℕ) → Explored → Type 0
-RowCase D L flags limit i l space' (All m) =
+unfoldable pub RowCase : (D : Lent) (L : Layout) (flags : List ℕ) (limit i : ℕ) (l : List (Entry Pair)) (space' : List ℕ) → Option ℕ → Type 0
+RowCase D L flags limit i l space' (Some m) =
     (more : List (Entry Pair)) × (row (system_of D flags) limit (entry_at (system_of D flags) l i) D.labels 0 l ≡ all more)
     × Holds L D.states (system_of D flags) space' more × (length more ≡ m)
-RowCase D L flags limit i l space' Over = row (system_of D flags) limit (entry_at (system_of D flags) l i) D.labels 0 l ≡ over
+RowCase D L flags limit i l space' None = row (system_of D flags) limit (entry_at (system_of D flags) l i) D.labels 0 l ≡ over
 
-pub record RowTold (D : Lent) (L : Layout) (limit i n : ℕ) (space : List ℕ) (r : Explored) (space' : List ℕ) : Type 0 where
-  pub bounds : (m : ℕ) → r ≡ All m → (n ≤ m) × (m ≤ limit)
+pub record RowTold (D : Lent) (L : Layout) (limit i n : ℕ) (space : List ℕ) (r : Option ℕ) (space' : List ℕ) : Type 0 where
+  pub bounds : (m : ℕ) → r ≡ Some m → (n ≤ m) × (m ≤ limit)
   pub beyond : (j : ℕ) → 18 * limit ≤ j → slice_index space' j ≡ slice_index space j
   pub told : Lending D → (flags : List ℕ) (l : List (Entry Pair)) → Holds L D.states (system_of D flags) space l
       → length l ≡ n → RowCase D L flags limit i l space' r
 
 -- All entries.
 
-unfoldable pub PairsCase : (D : Lent) (L : Layout) (flags : List ℕ) (limit : ℕ) (space' : List ℕ) → Explored → Type 0
-PairsCase D L flags limit space' (All m) =
+unfoldable pub PairsCase : (D : Lent) (L : Layout) (flags : List ℕ) (limit : ℕ) (space' : List ℕ) → Option ℕ → Type 0
+PairsCase D L flags limit space' (Some m) =
     (l : List (Entry Pair))
     × (pairs (automaton_at D.follow D.enter D.sizes D.accepting 0) D.labels (rewritten D.states D.table flags)
     (automata_of D.follow D.enter D.sizes D.accepting D.lists) limit ≡ all l)
     × Holds L D.states (system_of D flags) space' l × (length l ≡ m)
-PairsCase D L flags limit space' Over =
+PairsCase D L flags limit space' None =
     pairs (automaton_at D.follow D.enter D.sizes D.accepting 0) D.labels (rewritten D.states D.table flags)
     (automata_of D.follow D.enter D.sizes D.accepting D.lists) limit ≡ over
 
-pub record PairsTold (D : Lent) (L : Layout) (limit : ℕ) (space : List ℕ) (r : Explored) (space' : List ℕ) : Type 0 where
-  pub few : (m : ℕ) → r ≡ All m → (m ≤ limit) × (limit ≤ 4096) × (18 * limit ≤ length space)
+pub record PairsTold (D : Lent) (L : Layout) (limit : ℕ) (space : List ℕ) (r : Option ℕ) (space' : List ℕ) : Type 0 where
+  pub few : (m : ℕ) → r ≡ Some m → (m ≤ limit) × (limit ≤ 4096) × (18 * limit ≤ length space)
   pub beyond : (j : ℕ) → 18 * limit ≤ j → slice_index space' j ≡ slice_index space j
   pub told : Lending D → limit ≤ 4096 → 18 * limit ≤ length space → (flags : List ℕ) → PairsCase D L flags limit space' r
 
 -- The pairs are explored, in some layout: turned where c is not 0.
-pub record SearchTold (D : Lent) (c limit : ℕ) (space : List ℕ) (r : Explored) (space' : List ℕ) : Type 0 where
+pub record SearchTold (D : Lent) (c limit : ℕ) (space : List ℕ) (r : Option ℕ) (space' : List ℕ) : Type 0 where
   pub layout : Layout
   pub sided : Sided c (suc (occupied D.sizes 0 D.lists)) layout
   pub told : PairsTold D layout limit space r space'
-
--- They are explored where c is not 0, else nothing is done.
-pub record Searched (D : Lent) (c limit : ℕ) (space : List ℕ) (r : Explored) (space' : List ℕ) : Type 0 where
-  pub done : 0 < c → SearchTold D c limit space r space'
-  pub nothing : c ≡ 0 → space' ≡ space

@@ -1,5 +1,5 @@
 -- The pairs explored in the layout that the columns give (PairsTold, Coded), and words that are all zero.
-use Rattle.std.specs.Prelude.{◌≡◌, ℕ, zero, suc, ◌<◌, Bool, true, false, List, replicate, slice_index}
+use Rattle.std.specs.Prelude.{◌≡◌, ℕ, zero, suc, ◌<◌, Bool, true, false, List, replicate, slice_index, Option}
 use Rattle.std.specs.Prelude.{refl}
 use Rattle.std.proofs.Math.Decide.{dec_lt}
 use Rattle.std.proofs.Common.{arith}
@@ -8,7 +8,6 @@ use Rattle.std.proofs.Math.ListN.{get_or-eq_default}
 use Rattle.verdict.specs.Coded.{layout_of, Sided}
 use Rattle.verdict.specs.PairsTold.{Lent, PairsTold, SearchTold}
 use Rattle.verdict.specs.Tables.{occupied}
-use Rattle.verdict.specs.declared.pairs.Explored.{Explored}
 
 -- Sets stand turned where there are columns.
 sided : (w c : ℕ) (by : Bool) (classes : List ℕ) → Sided c w (layout_of w c by classes)
@@ -16,7 +15,7 @@ sided w zero by classes = refl
 sided w (suc c) false classes = (omega arith, refl)
 sided w (suc c) true classes = (omega arith, refl)
 
-pub told-search : {D : Lent} (c : ℕ) (by : Bool) (classes : List ℕ) {limit : ℕ} {space : List ℕ} {r : Explored} {space' : List ℕ}
+pub told-search : {D : Lent} (c : ℕ) (by : Bool) (classes : List ℕ) {limit : ℕ} {space : List ℕ} {r : Option ℕ} {space' : List ℕ}
     → PairsTold D (layout_of (suc (occupied D.sizes 0 D.lists)) c by classes) limit space r space'
     → SearchTold D c limit space r space'
 told-search {D} c by classes told =

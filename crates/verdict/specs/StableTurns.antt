@@ -1,9 +1,10 @@
 -- The loops that test whether classes of occurrences are stable (Classes): what they keep, turn by turn, and that it is what a step needs.
 -- `known` has the classes known so far, `merged` the classes that lead to each of them, `kind` the labels that enter it.
-use Rattle.std.specs.Prelude.{◌≡◌, ℕ, zero, suc, ◌+◌, ◌-◌, ◌*◌, ◌%◌, ◌^◌, ◌<◌, ◌≤◌, ◌≢◌, ◌⊎◌, ◌↔◌, List, length, slice_index, slice_index_or, slice_set}
+use Rattle.std.specs.Prelude.{◌≡◌, ℕ, zero, suc, ◌+◌, ◌-◌, ◌*◌, ◌%◌, ◌^◌, ◌<◌, ◌≤◌, ◌≢◌, ◌⊎◌, ◌↔◌, List, ◌++◌, length, take, slice_index, slice_index_or, slice_set}
 use Rattle.std.proofs.Common.{inl, inr, sym, ap, ◌∙◌, subst, arith, length-set, get_or-set_same, get_or-set_other}
 use Rattle.std.specs.Prelude.{refl}
 use Rattle.std.proofs.Math.Decide.{ℕ_discrete}
+use Rattle.std.proofs.lemmas.List.{get_or-take, get_or_append_left, get_or-append_right, length-take-le}
 use Rattle.std.proofs.lemmas.Nat.{and_mask}
 use Rattle.theory.specs.Places.{Member, one, union}
 use Rattle.theory.specs.PlacesLaws.{member-none, member-one, member_union, member-intersection}
@@ -184,28 +185,16 @@ pub record NoneEntered (merged merged' : List ℕ) : Type 0 where
   pub words : (i : ℕ) → i < 64 → slice_index merged' i ≡ slice_index merged i
   pub empty : (a : ℕ) → a < 64 → slice_index merged' (64 + a) ≡ 0
 
--- They are cleared from 64 to i.
-pub record ClearedTo (i : ℕ) (merged merged' : List ℕ) : Type 0 where
-  pub words : (j : ℕ) → j < 64 → slice_index merged' j ≡ slice_index merged j
-  pub empty : (a : ℕ) → 64 + a < i → slice_index merged' (64 + a) ≡ 0
-
-pub clear-start : (merged : List ℕ) → ClearedTo 64 merged merged
-clear-start merged = record { words = λ j h. refl; empty = λ a h. absurd (omega arith) }
-
-pub clear-turn : (i : ℕ) (merged₀ merged : List ℕ) → 64 ≤ i → i < length merged → ClearedTo i merged₀ merged
-    → ClearedTo (i + 1) merged₀ (slice_set merged i 0)
-clear-turn i merged₀ merged low room l =
+pub none-entered : (merged zeros rest : List ℕ) → 64 ≤ length merged → 64 ≤ length zeros → ((i : ℕ) → i < length zeros → slice_index zeros i ≡ 0)
+    → NoneEntered merged (take 64 merged ++ (zeros ++ rest))
+none-entered merged zeros rest room long zs =
     record {
-      words = λ j h. get_or-set_other merged i j 0 0 (λ e. omega arith) ∙ l.words j h;
-      empty = λ a h. side a h (ℕ_discrete (64 + a) i);
+      words = λ i h. get_or_append_left (take 64 merged) (zeros ++ rest) 0 i (omega (arith, length-take-le 64 merged room)) ∙ get_or-take 64 merged i 0 h;
+      empty = λ a h.
+          get_or-append_right (take 64 merged) (zeros ++ rest) 64 (64 + a) 0 (length-take-le 64 merged room) (omega arith)
+          ∙ get_or_append_left zeros rest 0 (64 + a - 64) (omega arith)
+          ∙ zs (64 + a - 64) (omega arith);
     }
-  where
-    side : (a : ℕ) → 64 + a < i + 1 → Dec (64 + a ≡ i) → slice_index (slice_set merged i 0) (64 + a) ≡ 0
-    side a h (yes e) = ap (λ (z : ℕ). slice_index (slice_set merged i 0) z) e ∙ get_or-set_same merged i 0 0 room
-    side a h (no e) = get_or-set_other merged i (64 + a) 0 0 e ∙ l.empty a (omega arith)
-
-pub clear-end : (i : ℕ) (merged merged' : List ℕ) → 128 ≤ i → ClearedTo i merged merged' → NoneEntered merged merged'
-clear-end i merged merged' h l = record { words = l.words; empty = λ a k. l.empty a (omega arith) }
 
 -- The entries from 64 on have the classes below k that each label enters; those before are kept.
 pub record EnteredBy (k : ℕ) (kind merged merged' : List ℕ) : Type 0 where

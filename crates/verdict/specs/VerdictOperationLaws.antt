@@ -1,5 +1,5 @@
 -- The steps of Verdict on a job text leave what it says (VerdictOperation).
-use Rattle.std.specs.Prelude.{◌≡◌, ℕ, ◌-◌, ◌*◌, ◌<◌, ◌≤◌, Bool, true, false, ◌&&◌, List, ◌++◌, map, length, take, drop, replicate, nat_le}
+use Rattle.std.specs.Prelude.{◌≡◌, ℕ, ◌-◌, ◌*◌, ◌<◌, ◌≤◌, Bool, true, false, ◌&&◌, List, ◌++◌, map, length, take, drop, replicate, nat_le, Result, Ok, Err}
 use Rattle.std.proofs.Common.{append_assoc, ap₂, ◌∙◌, arith, le-leb, take-append-drop, take_at}
 use Rattle.std.proofs.Math.Path.{refl, sym, ap, subst}
 use Rattle.std.proofs.lemmas.Bool.{lt-leb}
@@ -9,28 +9,26 @@ use Rattle.theory.specs.Automaton.{glushkov}
 use Rattle.syntax.specs.Byte.{Bytes}
 use Rattle.syntax.specs.declared.refusal.Refusal.{Refusal}
 use Rattle.syntax.specs.declared.refusal.Refusal.TheVariants.{BadAllowance, BufferTooShort}
-use Rattle.reading.specs.declared.answer.ReadAnswer.{ReadAnswer}
-use Rattle.reading.specs.declared.answer.ReadAnswer.TheVariants.{Job as Jobs, Refused as Refuses}
+use Rattle.reading.specs.declared.answer.Job.{Job as Counts}
+use Rattle.reading.specs.declared.answer.Refused.{Refused}
 use Rattle.reading.specs.JobText.{NamedJob, job_of}
 use Rattle.reading.specs.Read.{Reading, job, read}
 use Rattle.reading.specs.ReadFacts.{read-facts}
-use Rattle.reading.specs.Answering.{answer_of}
+use Rattle.reading.specs.Answering.{answer_of, counts, refused_at}
 use Rattle.reading.specs.Tables.{Tables}
 use Rattle.reading.specs.Loading.{Loaded}
-use Rattle.finding.specs.declared.answer.FindAnswer.{FindAnswer}
-use Rattle.finding.specs.declared.answer.Finding.TheVariants.{Found as Finding, Refused as Unfound}
+use Rattle.finding.specs.declared.answer.Found.{Found as Finding}
 use Rattle.finding.specs.Find.{Rewriting, Found, found, find, find_automata, refused as unfound}
 use Rattle.finding.specs.FoundSizes.{job-sizes}
 use Rattle.finding.specs.RowsFit.{RowsFit}
 use Rattle.finding.specs.Padded.{cleared-front, cleared-behind}
-use Rattle.finding.specs.Outcome.{left as find_left, left_by as find_left_by}
+use Rattle.finding.specs.Outcome.{left as find_left, left_by as find_left_by, found_answer, counted, refused_with as unfound_with}
+use Rattle.finding.specs.WordTold.{first_word}
 use Rattle.finding.specs.Named.{cleared, written}
 use Rattle.finding.specs.WrittenLaws.{written_behind}
 use Rattle.finding.specs.CoreTold.{CoreTold}
 use Rattle.finding.specs.Operation.{job-told, holding}
-use Rattle.verdict.specs.declared.operation.VerdictAnswer.{VerdictAnswer}
-use Rattle.verdict.specs.declared.operation.VerdictAnswer.TheVariants.{Complete, Missed, Refused}
-use Rattle.verdict.specs.declared.verdict.Told.{Told}
+use Rattle.verdict.specs.declared.verdict.Verdict.{Verdict as Told}
 use Rattle.verdict.specs.Verdict.{Verdict, complete, missed, refused}
 use Rattle.verdict.specs.VerdictLaws.{first-missed}
 use Rattle.verdict.specs.VerdictJob.{verdict_found, verdict_job}
@@ -38,7 +36,7 @@ use Rattle.verdict.specs.VerdictJobLaws.{JobTold, judged, verdict-job}
 use Rattle.verdict.specs.PairsTold.{lent}
 use Rattle.verdict.specs.VerdictTold.{told_of, PathAfter, VerdictTold}
 use Rattle.verdict.specs.Judging.{same_rest}
-use Rattle.verdict.specs.VerdictOperation.{Outcome, left, left_by, left_by_job, left_by_reading, allowed, enough, outcome}
+use Rattle.verdict.specs.VerdictOperation.{Outcome, left, refused_with, left_by, left_by_job, left_by_reading, allowed, enough, outcome}
 use Rattle.verdict.specs.VerdictOperation.{Sized, JobGiven, SomeJob, FoundTold, FindTold, Answered, AnsweredTold}
 use Rattle.verdict.specs.GivenTables.{given-verdict, given-fit}
 
@@ -49,7 +47,7 @@ clash z = absurd (omega arith)
 
 module _ {follow enter sizes accepting : List ℕ} {labels lists : ℕ} (long : RowsFit lists follow enter)
     (sizes-long : length sizes ≡ 17) (accepting-long : length accepting ≡ 17) where
-  pub found-told : {states : ℕ} {table flags : List ℕ} {allowance : ℕ} {path workspace : List ℕ} {r : Told} {path' workspace' : List ℕ}
+  pub found-told : {states : ℕ} {table flags : List ℕ} {allowance : ℕ} {path workspace : List ℕ} {r : Result Told Refusal} {path' workspace' : List ℕ}
       → Sized allowance table flags path workspace
       → VerdictTold (lent states labels lists follow enter sizes accepting (take (16 * states) table)) (take states flags) 1024 allowance
       workspace path r workspace' path'
@@ -90,7 +88,7 @@ module _ {J : Job} {follow enter sizes accepting : List ℕ} {labels lists : ℕ
             written_behind 256 R.flags flags (omega (arith, s.flags, s.few-states)),
           )
 
-module _ {follow enter sizes accepting : List ℕ} {labels lists : ℕ} {table flags : List ℕ} {f : FindAnswer} {table₁ flags₁ : List ℕ}
+module _ {follow enter sizes accepting : List ℕ} {labels lists : ℕ} {table flags : List ℕ} {f : Result Finding Refused} {table₁ flags₁ : List ℕ}
     (core : CoreTold follow enter sizes accepting labels lists 64 256 table flags f table₁ flags₁) where
   both_left : (J : Job) → JobGiven J follow enter sizes accepting labels lists → find_left f table₁ flags₁ ≡ find_left_by (find J) table flags
   unfolding find
@@ -103,31 +101,32 @@ module _ {follow enter sizes accepting : List ℕ} {labels lists : ℕ} {table f
   buffers-left J g = (ap (λ o. o.table) (both_left J g), ap (λ o. o.flags) (both_left J g))
 
   -- Where Find tells a number of states, it finds a rewriting of so many.
-  found-states : (J : Job) → JobGiven J follow enter sizes accepting labels lists → {m n : ℕ} → f.finding ≡ Finding m n
-      → (R : Rewriting) × (find J ≡ found R) × (R.states ≡ n)
+  found-states : (J : Job) → JobGiven J follow enter sizes accepting labels lists → {w : Finding} → f ≡ Ok w
+      → (R : Rewriting) × (find J ≡ found R) × (R.states ≡ w.states)
   unfolding find_left_by
-  found-states J g {m} {n} e = there (find J) refl
+  found-states J g {w} e = there (find J) refl
     where
-      there : (x : Found) → find J ≡ x → (R : Rewriting) × (find J ≡ found R) × (R.states ≡ n)
+      there : (x : Found) → find J ≡ x → (R : Rewriting) × (find J ≡ found R) × (R.states ≡ w.states)
       there (unfound r) q =
           let b : find_left f table₁ flags₁ ≡ find_left_by (unfound r) table flags = both_left J g ∙ ap (λ x. find_left_by x table flags) q in
-          let c : Finding m n ≡ Unfound r 0 = sym e ∙ ap (λ o. o.answer.finding) b in
+          let c : Ok w ≡ unfound_with r 0 = sym e ∙ ap (λ o. o.answer) b in
           clash (cc)
       there (found R) q =
           let b : find_left f table₁ flags₁ ≡ find_left_by (found R) table flags = both_left J g ∙ ap (λ x. find_left_by x table flags) q in
-          let c : Finding m n ≡ Finding R.standings R.states = sym e ∙ ap (λ o. o.answer.finding) b in
-          (R, q, cc)
+          let c : Ok w ≡ found_answer R = sym e ∙ ap (λ o. o.answer) b in
+          let d : w ≡ counted R.standings R.states (first_word R.first) = cc in
+          (R, q, sym (ap (λ (v : Finding). v.states) d))
 
-  pub few-states : SomeJob follow enter sizes accepting labels lists → {m n : ℕ} → f.finding ≡ Finding m n → n ≤ 256
+  pub few-states : SomeJob follow enter sizes accepting labels lists → {w : Finding} → f ≡ Ok w → w.states ≤ 256
   few-states S e =
       let (R, q, s) = found-states S.given-job S.given e in
       omega (arith, (job-sizes S.given-job R q).few-states)
 
-  pub found-judged : {allowance m n : ℕ} {r : Told} {path workspace path₁ workspace₁ : List ℕ} → f.finding ≡ Finding m n
-      → FoundTold follow enter sizes accepting labels lists n table₁ flags₁ allowance path workspace r path₁ workspace₁
+  pub found-judged : {allowance : ℕ} {w : Finding} {r : Result Told Refusal} {path workspace path₁ workspace₁ : List ℕ} → f ≡ Ok w
+      → FoundTold follow enter sizes accepting labels lists w.states table₁ flags₁ allowance path workspace r path₁ workspace₁
       → FindTold follow enter sizes accepting labels lists allowance table flags path workspace r table₁ flags₁ path₁ workspace₁
   unfolding find_left_by
-  found-judged {allowance} {n = n} {r = r} {path = path} {path₁ = path₁} e t =
+  found-judged {allowance} {w} {r = r} {path = path} {path₁ = path₁} e t =
       record { told = judging; found_left = buffers-left; beyond = t.beyond }
     where
       judging : (J : Job) → JobGiven J follow enter sizes accepting labels lists
@@ -138,47 +137,43 @@ module _ {follow enter sizes accepting : List ℕ} {labels lists : ℕ} {table f
           let rows = sized.table (omega (arith, g.lists-told, g.few-lists)) in
           let (a, b) = buffers-left J g in
           t.told J R g q s
-          (ap (take (16 * n)) (a ∙ ap (λ x. (find_left_by x table flags).table) q)
-          ∙ written-front 4096 (16 * n) R.table table (omega (arith, rows)))
-          (ap (take n) (b ∙ ap (λ x. (find_left_by x table flags).flags) q)
-          ∙ written-front 256 n R.flags flags (omega (arith, sized.flags)))
+          (ap (take (16 * w.states)) (a ∙ ap (λ x. (find_left_by x table flags).table) q)
+          ∙ written-front 4096 (16 * w.states) R.table table (omega (arith, rows)))
+          (ap (take w.states) (b ∙ ap (λ x. (find_left_by x table flags).flags) q)
+          ∙ written-front 256 w.states R.flags flags (omega (arith, sized.flags)))
 
-  pub found-refused : {q : Refusal} {allowance n : ℕ} {path workspace : List ℕ} → f.finding ≡ Unfound q n
-      → FindTold follow enter sizes accepting labels lists allowance table flags path workspace (Told.Refused q)
+  pub found-refused : {q : Refused} {allowance : ℕ} {path workspace : List ℕ} → f ≡ Err q
+      → FindTold follow enter sizes accepting labels lists allowance table flags path workspace (Err q.refusal)
       table₁ flags₁ path workspace
   unfolding find_left_by verdict_job
-  found-refused {q} {allowance} {n} {path = path} e =
+  found-refused {q} {allowance} {path = path} e =
       record { told = λ J g. refusing J g (find J) refl; found_left = buffers-left; beyond = λ j h. refl }
     where
       refusing : (J : Job) → JobGiven J follow enter sizes accepting labels lists → (x : Found) → find J ≡ x
-          → (Told.Refused q ≡ told_of (verdict_job J allowance)) × PathAfter path path (verdict_job J allowance)
+          → (Err q.refusal ≡ told_of (verdict_job J allowance)) × PathAfter path path (verdict_job J allowance)
       refusing J g (found R) p =
           let b : find_left f table₁ flags₁ ≡ find_left_by (found R) table flags = both_left J g ∙ ap (λ x. find_left_by x table flags) p in
-          let c : Unfound q n ≡ Finding R.standings R.states = sym e ∙ ap (λ o. o.answer.finding) b in
+          let c : Err q ≡ found_answer R = sym e ∙ ap (λ o. o.answer) b in
           clash (cc)
       refusing J g (unfound s) p =
           let b : find_left f table₁ flags₁ ≡ find_left_by (unfound s) table flags = both_left J g ∙ ap (λ x. find_left_by x table flags) p in
-          let c : Unfound q n ≡ Unfound s 0 = sym e ∙ ap (λ o. o.answer.finding) b in
-          let i : q ≡ s = cc in
+          let c : Err q ≡ unfound_with s 0 = sym e ∙ ap (λ o. o.answer) b in
+          let d : q ≡ refused_at s 0 = cc in
+          let i : q.refusal ≡ s = ap (λ (x : Refused). x.refusal) d in
           let v : verdict_job J allowance ≡ refused s = ap (verdict_found J allowance) p in
-          (ap Told.Refused i ∙ sym (ap told_of v), subst (PathAfter path path) (sym v) refl)
+          (ap Err i ∙ sym (ap told_of v), subst (PathAfter path path) (sym v) refl)
 
 -- What is told of a verdict.
 
-module _ {t : Told} {table flags : List ℕ} where
-  pub answered-complete : {n : ℕ} → t ≡ Told.Complete n → AnsweredTold t table flags (Complete n) table flags
-  answered-complete {n} e =
-      record { told = subst (λ t. Answered t table flags (Complete n) table flags) (sym e) (refl, refl, refl) }
+module _ {t : Result Told Refusal} {table flags : List ℕ} where
+  pub answered-told : {v : Told} → t ≡ Ok v → AnsweredTold t table flags (Ok v) table flags
+  answered-told {v} e = record { told = subst (λ t. Answered t table flags (Ok v) table flags) (sym e) (refl, refl, refl) }
 
-  pub answered-missed : {l n : ℕ} → t ≡ Told.Missed l n → AnsweredTold t table flags (Missed l n) table flags
-  answered-missed {l} {n} e =
-      record { told = subst (λ t. Answered t table flags (Missed l n) table flags) (sym e) (refl, refl, refl) }
-
-  pub answered-refused : {q : Refusal} {table' flags' : List ℕ} → t ≡ Told.Refused q
+  pub answered-refused : {q : Refusal} {table' flags' : List ℕ} → t ≡ Err q
       → (4096 ≤ length table → table' ≡ replicate 4096 0 ++ drop 4096 table)
-      → (256 ≤ length flags → flags' ≡ replicate 256 0 ++ drop 256 flags) → AnsweredTold t table flags (Refused q 0) table' flags'
+      → (256 ≤ length flags → flags' ≡ replicate 256 0 ++ drop 256 flags) → AnsweredTold t table flags (refused_with q 0) table' flags'
   answered-refused {q} {table'} {flags'} e a b =
-      record { told = subst (λ t. Answered t table flags (Refused q 0) table' flags') (sym e) (refl, a, b) }
+      record { told = subst (λ t. Answered t table flags (refused_with q 0) table' flags') (sym e) (refl, a, b) }
 
 -- A job.
 
@@ -188,7 +183,7 @@ missed-short (judged R e (first-missed f k h s)) = omega arith
 
 module _ {J : Job} {follow enter sizes accepting : List ℕ} {labels lists : ℕ} (g : JobGiven J follow enter sizes accepting labels lists)
     {allowance : ℕ} {table flags path workspace : List ℕ} (z : Sized allowance table flags path workspace) where
-  pub job-left : {path₁ : List ℕ} {t : Told} {table₁ flags₁ path₂ workspace₁ workspace₂ : List ℕ} {r : VerdictAnswer}
+  pub job-left : {path₁ : List ℕ} {t : Result Told Refusal} {table₁ flags₁ path₂ workspace₁ workspace₂ : List ℕ} {r : Result Told Refused}
       {table₂ flags₂ : List ℕ} → path₁ ≡ cleared allowance path
       → FindTold follow enter sizes accepting labels lists allowance table flags path₁ workspace t table₁ flags₁ path₂ workspace₁
       → length table₁ ≡ length table → length flags₁ ≡ length flags → length workspace₁ ≡ length workspace
@@ -228,8 +223,8 @@ module _ {J : Job} {follow enter sizes accepting : List ℕ} {labels lists : ℕ
 
 -- A text that is read.
 
-module _ (text : Bytes) {a : ReadAnswer} {T : Tables} (l : Loaded text a T) where
-  read-given : {labels lists : ℕ} → a ≡ Jobs labels lists
+module _ (text : Bytes) {a : Result Counts Refused} {T : Tables} (l : Loaded text a T) where
+  read-given : {labels lists : ℕ} → a ≡ Ok (counts labels lists)
       → (J : NamedJob) × (read text ≡ job J) × JobGiven (job_of J) T.follow T.enter T.sizes T.accepting labels lists
   read-given {labels} {lists} e =
       let (J, q, m, n) = job-told (read text) (sym l.answer ∙ e) in
@@ -248,11 +243,11 @@ module _ (text : Bytes) {a : ReadAnswer} {T : Tables} (l : Loaded text a T) wher
             (subst (JobGiven (job_of J) T.follow T.enter T.sizes T.accepting (length J.labels)) n g),
       )
 
-  pub some-job : {labels lists : ℕ} → a ≡ Jobs labels lists → SomeJob T.follow T.enter T.sizes T.accepting labels lists
+  pub some-job : {labels lists : ℕ} → a ≡ Ok (counts labels lists) → SomeJob T.follow T.enter T.sizes T.accepting labels lists
   some-job e = let (J, q, g) = read-given e in record { given-job = job_of J; given = g }
 
   module _ (allowance : ℕ) (table flags path workspace : List ℕ) where
-    pub read-judged : {labels lists : ℕ} {o : Outcome} → a ≡ Jobs labels lists
+    pub read-judged : {labels lists : ℕ} {o : Outcome} → a ≡ Ok (counts labels lists)
         → ((J : Job) → JobGiven J T.follow T.enter T.sizes T.accepting labels lists
         → o ≡ left_by_job J allowance table flags path workspace)
         → o ≡ left_by_reading (read text) allowance table flags path workspace
@@ -260,17 +255,16 @@ module _ (text : Bytes) {a : ReadAnswer} {T : Tables} (l : Loaded text a T) wher
         let (J, q, g) = read-given e in
         told (job_of J) g ∙ ap (λ x. left_by_reading x allowance table flags path workspace) (sym q)
 
-    pub read-refused : {q : Refusal} {n : ℕ} → a ≡ Refuses q n
-        → left (Refused q n) table flags path workspace ≡ left_by_reading (read text) allowance table flags path workspace
-    read-refused {q} {n} e = go (read text) (sym l.answer ∙ e)
+    pub read-refused : {e : Refused} → a ≡ Err e
+        → left (Err e) table flags path workspace ≡ left_by_reading (read text) allowance table flags path workspace
+    read-refused {e} q = go (read text) (sym l.answer ∙ q)
       where
-        go : (x : Reading) → answer_of x ≡ Refuses q n
-            → left (Refused q n) table flags path workspace ≡ left_by_reading x allowance table flags path workspace
+        go : (x : Reading) → answer_of x ≡ Err e
+            → left (Err e) table flags path workspace ≡ left_by_reading x allowance table flags path workspace
         go (job J) p = clash (cc)
         go (Reading.refused s m) p =
-            let i : q ≡ s = cc in
-            let j : n ≡ m = cc in
-            ap₂ (λ q n. left (Refused q n) table flags path workspace) i j
+            let i : e ≡ refused_at s m = cc in
+            ap (λ (x : Refused). left (Err x) table flags path workspace) i
 
 -- The checks before reading.
 
@@ -278,21 +272,21 @@ module _ (text : Bytes) (allowance : ℕ) (table flags path workspace : List ℕ
   abbrev checked : Bool → Bool → Outcome
   checked a b =
       elim a [
-        | false ↦ left (Refused BadAllowance 0) table flags path workspace
+        | false ↦ left (refused_with BadAllowance 0) table flags path workspace
         | true ↦ elim b [
-          | false ↦ left (Refused BufferTooShort 0) table flags path workspace
+          | false ↦ left (refused_with BufferTooShort 0) table flags path workspace
           | true ↦ left_by_reading (read text) allowance table flags path workspace
         ]
       ]
 
   pub none_allowed : allowance ≡ 0
-      → left (Refused BadAllowance 0) table flags path workspace ≡ outcome text allowance table flags path workspace
+      → left (refused_with BadAllowance 0) table flags path workspace ≡ outcome text allowance table flags path workspace
   unfolding outcome
   none_allowed h =
       sym (ap (λ b. checked (b && nat_le allowance 4096) (enough allowance table flags path workspace)) (lt-leb 1 allowance (omega arith)))
 
   pub many-allowed : 1 ≤ allowance → 4096 < allowance
-      → left (Refused BadAllowance 0) table flags path workspace ≡ outcome text allowance table flags path workspace
+      → left (refused_with BadAllowance 0) table flags path workspace ≡ outcome text allowance table flags path workspace
   unfolding outcome
   many-allowed h k =
       sym (ap₂ (λ a b. checked (a && b) (enough allowance table flags path workspace)) (le-leb 1 allowance h) (lt-leb allowance 4096 k))
@@ -302,19 +296,19 @@ module _ (text : Bytes) (allowance : ℕ) (table flags path workspace : List ℕ
     in-range = ap₂ ◌&&◌ (le-leb 1 allowance some) (le-leb allowance 4096 few)
 
     short : enough allowance table flags path workspace ≡ false
-        → left (Refused BufferTooShort 0) table flags path workspace ≡ outcome text allowance table flags path workspace
+        → left (refused_with BufferTooShort 0) table flags path workspace ≡ outcome text allowance table flags path workspace
     unfolding outcome
     short h = sym (ap₂ checked in-range h)
 
     pub table-short : length table < 4096
-        → left (Refused BufferTooShort 0) table flags path workspace ≡ outcome text allowance table flags path workspace
+        → left (refused_with BufferTooShort 0) table flags path workspace ≡ outcome text allowance table flags path workspace
     table-short h =
         short (ap (λ a. (a && nat_le 256 (length flags)) && (nat_le allowance (length path) && nat_le (18 * allowance) (length workspace)))
         (lt-leb 4096 (length table) h))
 
     module _ (wide : 4096 ≤ length table) where
       pub flags-short : length flags < 256
-          → left (Refused BufferTooShort 0) table flags path workspace ≡ outcome text allowance table flags path workspace
+          → left (refused_with BufferTooShort 0) table flags path workspace ≡ outcome text allowance table flags path workspace
       flags-short h =
           short (ap₂ (λ a b. (a && b) && (nat_le allowance (length path) && nat_le (18 * allowance) (length workspace)))
           (le-leb 4096 (length table) wide) (lt-leb 256 (length flags) h))
@@ -324,12 +318,12 @@ module _ (text : Bytes) (allowance : ℕ) (table flags path workspace : List ℕ
         both-enough = ap₂ ◌&&◌ (le-leb 4096 (length table) wide) (le-leb 256 (length flags) long)
 
         pub path-short : length path < allowance
-            → left (Refused BufferTooShort 0) table flags path workspace ≡ outcome text allowance table flags path workspace
+            → left (refused_with BufferTooShort 0) table flags path workspace ≡ outcome text allowance table flags path workspace
         path-short h =
             short (ap₂ (λ a b. a && (b && nat_le (18 * allowance) (length workspace))) both-enough (lt-leb allowance (length path) h))
 
         pub workspace-short : allowance ≤ length path → length workspace < 18 * allowance
-            → left (Refused BufferTooShort 0) table flags path workspace ≡ outcome text allowance table flags path workspace
+            → left (refused_with BufferTooShort 0) table flags path workspace ≡ outcome text allowance table flags path workspace
         workspace-short h k =
             short (ap₂ (λ a b. a && b) both-enough
             (ap₂ ◌&&◌ (le-leb allowance (length path) h) (lt-leb (18 * allowance) (length workspace) k)))

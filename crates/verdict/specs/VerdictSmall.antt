@@ -13,11 +13,10 @@ use Rattle.reading.specs.ReadLaws.{read-line}
 use Rattle.reading.specs.ReadFacts.{read-facts}
 use Rattle.finding.specs.Find.{find}
 use Rattle.finding.specs.Outcome.{Leaving, left_by as find_left}
-use Rattle.verdict.specs.declared.operation.VerdictAnswer.TheVariants.{Refused}
 use Rattle.verdict.specs.Verdict.{Verdict, complete, missed, refused}
 use Rattle.verdict.specs.VerdictJob.{verdict_job}
 use Rattle.verdict.specs.VerdictJobLaws.{FewPairs, job-few}
-use Rattle.verdict.specs.VerdictOperation.{Outcome, left, left_by, left_by_reading, most_allowance, enough, outcome}
+use Rattle.verdict.specs.VerdictOperation.{Outcome, left, refused_with, left_by, left_by_reading, most_allowance, enough, outcome}
 
 pub record Small (o : Outcome) : Type 0 where
   pub line : o.reply.line ≤ suc most_text
@@ -25,7 +24,7 @@ pub record Small (o : Outcome) : Type 0 where
   pub short : slice_index_or o.reply.values 1 0 < most_allowance
 
 module _ (text : Bytes) (allowance : ℕ) (table flags path workspace : List ℕ) where
-  refused-small : (r : Refusal) (n : ℕ) → n ≤ suc most_text → Small (left (Refused r n) table flags path workspace)
+  refused-small : (r : Refusal) (n : ℕ) → n ≤ suc most_text → Small (left (refused_with r n) table flags path workspace)
   refused-small r n h = record { line = h; pairs = omega arith; short = omega arith }
 
   judged-small : (v : Verdict) (F : Leaving) → allowance ≤ most_allowance → FewPairs allowance v
@@ -47,16 +46,16 @@ module _ (text : Bytes) (allowance : ℕ) (table flags path workspace : List ℕ
   verdict-small = ranged (nat_le 1 allowance) (nat_le allowance most_allowance) refl
     where
       sized : (b : Bool) → allowance ≤ most_allowance → Small (elim b as (λ b. Outcome) [
-        | false ↦ left (Refused BufferTooShort 0) table flags path workspace
+        | false ↦ left (refused_with BufferTooShort 0) table flags path workspace
         | true ↦ left_by_reading (read text) allowance table flags path workspace
       ])
       sized true h = reading_small (read text) refl h
       sized false h = refused-small BufferTooShort 0 (omega arith)
 
       ranged : (a b : Bool) → nat_le allowance most_allowance ≡ b → Small (elim (a && b) as (λ b. Outcome) [
-        | false ↦ left (Refused BadAllowance 0) table flags path workspace
+        | false ↦ left (refused_with BadAllowance 0) table flags path workspace
         | true ↦ elim (enough allowance table flags path workspace) [
-          | false ↦ left (Refused BufferTooShort 0) table flags path workspace
+          | false ↦ left (refused_with BufferTooShort 0) table flags path workspace
           | true ↦ left_by_reading (read text) allowance table flags path workspace
         ]
       ])

@@ -1,5 +1,5 @@
 -- What the verdict's function promises: its answer is the definition's (Verdict), and the first missed path stands in the lent buffer.
-use Rattle.std.specs.Prelude.{◌≡◌, ℕ, suc, ◌+◌, ◌*◌, ◌^◌, ◌<◌, ◌≤◌, List, length, take, drop, slice_index, slice_index_or}
+use Rattle.std.specs.Prelude.{◌≡◌, ℕ, suc, ◌+◌, ◌*◌, ◌^◌, ◌<◌, ◌≤◌, List, length, take, drop, slice_index, slice_index_or, Result, Ok, Err}
 use Rattle.std.proofs.Math.Option.{Option, some, none}
 use Rattle.theory.specs.Path.{Path}
 use Rattle.theory.specs.Automaton.{Automaton}
@@ -11,14 +11,15 @@ use Rattle.verdict.specs.Coded.{Layout, Sided}
 use Rattle.verdict.specs.PairTable.{Holds}
 use Rattle.verdict.specs.PairsTold.{Lent}
 use Rattle.verdict.specs.Verdict.{Verdict, complete, missed, refused, verdict}
-use Rattle.verdict.specs.declared.verdict.Told.{Told}
-use Rattle.verdict.specs.declared.verdict.Told.TheVariants.{Complete, Missed, Refused}
+use Rattle.syntax.specs.declared.refusal.Refusal.{Refusal}
+use Rattle.verdict.specs.declared.verdict.Verdict.{Verdict as Told}
+use Rattle.verdict.specs.declared.verdict.Verdict.TheVariants.{Complete, Missed}
 
 -- The answer as numbers: of a path its length.
-abbrev pub told_of : Verdict → Told
-told_of (complete n) = Complete n
-told_of (missed p n) = Missed (length p) n
-told_of (refused r) = Refused r
+abbrev pub told_of : Verdict → Result Told Refusal
+told_of (complete n) = Ok (Complete n)
+told_of (missed p n) = Ok (Missed (length p) n)
+told_of (refused r) = Err r
 
 -- The buffer holds the missed path in front, and is otherwise as it was.
 abbrev pub PathAfter : List ℕ → List ℕ → Verdict → Type 0
@@ -46,7 +47,7 @@ verdict_of D flags most allowance =
     verdict (automaton_at D.follow D.enter D.sizes D.accepting 0) D.labels (rewritten D.states D.table flags)
     (automata_of D.follow D.enter D.sizes D.accepting D.lists) most allowance
 
-pub record VerdictTold (D : Lent) (flags : List ℕ) (most allowance : ℕ) (space path : List ℕ) (r : Told) (space' path' : List ℕ) : Type 0 where
+pub record VerdictTold (D : Lent) (flags : List ℕ) (most allowance : ℕ) (space path : List ℕ) (r : Result Told Refusal) (space' path' : List ℕ) : Type 0 where
   pub answer : Fit D flags → most ≤ 1024 → allowance ≤ 4096 → 18 * allowance ≤ length space → allowance ≤ length path
       → r ≡ told_of (verdict_of D flags most allowance)
   pub written : Fit D flags → most ≤ 1024 → allowance ≤ 4096 → 18 * allowance ≤ length space → allowance ≤ length path

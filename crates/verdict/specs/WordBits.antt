@@ -1,16 +1,15 @@
 -- Single places of a word, words that were cleared, and sets that stand in their first words.
-use Rattle.std.specs.Prelude.{◌≡◌, ℕ, zero, suc, ◌+◌, ◌*◌, ◌/◌, ◌%◌, ◌^◌, ◌<◌, ◌≤◌, List, [], ◌∷◌, ◌++◌, length, drop, replicate, bit_and, slice_index}
+use Rattle.std.specs.Prelude.{◌≡◌, ℕ, zero, suc, ◌+◌, ◌*◌, ◌/◌, ◌%◌, ◌^◌, ◌<◌, ◌≤◌, List, [], ◌∷◌, ◌++◌, length, take, drop, replicate, bit_and, slice_index}
 use Rattle.std.specs.Prelude.{refl}
-use Rattle.std.proofs.Common.{sym, ap, ◌∙◌, subst, one-mul, arith, lit<, drop_of_length-le, pow-add, pow_pos, shl_exact}
+use Rattle.std.proofs.Common.{sym, ap, ◌∙◌, subst, one-mul, arith, lit<, pow-add, pow_pos, shl_exact}
 use Rattle.std.proofs.Math.Decide.{dec_lt}
 use Rattle.std.proofs.lemmas.Nat.{and_mask}
-use Rattle.std.proofs.lemmas.List.{length-replicate, get_or-replicate}
+use Rattle.std.proofs.lemmas.List.{length-take-le, length-append, length-drop}
 use Rattle.std.proofs.Math.ListN.{get_or-append}
 use Rattle.theory.specs.Places.{Member, one}
 use Rattle.theory.specs.PlacesLaws.{member-none, member-zero, members-below}
 use Rattle.places.specs.Words.{number_of, Words}
 use Rattle.places.specs.WordsLaws.{member-number}
-use Rattle.finding.specs.Named.{cleared}
 
 -- A bit of a word is the set of one place.
 pub one_bit : (q : ℕ) → q < 64 → (1 * 2 ^ q) % 2 ^ 64 ≡ one q
@@ -24,11 +23,15 @@ first-here s e = (member-zero s).1 (sym (and_mask s 1) ∙ e)
 pub first-none : (s : ℕ) → ¬ (bit_and s 1 ≡ 1) → ¬ Member 0 s
 first-none s d m = d (and_mask s 1 ∙ (member-zero s).0 m)
 
--- Words that were cleared are zero.
-pub cleared-zero : (n : ℕ) (l : List ℕ) (i : ℕ) → i < n → slice_index (cleared n l) i ≡ 0
-cleared-zero n l i h =
-    let z : ℕ = 0 in
-    get_or-append (replicate n z) (drop n l) z i (omega (arith, length-replicate n z)) ∙ get_or-replicate n i z z h
+-- The first n words, where as many zeros stand in front.
+pub zeros-front : (n : ℕ) (l zeros back : List ℕ) → n ≤ length l → length zeros ≡ length (take n l)
+    → ((i : ℕ) → i < length zeros → slice_index zeros i ≡ 0) → (i : ℕ) → i < n → slice_index (zeros ++ back) i ≡ 0
+zeros-front n l zeros back room size zs i h =
+    let inside : i < length zeros = omega (arith, length-take-le n l room) in
+    get_or-append zeros back 0 i inside ∙ zs i inside
+
+pub zeros_size : (n : ℕ) (l zeros : List ℕ) → n ≤ length l → length zeros ≡ length (take n l) → length (zeros ++ drop n l) ≡ length l
+zeros_size n l zeros room size = omega (arith, length-append zeros (drop n l), length-take-le n l room, length-drop n l)
 
 -- The words above the lowest stand in one word less.
 rest_below : (l : List ℕ) (w k : ℕ) → number_of l * 2 ^ 64 + w < 2 ^ (64 * suc k) → number_of l < 2 ^ (64 * k)
@@ -44,14 +47,11 @@ number_past [] (suc k) h = refl
 number_past (w ∷ l) zero h = omega arith
 number_past (w ∷ l) (suc k) h = number_past l k (rest_below l w k h)
 
--- Words that were all cleared have no place.
-pub number-cleared : (n : ℕ) (l : List ℕ) → length l ≤ n → number_of (cleared n l) ≡ 0
+-- Words that are all zero have no place.
+pub number-zeros : (n : ℕ) → number_of (replicate n 0) ≡ 0
 unfolding number_of
-number-cleared n l h = ap (λ m. number_of (replicate n 0 ++ m)) (drop_of_length-le l h) ∙ zeros n
-  where
-    zeros : (k : ℕ) → number_of (replicate k 0 ++ []) ≡ 0
-    zeros zero = refl
-    zeros (suc k) = omega (arith, zeros k)
+number-zeros zero = refl
+number-zeros (suc k) = omega (arith, number-zeros k)
 
 -- Sets that stand in their first n words are equal where these words are.
 pub number_short : (n : ℕ) (l m : List ℕ) → number_of l < 2 ^ (64 * n) → number_of m < 2 ^ (64 * n)

@@ -10,6 +10,7 @@ ghost use Rattle.verdict.specs.TurnedColumns.{column_in};
 
 use crate::columns::put_at;
 use crate::sums::ended_of;
+use places::Places;
 use places::joined::join;
 
 // The states alone that are reached from the states of a class, whose sums stand from `sums` on; none where it has no sums.
@@ -41,15 +42,12 @@ pub fn step_classes(
         × (number_of words.new < 2 ^ (n * k)) }
 {
     let mut alone: u64 = 0;
-    let mut rest = merged[64 + a];
-    while rest != 0 {
-        let c = u64::trailing_zeros(rest) as usize;
+    for c in Places(merged[64 + a]).members() {
         let states = join(columns, 0, 1, merged[c]);
         if states != 0 {
             put_at(words, states, n * (c as u64), n);
-            alone = alone | ended_class(ended, ended[c] as usize, states);
+            alone |= ended_class(ended, ended[c] as usize, states);
         }
-        rest = rest & (rest - 1);
     }
     put_at(words, alone, 0, n);
 }

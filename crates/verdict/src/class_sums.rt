@@ -9,7 +9,7 @@ ghost use Rattle.verdict.specs.ClassSumsTurns.{ListEnds, reached_by, WordsBefore
 use crate::classes::class_at;
 use crate::column_steps::inner;
 use crate::sums::sum_list;
-use finding::clear::clear_words;
+use places::Places;
 
 // The list v is put down for the classes of the occurrences of a set, which come after the offset `base` and are counted from 0.
 fn end_list(set: u64, base: usize, v: u64, classes: &[u8], ends: &mut [u64])
@@ -17,12 +17,9 @@ fn end_list(set: u64, base: usize, v: u64, classes: &[u8], ends: &mut [u64])
         × ((i : ℕ) → Member i set → (base + 1 + i < length classes.now) × (slice_index classes.now (base + 1 + i) < 64)) }
     ensures { ListEnds set base v classes.now ends.old ends.new }
 {
-    let mut rest = set;
-    while rest != 0 {
-        let i = u64::trailing_zeros(rest) as usize;
+    for i in Places(set).members() {
         let c = class_at(classes, base + 1 + i) as usize;
-        ends[c] = ends[c] | (1 << v);
-        rest = rest & (rest - 1);
+        ends[c] |= 1 << v;
     }
 }
 
@@ -40,12 +37,10 @@ pub fn ending_lists(
     ensures { EndingLists lists sizes.now accepting.now classes.now ends.new }
 {
     let mut base: usize = 0;
-    let mut v = 0;
-    while v < lists {
+    for v in 0..lists {
         let size = sizes[v + 1];
         end_list(inner(accepting[v + 1], size), base, v as u64, classes, ends);
         base += size as usize;
-        v += 1;
     }
 }
 
@@ -54,15 +49,7 @@ pub fn count_ending(ends: &[u64; 64], k: usize) -> usize
     requires { k ≤ 64 }
     ensures { result ≤ 64 }
 {
-    let mut count: usize = 0;
-    let mut c = 0;
-    while c < k {
-        if ends[c] != 0 {
-            count += 1;
-        }
-        c += 1;
-    }
-    count
+    ends[..k].iter().filter(|lists| **lists != 0).count()
 }
 
 // The states that are reached from the state q where a path of one of the lists of a set ends.
@@ -72,11 +59,8 @@ fn reached_by(passes: &[u64], table: &[u16], q: usize, set: u64) -> u64
     ensures { result ≡ reached_by passes.now table.now set q }
 {
     let mut all: u64 = 0;
-    let mut rest = set;
-    while rest != 0 {
-        let v = u64::trailing_zeros(rest) as usize;
-        all = all | passes[table[16 * q + v] as usize];
-        rest = rest & (rest - 1);
+    for v in Places(set).members() {
+        all |= passes[table[16 * q + v] as usize];
     }
     all
 }
@@ -87,10 +71,8 @@ fn class_words(passes: &[u64], table: &[u16], states: usize, set: u64, ended: &m
         × ((q v : ℕ) → q < states → Member v set → (v < 16) × (16 * q + v < length table.now) × (slice_index table.now (16 * q + v) < 64)) }
     ensures { WordsBefore (reached_by passes.now table.now set) ended.old ended.new states }
 {
-    let mut q = 0;
-    while q < states {
+    for q in 0..states {
         ended[64 + q] = reached_by(passes, table, q, set);
-        q += 1;
     }
 }
 
@@ -112,10 +94,9 @@ pub fn class_sums(
         → ClassSums states lists k sizes accepting table.now classes ended.new }
 {
     let quarters = 2 * ((states + 7) / 8);
-    clear_words(ended, 128);
+    ended[..128].fill(0);
     let mut at: usize = 128;
-    let mut c = 1;
-    while c < k {
+    for c in 1..k {
         let set = ends[c];
         if set != 0 {
             if ended.len() < at + 16 * quarters {
@@ -126,7 +107,6 @@ pub fn class_sums(
             ended[c] = at as u64;
             at += 16 * quarters;
         }
-        c += 1;
     }
     true
 }

@@ -8,9 +8,13 @@ ghost use Rattle.verdict.specs.Columns.{StatesWithin, PlacesWithin, EndedWithin,
 ghost use Rattle.verdict.specs.ColumnLists.{Below, PlacesOf, inner_of, joined_of, ListColumns};
 ghost use Rattle.verdict.specs.Sums.{Sums};
 ghost use Rattle.verdict.specs.TurnedColumns.{column_in};
+ghost use Rattle.verdict.specs.Ways.{columns_of};
 
 use crate::columns::put_at;
 use crate::sums::ended_of;
+use crate::tables::Tables;
+use crate::ways::Ways;
+use places::Places;
 use places::joined::join;
 
 // The columns of the places of a list, all in one: the start's is that of the states alone, the occurrences' come after the offset `base`.
@@ -58,71 +62,64 @@ fn list_columns(
     n: u64,
     words: &mut [u64],
 ) -> u64
-    requires { (v < 16) × (size < 64) × (base + size < length columns.now) × PlacesOf v size before.now × (length words.old ≡ 16) × (0 < n) × (n ≤ 64)
+    requires { (v < 16) × (size < 64) × (base + size < length columns.now) × PlacesOf v size before.now × (length words.old ≡ 16)
+        × (0 < n) × (n ≤ 64)
         × (n * (base + size + 1) ≤ 1024) × StatesWithin (base + size + 1) n columns.now × (64 * v + 64 ≤ length before.now) }
     ensures { ListColumns v size base entered accepting before.now columns.now (column_in n words.old)
         (column_in n words.new) result }
 {
     let mut ends: u64 = 0;
-    let mut rest = inner(entered, size);
-    while rest != 0 {
-        let p = 1 + (u64::trailing_zeros(rest) as usize);
+    for i in Places(inner(entered, size)).members() {
+        let p = 1 + i;
         let states = joined(columns, base, before[64 * v + p]);
         let over = ending(accepting, p as u64, states);
         if states != 0 {
             put_at(words, states, n * (base + p) as u64, n);
         }
-        ends = ends | over;
-        rest = rest & (rest - 1);
+        ends |= over;
     }
     ends
 }
 
 // The columns after a step over the label a, each of n states, are put into the turned set `words`, which is empty before.
 pub fn step_columns(
-    enter: &[u64],
-    sizes: &[u64],
-    accepting: &[u64],
-    before: &[u64],
-    ended: &[u64],
-    lists: usize,
+    tables: Tables<'_>,
+    ways: Ways<'_>,
     a: usize,
-    w: u64,
     columns: &[u64],
-    n: u64,
     words: &mut [u64],
 )
-    requires { Counted lists sizes.now × (a < 32) × (32 * lists + 32 ≤ length enter.now) × (lists < length accepting.now)
-        × (w ≡ suc (occupied sizes.now 0 lists)) × PlacesWithin lists sizes.now before.now × (length words.old ≡ 16)
-        × (number_of words.old ≡ 0) × (0 < n) × (n ≤ 64) × (n * w ≤ 1024) × StatesWithin w n columns.now
-        × EndedWithin n lists ended.now × (w ≤ length columns.now) × (64 * lists ≤ length before.now)
-        × Sums lists n ended.now }
-    ensures { Stepped lists a enter.now sizes.now accepting.now before.now
-        ended.now columns.now (column_in n words.new) × (number_of words.new < 2 ^ (n * w)) }
+    requires { Counted tables.lists tables.sizes.now × (a < 32) × (32 * tables.lists + 32 ≤ length tables.enter.now)
+        × (tables.lists < length tables.accepting.now) × (columns_of ways.way ≡ suc (occupied tables.sizes.now 0 tables.lists))
+        × PlacesWithin tables.lists tables.sizes.now ways.before.now × (length words.old ≡ 16) × (number_of words.old ≡ 0)
+        × (0 < tables.states) × (tables.states ≤ 64) × (tables.states * columns_of ways.way ≤ 1024)
+        × StatesWithin (columns_of ways.way) tables.states columns.now × EndedWithin tables.states tables.lists ways.ended.now
+        × (columns_of ways.way ≤ length columns.now) × (64 * tables.lists ≤ length ways.before.now)
+        × Sums tables.lists tables.states ways.ended.now }
+    ensures { let T = tables.entry in let W = ways.entry in Stepped T.lists a T.enter.now T.sizes.now T.accepting.now W.before.now
+        W.ended.now columns.now (column_in T.states words.new) × (number_of words.new < 2 ^ (T.states * columns_of W.way)) }
 {
-    let each = 32 * ((n as usize + 7) / 8);
-    let mut sums = 64 * lists;
+    let each = 32 * ((tables.states as usize + 7) / 8);
+    let mut sums = 64 * tables.lists;
     let mut base: usize = 0;
     let mut alone: u64 = 0;
-    let mut v = 0;
-    while v < lists {
+    for v in 0..tables.lists {
         let x = v + 1;
-        let size = sizes[x];
+        let size = tables.sizes[x];
         let ends = list_columns(
-            before,
-            enter[32 * x + a],
-            accepting[x],
+            ways.before,
+            tables.enter[32 * x + a],
+            tables.accepting[x],
             size,
             v,
             base,
             columns,
-            n,
+            tables.states,
             words,
         );
-        alone = alone | ended_of(ended, sums, ends);
+        alone |= ended_of(ways.ended, sums, ends);
         sums += each;
         base += size as usize;
-        v += 1;
     }
-    put_at(words, alone, 0, n);
+    put_at(words, alone, 0, tables.states);
 }

@@ -13,11 +13,9 @@ pub fn columns_at(words: &[u64], w: u64, n: u64, columns: &mut [u64])
     ensures { Stacked w n columns.new (number_of words.now) }
 {
     let mut at: u64 = 0;
-    let mut o: u64 = 0;
-    while o < w {
+    for o in 0..w {
         columns[o as usize] = row_at(words, at, n);
         at += n;
-        o += 1;
     }
 }
 
@@ -26,7 +24,7 @@ fn put_word(words: &mut [u64], index: usize, word: u64)
     requires { (length words.old ≡ 16) × (index < 16) }
     ensures { Gains words.old (word * 2 ^ (64 * index)) words.new }
 {
-    words[index] = words[index] | word;
+    words[index] |= word;
 }
 
 // Adds a column, of n states, at the place `at`: a second word is touched only where the column reaches into it.

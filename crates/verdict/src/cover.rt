@@ -1,12 +1,13 @@
 // Cover places (document 01, "Cover place"): a set of them is a wide set, the place of the state q with the offset o is width × q + o. The
 // automata of the lists stand side by side in lent tables, a list's number plus 1 being its row.
-ghost use Rattle.std.specs.Prelude.{◌≡◌, ◌+◌, ◌*◌, ◌<◌, ◌≤◌, length};
+ghost use Rattle.std.specs.Prelude.{◌≡◌, ◌+◌, ◌*◌, ◌<◌, ◌≤◌, length, IfSome, unwrap_or};
 ghost use Rattle.verdict.specs.Tables.{Counted};
 ghost use Rattle.verdict.specs.CoverLoops.{end_at};
 ghost use Rattle.verdict.specs.CoverTold.{Gains, Moving, Entered, MovedWithin, Moves, Moved, Ending, Passed, Finished, Ends, Round, Settled};
 ghost use Rattle.verdict.specs.CoverTold.{WidthTold, ReadyTold, StartTold, StepTold};
 
 use crate::rows::step_at;
+use crate::tables::Tables;
 use places::Places;
 use places::wide::Wide;
 use places::words::{add_shifted, next_place};
@@ -26,11 +27,9 @@ fn entered(
     ensures { Entered lists a follow.now enter.now sizes.now from into.old into.new }
 {
     let mut base: u64 = 0;
-    let mut v = 0;
-    while v < lists {
+    for v in 0..lists {
         add_shifted(into, step_at(follow, enter, v, 0, a), from + base);
         base += sizes[v + 1];
-        v += 1;
     }
 }
 
@@ -51,8 +50,7 @@ fn moved_within(
 {
     let mut base: u64 = 0;
     let mut rest = o;
-    let mut v = 0;
-    while v < lists {
+    for v in 0..lists {
         let size = sizes[v + 1];
         if rest <= size {
             add_shifted(
@@ -64,7 +62,6 @@ fn moved_within(
         }
         rest -= size;
         base += size;
-        v += 1;
     }
 }
 
@@ -108,6 +105,7 @@ fn moved(
     let places = set.words;
     let mut words = [0; 16];
     let mut p = next_place(&places, 0);
+    // From place to place, up to `count` alone: no plainer as an iterator of a wide set.
     while p < count {
         moves(follow, enter, sizes, lists, a, w, p, &mut words);
         p = next_place(&places, p + 1);
@@ -117,7 +115,8 @@ fn moved(
 
 // Adds the state that is reached from the state q where a path of the list v may end at its place o.
 fn ended(accepting: &[u64], table: &[u16], w: u64, v: usize, o: u64, q: usize, into: &mut [u64])
-    requires { (v < 16) × (v + 1 < length accepting.now) × (q < 1024) × (16 * q + 16 ≤ length table.now) × (w ≤ 1024) × (length into.old ≡ 16) }
+    requires { (v < 16) × (v + 1 < length accepting.now) × (q < 1024) × (16 * q + 16 ≤ length table.now) × (w ≤ 1024)
+        × (length into.old ≡ 16) }
     ensures { Gains into.old (end_at accepting.now table.now w v o q) into.new }
 {
     let ends = Places(accepting[v + 1]);
@@ -128,13 +127,12 @@ fn ended(accepting: &[u64], table: &[u16], w: u64, v: usize, o: u64, q: usize, i
 
 // Adds the states that the lists with the empty path lead to.
 fn passed(accepting: &[u64], table: &[u16], lists: usize, w: u64, q: usize, into: &mut [u64])
-    requires { (lists ≤ 16) × (lists < length accepting.now) × (q < 1024) × (16 * q + 16 ≤ length table.now) × (w ≤ 1024) × (length into.old ≡ 16) }
+    requires { (lists ≤ 16) × (lists < length accepting.now) × (q < 1024) × (16 * q + 16 ≤ length table.now) × (w ≤ 1024)
+        × (length into.old ≡ 16) }
     ensures { Passed lists accepting.now table.now w q into.old into.new }
 {
-    let mut v = 0;
-    while v < lists {
+    for v in 0..lists {
         ended(accepting, table, w, v, 0, q, into);
-        v += 1;
     }
 }
 
@@ -149,19 +147,18 @@ fn finished(
     q: usize,
     into: &mut [u64],
 )
-    requires { Counted lists sizes.now × (lists < length accepting.now) × (q < 1024) × (16 * q + 16 ≤ length table.now) × (w ≤ 1024) × (length into.old ≡ 16) }
+    requires { Counted lists sizes.now × (lists < length accepting.now) × (q < 1024) × (16 * q + 16 ≤ length table.now) × (w ≤ 1024)
+        × (length into.old ≡ 16) }
     ensures { Finished lists sizes.now accepting.now table.now w o q into.old into.new }
 {
     let mut rest = o;
-    let mut v = 0;
-    while v < lists {
+    for v in 0..lists {
         let size = sizes[v + 1];
         if rest <= size {
             ended(accepting, table, w, v, rest, q, into);
             return;
         }
         rest -= size;
-        v += 1;
     }
 }
 
@@ -206,6 +203,7 @@ fn round(
     let places = fresh.words;
     let mut words = set.words;
     let mut p = next_place(&places, 0);
+    // From place to place, up to `count` alone: no plainer as an iterator of a wide set.
     while p < count {
         ends(sizes, accepting, table, states, lists, w, p, &mut words);
         p = next_place(&places, p + 1);
@@ -230,120 +228,114 @@ fn settled(
     let count = states * w;
     let mut set = first;
     let mut fresh = first;
-    let mut rounds: u64 = 0;
-    while rounds < count {
+    for _round in 0..count {
         let next = round(sizes, accepting, table, states, lists, w, fresh, set);
         if next.same(set) {
             return set;
         }
         fresh = next.without(set);
         set = next;
-        rounds += 1;
     }
     set
 }
 
-// The number of offsets, 1 + all occurrences in all lists; 0 where there are more than 16 lists, or one has more than 63 occurrences.
-pub fn width(sizes: &[u64], lists: usize) -> u64
-    ensures { WidthTold lists sizes.now result }
+// The number of offsets, 1 + all occurrences in all lists; none where there are more than 16 lists, or one has more than 63 occurrences.
+pub fn width(sizes: &[u64], lists: usize) -> Option<u64>
+    ensures told { WidthTold lists sizes.now (unwrap_or result 0) }
+    ensures some { IfSome result (λ w. 0 < w) }
 {
     if lists > 16 {
-        return 0;
+        return None;
     }
     if sizes.len() <= lists {
-        return 0;
+        return None;
     }
     let mut w: u64 = 1;
-    let mut v = 0;
-    while v < lists {
+    for v in 0..lists {
         let size = sizes[v + 1];
         if size > 63 {
-            return 0;
+            return None;
         }
         w += size;
-        v += 1;
     }
-    w
+    Some(w)
 }
 
-// The width where the tables have room for the lists and the states and there are at most 1,024 cover places; else 0.
-pub fn ready(
-    states: u64,
-    table: &[u16],
-    follow: &[u64],
-    enter: &[u64],
-    sizes: &[u64],
-    accepting: &[u64],
-    lists: usize,
-) -> u64
-    ensures { ReadyTold states lists follow.now enter.now sizes.now accepting.now table.now result }
+// The width where the tables have room for the lists and the states and there are at most 1,024 cover places.
+pub fn ready(tables: Tables<'_>) -> Option<u64>
+    ensures told { let T = tables.entry in ReadyTold T.states T.lists T.follow.now T.enter.now T.sizes.now T.accepting.now T.table.now
+        (unwrap_or result 0) }
+    ensures some { IfSome result (λ w. 0 < w) }
 {
-    let w = width(sizes, lists);
-    if w == 0 {
-        return 0;
+    let w = width(tables.sizes, tables.lists)?;
+    if tables.follow.len() < 64 * tables.lists + 64 {
+        return None;
     }
-    if follow.len() < 64 * lists + 64 {
-        return 0;
+    if tables.enter.len() < 32 * tables.lists + 32 {
+        return None;
     }
-    if enter.len() < 32 * lists + 32 {
-        return 0;
+    if tables.accepting.len() <= tables.lists {
+        return None;
     }
-    if accepting.len() <= lists {
-        return 0;
+    if tables.states > 1024 {
+        return None;
     }
-    if states > 1024 {
-        return 0;
+    if tables.table.len() < 16 * (tables.states as usize) {
+        return None;
     }
-    if table.len() < 16 * (states as usize) {
-        return 0;
+    if tables.states * w > 1024 {
+        return None;
     }
-    if states * w > 1024 {
-        return 0;
-    }
-    w
+    Some(w)
 }
 
 // The cover places that the empty path reaches.
-pub fn cover_start(
-    states: u64,
-    table: &[u16],
-    follow: &[u64],
-    enter: &[u64],
-    sizes: &[u64],
-    accepting: &[u64],
-    lists: usize,
-) -> Wide
-    ensures { StartTold states lists follow.now enter.now sizes.now accepting.now table.now result.words }
+pub fn cover_start(tables: Tables<'_>) -> Wide
+    ensures { let T = tables.entry in StartTold T.states T.lists T.follow.now T.enter.now T.sizes.now T.accepting.now T.table.now
+        result.words }
 {
-    let w = ready(states, table, follow, enter, sizes, accepting, lists);
-    if w == 0 {
+    let Some(w) = ready(tables) else {
         return Wide::EMPTY;
-    }
-    settled(sizes, accepting, table, states, lists, w, Wide::one(0))
+    };
+    settled(
+        tables.sizes,
+        tables.accepting,
+        tables.table,
+        tables.states,
+        tables.lists,
+        w,
+        Wide::one(0),
+    )
 }
 
 // The step of a cover set over the label a.
-pub fn cover_step(
-    states: u64,
-    table: &[u16],
-    follow: &[u64],
-    enter: &[u64],
-    sizes: &[u64],
-    accepting: &[u64],
-    lists: usize,
-    a: usize,
-    set: Wide,
-) -> Wide
-    ensures { StepTold states lists follow.now enter.now sizes.now accepting.now table.now a set.words
-        result.words }
+pub fn cover_step(tables: Tables<'_>, a: usize, set: Wide) -> Wide
+    ensures { let T = tables.entry in StepTold T.states T.lists T.follow.now T.enter.now T.sizes.now T.accepting.now T.table.now a
+        set.words result.words }
 {
-    let w = ready(states, table, follow, enter, sizes, accepting, lists);
-    if w == 0 {
+    let Some(w) = ready(tables) else {
         return Wide::EMPTY;
-    }
+    };
     if a >= 32 {
         return Wide::EMPTY;
     }
-    let next = moved(follow, enter, sizes, lists, a, w, states * w, set);
-    settled(sizes, accepting, table, states, lists, w, next)
+    let next = moved(
+        tables.follow,
+        tables.enter,
+        tables.sizes,
+        tables.lists,
+        a,
+        w,
+        tables.states * w,
+        set,
+    );
+    settled(
+        tables.sizes,
+        tables.accepting,
+        tables.table,
+        tables.states,
+        tables.lists,
+        w,
+        next,
+    )
 }

@@ -6,11 +6,18 @@ ghost use Rattle.verdict.specs.PairTable.{words_at, Compared, Seen};
 ghost use Rattle.verdict.specs.Workspace.{pair};
 ghost use Rattle.verdict.specs.PairIndex.{rotated, bucket_of, Indexed, Short};
 
+// For each bucket its newest pair, and for each pair the newest of its bucket before it: one more than its number, 0 for none.
+#[derive(Drop)]
+pub struct Index {
+    pub heads: [u16; 4093],
+    pub nexts: [u16; 4096],
+}
+
 // A word rotated by 23 places: what leaves it at the upper end comes in at the lower.
 fn rotate(word: u64) -> u64
     ensures { result ≡ rotated word }
 {
-    (word << 23) | (word >> 41)
+    word.rotate_left(23)
 }
 
 // The bucket of a pair whose cover set stands in the first `count` words. The words are mixed from the last to the first, so that words of
@@ -19,12 +26,9 @@ fn remainder(standing: u64, cover: &[u64; 16], count: usize) -> usize
     requires { (count ≤ 16) × (number_of cover.now < 2 ^ (64 * count)) }
     ensures { result ≡ bucket_of (pair standing cover.now) }
 {
-    let words: &[u64] = cover;
     let mut mix: u64 = 0;
-    let mut j = count;
-    while 0 < j {
-        j -= 1;
-        mix = rotate(mix) ^ words[j];
+    for j in (0..count).rev() {
+        mix = rotate(mix) ^ cover[j];
     }
     ((rotate(mix) ^ standing) % 4093) as usize
 }
@@ -47,15 +51,6 @@ pub fn bucket(standing: u64, cover: &[u64; 16], used: usize) -> usize
     remainder(standing, cover, 16)
 }
 
-// Puts the pair number m in front of the chain of the bucket `at`.
-pub fn note(heads: &mut [u16; 4093], nexts: &mut [u16; 4096], at: usize, m: usize)
-    requires { (at < 4093) × (m < 4096) }
-    ensures { Noted at m heads.old nexts.old heads.new nexts.new }
-{
-    nexts[m] = heads[at];
-    heads[at] = (m + 1) as u16;
-}
-
 // Whether the pair number i is the given one: compared where it stands, the standing first, up to the first word that differs. Both cover
 // sets stand in their first `used` words.
 fn is_pair(workspace: &[u64], i: usize, standing: u64, cover: &[u64; 16], used: usize) -> bool
@@ -66,42 +61,45 @@ fn is_pair(workspace: &[u64], i: usize, standing: u64, cover: &[u64; 16], used: 
     if workspace[18 * i] != standing {
         return false;
     }
-    let words: &[u64] = cover;
     let from = 18 * i + 1;
-    let mut j = 0;
-    while j < used {
-        if workspace[from + j] != words[j] {
-            return false;
-        }
-        j += 1;
-    }
-    true
+    workspace[from..from + used] == cover[..used]
 }
 
-// Whether the pair, of the bucket `at`, is among the first n: it is looked for along its chain. All cover sets stand in their first `used`
-// words.
-pub fn seen(
-    workspace: &[u64],
-    heads: &[u16; 4093],
-    nexts: &[u16; 4096],
-    at: usize,
-    n: usize,
-    standing: u64,
-    cover: &[u64; 16],
-    used: usize,
-) -> bool
-    requires { (18 * n ≤ length workspace.now) × (n ≤ 4096) × (at ≡ bucket_of (pair standing cover.now))
-        × Indexed workspace.now n heads.now nexts.now × (used ≤ 16) × (number_of cover.now < 2 ^ (64 * used))
-        × Short used workspace.now n }
-    ensures { Seen n workspace.now (pair standing cover.now) result }
-{
-    let mut next = heads[at] as usize;
-    while 0 < next {
-        let i = next - 1;
-        if is_pair(workspace, i, standing, cover, used) {
-            return true;
-        }
-        next = nexts[i] as usize;
+impl Index {
+    // Puts the pair number m in front of the chain of the bucket `at`.
+    pub fn note(&mut self, at: usize, m: usize)
+        requires { (at < 4093) × (m < 4096) }
+        ensures { Noted at m self.old.heads self.old.nexts self.new.heads self.new.nexts }
+    {
+        self.nexts[m] = self.heads[at];
+        self.heads[at] = (m + 1) as u16;
     }
-    false
+
+    // Whether the pair, of the bucket `at`, is among the first n: it is looked for along its chain. All cover sets stand in their first
+    // `used` words.
+    pub fn seen(
+        &self,
+        workspace: &[u64],
+        at: usize,
+        n: usize,
+        standing: u64,
+        cover: &[u64; 16],
+        used: usize,
+    ) -> bool
+        requires { (18 * n ≤ length workspace.now) × (n ≤ 4096) × (at ≡ bucket_of (pair standing cover.now))
+            × Indexed workspace.now n self.now.heads self.now.nexts × (used ≤ 16) × (number_of cover.now < 2 ^ (64 * used))
+            × Short used workspace.now n }
+        ensures { Seen n workspace.now (pair standing cover.now) result }
+    {
+        let mut next = self.heads[at] as usize;
+        // No `for`: a chain is followed, and nothing is counted.
+        while 0 < next {
+            let i = next - 1;
+            if is_pair(workspace, i, standing, cover, used) {
+                return true;
+            }
+            next = self.nexts[i] as usize;
+        }
+        false
+    }
 }

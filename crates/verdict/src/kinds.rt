@@ -6,17 +6,14 @@ ghost use Rattle.verdict.specs.KindsTurns.{ListKinds};
 
 use crate::column_steps::inner;
 use crate::leading::lead_from;
-use finding::clear::clear_words;
 
 // The labels that enter the occurrences of the expression x, which come after the offset `base`.
 fn list_kinds(enter: &[u64], x: usize, size: u64, base: usize, labels: usize, kinds: &mut [u64])
     requires { (x ≤ 16) × (size ≤ 63) × (labels ≤ 32) × (32 * x + 32 ≤ length enter.now) × (base + 65 ≤ length kinds.old) }
     ensures { ListKinds x size base labels enter.now kinds.old kinds.new }
 {
-    let mut a = 0;
-    while a < labels {
+    for a in 0..labels {
         lead_from(inner(enter[32 * x + a], size), base + 1, a as u64, kinds);
-        a += 1;
     }
 }
 
@@ -25,14 +22,11 @@ pub fn kinds_of(enter: &[u64], sizes: &[u64], lists: usize, labels: usize, kinds
     requires { Counted lists sizes.now × (labels ≤ 32) × (32 * lists + 32 ≤ length enter.now) × (occupied sizes.now 0 lists + 65 ≤ length kinds.old) }
     ensures { Kinds lists labels enter.now sizes.now kinds.new }
 {
-    let room = kinds.len();
-    clear_words(kinds, room);
+    kinds.fill(0);
     let mut base: usize = 0;
-    let mut v = 0;
-    while v < lists {
+    for v in 0..lists {
         let size = sizes[v + 1];
         list_kinds(enter, v + 1, size, base, labels, kinds);
         base += size as usize;
-        v += 1;
     }
 }

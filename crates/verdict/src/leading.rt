@@ -4,18 +4,15 @@ ghost use Rattle.verdict.specs.Tables.{Counted};
 ghost use Rattle.verdict.specs.Columns.{Leading};
 ghost use Rattle.verdict.specs.LeadingTurns.{LedFrom, ListLed};
 
-use finding::clear::clear_words;
+use places::Places;
 
 // Adds the place o to the entries of the places of a set, which stand from `base` on.
 pub fn lead_from(set: u64, base: usize, o: u64, before: &mut [u64])
     requires { (base + 64 ≤ length before.old) × (o < 64) }
     ensures { LedFrom base o set before.old before.new }
 {
-    let mut rest = set;
-    while rest != 0 {
-        let at = base + (u64::trailing_zeros(rest) as usize);
-        before[at] = before[at] | (1 << o);
-        rest = rest & (rest - 1);
+    for p in Places(set).members() {
+        before[base + p] |= 1 << o;
     }
 }
 
@@ -26,14 +23,12 @@ fn list_leading(follow: &[u64], v: usize, size: u64, before: &mut [u64]) -> bool
     ensures { result ≡ true → ListLed v size follow.now before.old before.new }
 {
     let base = 64 * v;
-    let mut o: u64 = 0;
-    while o <= size {
+    for o in 0..=size {
         let set = follow[base + 64 + (o as usize)];
         if set & 1 == 1 {
             return false;
         }
         lead_from(set, base, o, before);
-        o += 1;
     }
     true
 }
@@ -43,13 +38,11 @@ pub fn leading(follow: &[u64], sizes: &[u64], lists: usize, before: &mut [u64]) 
     requires { Counted lists sizes.now × (64 * lists + 64 ≤ length follow.now) × (64 * lists ≤ length before.old) }
     ensures { result ≡ true → Leading lists follow.now sizes.now before.new }
 {
-    clear_words(before, 64 * lists);
-    let mut v = 0;
-    while v < lists {
+    before[..64 * lists].fill(0);
+    for v in 0..lists {
         if !list_leading(follow, v, sizes[v + 1], before) {
             return false;
         }
-        v += 1;
     }
     true
 }

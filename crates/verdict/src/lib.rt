@@ -22,8 +22,11 @@ mod ranges;
 mod rows;
 mod stable;
 mod sums;
+mod tables;
 mod verdict;
+mod ways;
 mod wide_rows;
 mod workspace;
 
-pub use operation::{VerdictAnswer, judge};
+pub use operation::judge;
+pub use verdict::Verdict;

@@ -1,28 +1,18 @@
 // The states that lists with the empty path lead to from each state, as k words at k × state; and, where one word is enough, those that are
 // reached where a path of a list ends, at 64 × list + state.
-ghost use Rattle.std.specs.Prelude.{◌≡◌, ℕ, ◌+◌, ◌*◌, ◌<◌, ◌≤◌, true, ◌↔◌, List, length};
+ghost use Rattle.std.specs.Prelude.{◌≡◌, ℕ, ◌+◌, ◌*◌, ◌<◌, ◌≤◌, true, ◌↔◌, List, length, slice_index};
 ghost use Rattle.theory.specs.Places.{Member};
 ghost use Rattle.places.specs.Words.{number_of};
 ghost use Rattle.verdict.specs.Columns.{NextBelow, LeadsIn, Passing, Finishing};
-ghost use Rattle.verdict.specs.PassingTurns.{RowBelow, RowOnward, Onward, Passable, Alone, Sound};
+ghost use Rattle.verdict.specs.PassingTurns.{RowOnward, Onward, Passable, Alone, Sound};
 ghost use Rattle.verdict.specs.PassingTurns.{WordJoined, StateJoined, Gathered, Rounded};
 ghost use Rattle.verdict.specs.FinishingTurns.{ListEnded};
 
-use finding::clear::clear_words;
-
-// Whether each next state of the state q is one of the states.
-fn row_below(table: &[u16], q: usize, states: usize, lists: usize) -> bool
-    requires { (q < states) × (states ≤ 1024) × (lists ≤ 16) × (16 * states ≤ length table.now) }
-    ensures { result ≡ true → RowBelow states table.now q lists }
+// Whether each next state of a row is one of the states.
+fn row_below(row: &[u16], states: usize) -> bool
+    ensures { result ≡ true → (v : ℕ) → v < length row.now → slice_index row.now v < states }
 {
-    let mut v = 0;
-    while v < lists {
-        if table[16 * q + v] as usize >= states {
-            return false;
-        }
-        v += 1;
-    }
-    true
+    row.iter().all(|next| (*next as usize) < states)
 }
 
 // Whether each next state is one of the states.
@@ -30,12 +20,10 @@ fn next_below(table: &[u16], states: usize, lists: usize) -> bool
     requires { (states ≤ 1024) × (lists ≤ 16) × (16 * states ≤ length table.now) }
     ensures { result ≡ true → NextBelow states lists table.now }
 {
-    let mut q = 0;
-    while q < states {
-        if !row_below(table, q, states, lists) {
+    for q in 0..states {
+        if !row_below(&table[16 * q..16 * q + lists], states) {
             return false;
         }
-        q += 1;
     }
     true
 }
@@ -45,11 +33,9 @@ fn alone(states: usize, k: usize, passes: &mut [u64])
     requires { (k ≤ 4) × (states ≤ 64 * k) × (k * states ≤ length passes.old) }
     ensures { Alone k states passes.new }
 {
-    clear_words(passes, k * states);
-    let mut t = 0;
-    while t < states {
+    passes[..k * states].fill(0);
+    for t in 0..states {
         passes[k * t + t / 64] = 1 << (t % 64);
-        t += 1;
     }
 }
 
@@ -70,12 +56,8 @@ fn join_state(k: usize, t: usize, s: usize, passes: &mut [u64]) -> bool
     ensures { StateJoined k t s passes.old passes.new result }
 {
     let mut changed = false;
-    let mut j = k;
-    while j > 0 {
-        j -= 1;
-        if join_word(k * t + j, k * s + j, passes) {
-            changed = true;
-        }
+    for j in (0..k).rev() {
+        changed |= join_word(k * t + j, k * s + j, passes);
     }
     changed
 }
@@ -94,13 +76,9 @@ fn gather(
     ensures { Gathered k states lists 0 accepting.now table.now t passes.old passes.new result }
 {
     let mut changed = false;
-    let mut v = lists;
-    while v > 0 {
-        v -= 1;
+    for v in (0..lists).rev() {
         if accepting[v + 1] & 1 == 1 {
-            if join_state(k, t, table[16 * t + v] as usize, passes) {
-                changed = true;
-            }
+            changed |= join_state(k, t, table[16 * t + v] as usize, passes);
         }
     }
     changed
@@ -120,12 +98,8 @@ fn pass_round(
     ensures { Rounded k states lists accepting.now table.now passes.new result }
 {
     let mut changed = false;
-    let mut t = states;
-    while t > 0 {
-        t -= 1;
-        if gather(accepting, table, states, lists, k, t, passes) {
-            changed = true;
-        }
+    for t in (0..states).rev() {
+        changed |= gather(accepting, table, states, lists, k, t, passes);
     }
     changed
 }
@@ -135,12 +109,10 @@ fn row_onward(accepting: &[u64], table: &[u16], q: usize, lists: usize) -> bool
     requires { (q < 1024) × (lists ≤ 16) × (lists < length accepting.now) × (16 * q + 16 ≤ length table.now) }
     ensures { result ≡ true → RowOnward accepting.now table.now q lists }
 {
-    let mut v = 0;
-    while v < lists {
+    for v in 0..lists {
         if accepting[v + 1] & 1 == 1 && (table[16 * q + v] as usize) < q {
             return false;
         }
-        v += 1;
     }
     true
 }
@@ -150,12 +122,10 @@ fn onward(accepting: &[u64], table: &[u16], states: usize, lists: usize) -> bool
     requires { (states ≤ 1024) × (lists ≤ 16) × (lists < length accepting.now) × (16 * states ≤ length table.now) }
     ensures { result ≡ true → Onward states lists accepting.now table.now }
 {
-    let mut q = 0;
-    while q < states {
+    for q in 0..states {
         if !row_onward(accepting, table, q, lists) {
             return false;
         }
-        q += 1;
     }
     true
 }
@@ -183,30 +153,12 @@ pub fn passing(
         pass_round(accepting, table, states, lists, k, passes);
         return true;
     }
-    let mut rounds = 0;
-    while rounds <= states {
+    for _round in 0..=states {
         if !pass_round(accepting, table, states, lists, k, passes) {
             return true;
         }
-        rounds += 1;
     }
     false
-}
-
-// The words of the state 0, as four words.
-fn first_words(passes: &[u64], k: usize, first: &mut [u64])
-    requires { (k ≤ 4) × (k ≤ length passes.now) × (length first.old ≡ 4) }
-    ensures { (t : ℕ) → Member t (number_of first.new) ↔ LeadsIn k passes.now 0 t }
-{
-    let mut j = 4;
-    while j > 0 {
-        j -= 1;
-        if j < k {
-            first[j] = passes[j];
-        } else {
-            first[j] = 0;
-        }
-    }
 }
 
 // The states that the state 0 leads to, as four words.
@@ -214,7 +166,8 @@ pub fn first_of(passes: &[u64], k: usize, first: &mut [u64; 4])
     requires { (k ≤ 4) × (k ≤ length passes.now) }
     ensures { (t : ℕ) → Member t (number_of first.new) ↔ LeadsIn k passes.now 0 t }
 {
-    first_words(passes, k, first);
+    first[..k].copy_from_slice(&passes[..k]);
+    first[k..].fill(0);
 }
 
 // The entries of the states that the list v leads to; false where one is none of the states.
@@ -228,14 +181,12 @@ fn list_entries(
     requires { (states ≤ 64) × (v < 16) × (16 * states ≤ length table.now) × (64 * v + 64 ≤ length ended.old) }
     ensures { ListEnded states v table.now passes.now ended.old ended.new result }
 {
-    let mut q = 0;
-    while q < states {
+    for q in 0..states {
         let next = table[16 * q + v] as usize;
         if next >= states {
             return false;
         }
         ended[64 * v + q] = passes[next];
-        q += 1;
     }
     true
 }
@@ -252,12 +203,10 @@ pub fn finishing(
     ensures { result ≡ true → (accepting : List ℕ) → Passing 1 states lists accepting table.now passes.now
         → Finishing states lists accepting table.now ended.new }
 {
-    let mut v = 0;
-    while v < lists {
+    for v in 0..lists {
         if !list_entries(passes, table, states, v, ended) {
             return false;
         }
-        v += 1;
     }
     true
 }

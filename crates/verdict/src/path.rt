@@ -19,6 +19,7 @@ pub fn depth(workspace: &[u64], i: usize) -> usize
 {
     let mut j = i;
     let mut labels = 0;
+    // No `for`: the links back to the first pair are followed.
     while j != 0 {
         let before = (link(workspace, j) % 8192) as usize;
         if before >= j {
@@ -38,11 +39,9 @@ pub fn write_path(workspace: &[u64], i: usize, labels: usize, path: &mut [u8])
         return;
     }
     let mut j = i;
-    let mut k = labels;
-    while k > 0 {
+    for k in (0..labels).rev() {
         let reached = link(workspace, j);
-        path[k - 1] = (reached / 8192 % 64) as u8;
+        path[k] = (reached / 8192 % 64) as u8;
         j = (reached % 8192) as usize;
-        k -= 1;
     }
 }

@@ -1,5 +1,5 @@
 // What steps by columns or by ranges need, computed once for all pairs.
-ghost use Rattle.std.specs.Prelude.{◌≡◌, ℕ, ◌*◌, ◌<◌, ◌≤◌, true, List, length, slice_index};
+ghost use Rattle.std.specs.Prelude.{◌≡◌, ℕ, ◌*◌, ◌<◌, ◌≤◌, true, List, length, slice_index, IfSome};
 ghost use Rattle.theory.specs.Places.{Member};
 ghost use Rattle.verdict.specs.Classes.{ClassSums, EndingLists};
 ghost use Rattle.verdict.specs.Columns.{NextBelow, Finishing, Passing};
@@ -11,6 +11,7 @@ use crate::cover::ready;
 use crate::leading::leading;
 use crate::passing::{finishing, first_of, passing};
 use crate::sums::sum_lists;
+use crate::tables::Tables;
 
 // For at most 64 states: the states that are reached where a path of a list ends, with their sums, and those that are reached from the first.
 // Whether the tables are in order.
@@ -93,44 +94,48 @@ fn prepare_ranges(
     true
 }
 
-// The width, where steps by columns or by ranges are prepared; else 0. `first` gets the states that are reached from the first.
+// The width, where steps by columns or by ranges are prepared. `first` gets the states that are reached from the first.
 pub fn prepared(
-    states: u64,
-    table: &[u16],
-    follow: &[u64],
-    enter: &[u64],
-    sizes: &[u64],
-    accepting: &[u64],
-    lists: usize,
+    tables: Tables<'_>,
     before: &mut [u64],
     ended: &mut [u64],
     first: &mut [u64; 4],
-) -> u64
-    requires { (64 * lists ≤ length before.old) × (64 * lists ≤ length ended.old)
-        × (states ≤ 64 → SumsRoom lists states ended.old) }
-    ensures { 0 < result → Prepared states lists follow.now enter.now sizes.now accepting.now
-        table.now result before.new ended.new
-        × FirstReached lists accepting.now table.now first.new }
+) -> Option<u64>
+    requires { (64 * tables.lists ≤ length before.old) × (64 * tables.lists ≤ length ended.old)
+        × (tables.states ≤ 64 → SumsRoom tables.lists tables.states ended.old) }
+    ensures { let T = tables.entry in IfSome result (λ w. Prepared T.states T.lists T.follow.now T.enter.now T.sizes.now T.accepting.now
+        T.table.now w before.new ended.new × FirstReached T.lists T.accepting.now T.table.now first.new) }
 {
-    if states == 0 {
-        return 0;
+    if tables.states == 0 {
+        return None;
     }
-    let w = ready(states, table, follow, enter, sizes, accepting, lists);
-    if w == 0 {
-        return 0;
+    let w = ready(tables)?;
+    if !leading(tables.follow, tables.sizes, tables.lists, before) {
+        return None;
     }
-    if !leading(follow, sizes, lists, before) {
-        return 0;
-    }
-    let n = states as usize;
-    if states <= 64 {
-        if !prepare_columns(table, accepting, n, lists, ended, first) {
-            return 0;
+    let n = tables.states as usize;
+    if tables.states <= 64 {
+        if !prepare_columns(
+            tables.table,
+            tables.accepting,
+            n,
+            tables.lists,
+            ended,
+            first,
+        ) {
+            return None;
         }
-        return w;
+        return Some(w);
     }
-    if !prepare_ranges(table, accepting, n, lists, ended, first) {
-        return 0;
+    if !prepare_ranges(
+        tables.table,
+        tables.accepting,
+        n,
+        tables.lists,
+        ended,
+        first,
+    ) {
+        return None;
     }
-    w
+    Some(w)
 }

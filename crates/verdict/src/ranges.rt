@@ -10,17 +10,17 @@ ghost use Rattle.verdict.specs.Ranges.{PlaceNew, ListNew, PlaceReady, ListReady,
 use crate::column_steps::inner;
 use crate::columns::put_at;
 use crate::rows::row_at;
+use crate::tables::Tables;
+use crate::ways::Ways;
 use crate::wide_rows::offset_from;
+use places::Places;
 
 // The places of a block of 64 from k on, of n.
 fn block(n: u64, k: u64) -> u64
     requires { k < n }
     ensures { Block n k result }
 {
-    if n - k < 64 {
-        return n - k;
-    }
-    64
+    (n - k).min(64)
 }
 
 // Adds the n places of a set from `from` on, at `to`.
@@ -29,6 +29,7 @@ fn put_range(set: &[u64], from: u64, to: u64, n: u64, words: &mut [u64])
     ensures { Adds (RangeAt n (number_of set.now) from to) words.old words.new }
 {
     let mut k: u64 = 0;
+    // A word of places a turn: `step_by` needs a measure of its own, and is no plainer.
     while k < n {
         let len = block(n, k);
         put_at(words, row_at(set, from + k, len), to + k, len);
@@ -42,11 +43,9 @@ fn join_ranges(set: &[u64], base: u64, from: u64, to: u64, n: u64, words: &mut [
         × ((o : ℕ) → Member o from → n * offset_from base o + n ≤ 1024) }
     ensures { Adds (RangesAt n (number_of set.now) base from to) words.old words.new }
 {
-    let mut rest = from;
-    while rest != 0 {
-        let o = offset_from(base, u64::trailing_zeros(rest) as u64);
+    for p in Places(from).members() {
+        let o = offset_from(base, p as u64);
         put_range(set, n * o, to, n, words);
-        rest = rest & (rest - 1);
     }
 }
 
@@ -59,10 +58,8 @@ fn add_state(reached: &[u64], t: usize, words: &mut [u64])
     if (words[t / 64] >> ((t % 64) as u64)) & 1 == 1 {
         return;
     }
-    let mut j = 0;
-    while j < 4 {
-        words[j] = words[j] | reached[4 * t + j];
-        j += 1;
+    for j in 0..4 {
+        words[j] |= reached[4 * t + j];
     }
 }
 
@@ -79,11 +76,9 @@ fn add_states(
         × ((n : ℕ) × Going n v first reached.now table.now (number_of words.old) states) }
     ensures { Adds (NextAt reached.now table.now v first states) words.old words.new }
 {
-    let mut rest = states;
-    while rest != 0 {
-        let q = first + (u64::trailing_zeros(rest) as usize);
+    for p in Places(states).members() {
+        let q = first + p;
         add_state(reached, table[16 * q + v] as usize, words);
-        rest = rest & (rest - 1);
     }
 }
 
@@ -95,6 +90,7 @@ fn end_range(reached: &[u64], table: &[u16], v: usize, at: u64, n: u64, words: &
         words.new }
 {
     let mut k: u64 = 0;
+    // A word of places a turn: `step_by` needs a measure of its own, and is no plainer.
     while k < n {
         let len = block(n, k);
         let part = row_at(words, at + k, len);
@@ -105,94 +101,79 @@ fn end_range(reached: &[u64], table: &[u16], v: usize, at: u64, n: u64, words: &
 
 // Adds the column of the occurrence p of the list v, and the states that are reached from there where a path of the list may end.
 fn place_range(
-    before: &[u64],
+    tables: Tables<'_>,
+    ways: Ways<'_>,
     accepting: u64,
-    reached: &[u64],
-    table: &[u16],
     v: usize,
     p: u64,
     base: u64,
     set: &[u64],
-    n: u64,
     words: &mut [u64],
 )
     requires { (length set.now ≡ 16) × (length words.old ≡ 16)
-        × PlaceReady n (number_of set.now) v base p before.now reached.now table.now words.old }
-    ensures { Adds (PlaceNew n (number_of set.now) before.now reached.now table.now accepting v
-        base p) words.old words.new }
+        × PlaceReady tables.states (number_of set.now) v base p ways.before.now ways.ended.now tables.table.now words.old }
+    ensures { let T = tables.entry in let W = ways.entry in Adds (PlaceNew T.states
+        (number_of set.now) W.before.now W.ended.now T.table.now accepting v base p) words.old words.new }
 {
-    let to = n * (base + p);
-    join_ranges(set, base, before[64 * v + (p as usize)], to, n, words);
+    let to = tables.states * (base + p);
+    join_ranges(
+        set,
+        base,
+        ways.before[64 * v + (p as usize)],
+        to,
+        tables.states,
+        words,
+    );
     if (accepting >> p) & 1 == 1 {
-        end_range(reached, table, v, to, n, words);
+        end_range(ways.ended, tables.table, v, to, tables.states, words);
     }
 }
 
 // The same for the occurrences of the list v, of `size`, that the label enters.
 fn list_ranges(
-    before: &[u64],
+    tables: Tables<'_>,
+    ways: Ways<'_>,
     entered: u64,
     accepting: u64,
     size: u64,
-    reached: &[u64],
-    table: &[u16],
     v: usize,
     base: u64,
     set: &[u64],
-    n: u64,
     words: &mut [u64],
 )
     requires { (length set.now ≡ 16) × (length words.old ≡ 16)
-        × ListReady n v base size before.now reached.now table.now words.old }
-    ensures { Adds (ListNew n (number_of set.now) before.now reached.now table.now entered
-        accepting size v base) words.old words.new }
+        × ListReady tables.states v base size ways.before.now ways.ended.now tables.table.now words.old }
+    ensures { let T = tables.entry in let W = ways.entry in Adds (ListNew T.states
+        (number_of set.now) W.before.now W.ended.now T.table.now entered accepting size v base) words.old words.new }
 {
-    let mut rest = inner(entered, size);
-    while rest != 0 {
-        let p = 1 + (u64::trailing_zeros(rest) as u64);
-        place_range(before, accepting, reached, table, v, p, base, set, n, words);
-        rest = rest & (rest - 1);
+    for i in Places(inner(entered, size)).members() {
+        let p = 1 + i as u64;
+        place_range(tables, ways, accepting, v, p, base, set, words);
     }
 }
 
 // The step over the label a of a turned set, into words that are empty before.
-pub fn step_ranges(
-    enter: &[u64],
-    sizes: &[u64],
-    accepting: &[u64],
-    before: &[u64],
-    reached: &[u64],
-    table: &[u16],
-    lists: usize,
-    a: usize,
-    set: &[u64],
-    n: u64,
-    words: &mut [u64],
-)
-    requires { RangesReady n lists enter.now sizes.now accepting.now before.now reached.now table.now × (a < 32)
-        × (length set.now ≡ 16) × (length words.old ≡ 16) × (number_of words.old ≡ 0) }
-    ensures { RangesStepped n lists a enter.now sizes.now accepting.now before.now
-        reached.now table.now (number_of set.now) (number_of words.new) }
+pub fn step_ranges(tables: Tables<'_>, ways: Ways<'_>, a: usize, set: &[u64], words: &mut [u64])
+    requires { RangesReady tables.states tables.lists tables.enter.now tables.sizes.now tables.accepting.now ways.before.now ways.ended.now
+        tables.table.now × (a < 32) × (length set.now ≡ 16) × (length words.old ≡ 16) × (number_of words.old ≡ 0) }
+    ensures { let T = tables.entry in let W = ways.entry in RangesStepped T.states T.lists a T.enter.now T.sizes.now T.accepting.now
+        W.before.now W.ended.now T.table.now (number_of set.now) (number_of words.new) }
 {
     let mut base: u64 = 0;
-    let mut v = 0;
-    while v < lists {
+    for v in 0..tables.lists {
         let x = v + 1;
-        let size = sizes[x];
+        let size = tables.sizes[x];
         list_ranges(
-            before,
-            enter[32 * x + a],
-            accepting[x],
+            tables,
+            ways,
+            tables.enter[32 * x + a],
+            tables.accepting[x],
             size,
-            reached,
-            table,
             v,
             base,
             set,
-            n,
             words,
         );
         base += size;
-        v += 1;
     }
 }

@@ -1,5 +1,5 @@
 // Whether classes of occurrences are stable: all of a class are entered by the same labels, and led to from the same classes.
-ghost use Rattle.std.specs.Prelude.{◌≡◌, ℕ, ◌+◌, ◌-◌, ◌*◌, ◌^◌, ◌<◌, ◌≤◌, true, length, slice_index};
+ghost use Rattle.std.specs.Prelude.{◌≡◌, ℕ, ◌+◌, ◌-◌, ◌*◌, ◌^◌, ◌<◌, ◌≤◌, true, length, slice_index, IfSome};
 ghost use Rattle.verdict.specs.Columns.{PlacesWithin};
 ghost use Rattle.verdict.specs.Tables.{Counted, occupied};
 ghost use Rattle.verdict.specs.ColumnLists.{PlacesOf};
@@ -34,7 +34,7 @@ fn is_like(
     true
 }
 
-// The classes known after the occurrences of the list v, which come after the offset `base`; 0 where one is not like those known of its
+// The classes known after the occurrences of the list v, which come after the offset `base`; none where one is not like those known of its
 // class.
 fn list_stable(
     before: &[u64],
@@ -46,26 +46,24 @@ fn list_stable(
     already: u64,
     merged: &mut [u64],
     entering: &mut [u64; 64],
-) -> u64
+) -> Option<u64>
     requires { (v < 16) × (size ≤ 63) × (64 * v + 64 ≤ length before.now) × (base + size < length kinds.now) × (base + size < length classes.now)
         × PlacesOf v size before.now × ((p : ℕ) → 0 < p → p ≤ size → slice_index classes.now (base + p) < 64) × (64 ≤ length merged.old)
         × (64 ≤ length entering.old) }
-    ensures { 0 < result → ListLike v base size before.now kinds.now classes.now already merged.old
-        entering.old result merged.new entering.new }
+    ensures { IfSome result (λ known. ListLike v base size before.now kinds.now classes.now already merged.old
+        entering.old known merged.new entering.new) }
 {
     let mut known = already;
-    let mut p = 1;
-    while p <= size {
+    for p in 1..size + 1 {
         let o = base + p;
         let c = class_at(classes, o);
         let set = classes_of(classes, base, before[64 * v + p]);
         if !is_like(c as usize, set, kinds[o], known, merged, entering) {
-            return 0;
+            return None;
         }
-        known = known | (1 << c);
-        p += 1;
+        known |= 1 << c;
     }
-    known
+    Some(known)
 }
 
 // Whether the classes, numbered below k, are stable and none is empty: `merged` gets at c the classes that lead to the class c, and `entering`
@@ -88,31 +86,18 @@ fn stable(
 {
     let mut known: u64 = 1;
     let mut base: usize = 0;
-    let mut v = 0;
-    while v < lists {
+    for v in 0..lists {
         let size = sizes[v + 1] as usize;
-        known = list_stable(
+        let now = list_stable(
             before, v, size, base, kinds, classes, known, merged, entering,
         );
-        if known == 0 {
+        let Some(more) = now else {
             return false;
-        }
+        };
+        known = more;
         base += size;
-        v += 1;
     }
     known == (1 << (k as u64)) - 1
-}
-
-// No class is entered yet.
-fn clear_entered(merged: &mut [u64])
-    requires { 128 ≤ length merged.old }
-    ensures { NoneEntered merged.old merged.new }
-{
-    let mut i = 64;
-    while i < 128 {
-        merged[i] = 0;
-        i += 1;
-    }
 }
 
 // The classes that each label enters, at 64 + label.
@@ -120,11 +105,9 @@ fn enter_classes(entering: &[u64; 64], k: usize, merged: &mut [u64])
     requires { (0 < k) × (k ≤ 63) × (128 ≤ length merged.old) }
     ensures { EnteredBy k entering.now merged.old merged.new }
 {
-    clear_entered(merged);
-    let mut c = 1;
-    while c < k {
+    merged[64..128].fill(0);
+    for c in 1..k {
         lead_from(entering[c], 64, c as u64, merged);
-        c += 1;
     }
 }
 

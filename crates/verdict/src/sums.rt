@@ -10,12 +10,10 @@ fn sum_four(ended: &mut [u64], from: usize, at: usize)
     ensures { FourSummed from at ended.old ended.new }
 {
     ended[at] = 0;
-    let mut set: u64 = 1;
-    while set < 16 {
+    for set in 1..16u64 {
         let less = (set & (set - 1)) as usize;
         let state = u64::trailing_zeros(set) as usize;
         ended[at + (set as usize)] = ended[at + less] | ended[from + state];
-        set += 1;
     }
 }
 
@@ -24,10 +22,8 @@ pub fn sum_list(ended: &mut [u64], from: usize, at: usize, count: usize)
     requires { (count ≤ 16) × (from + 64 ≤ at) × (at + 16 * count ≤ length ended.old) }
     ensures { ListSummed from at count ended.old ended.new }
 {
-    let mut k = 0;
-    while k < count {
+    for k in 0..count {
         sum_four(ended, from + 4 * k, at + 16 * k);
-        k += 1;
     }
 }
 
@@ -38,10 +34,8 @@ pub fn sum_lists(ended: &mut [u64], lists: usize, n: usize)
         × ((j : ℕ) → j < 64 * lists → slice_index ended.new j ≡ slice_index ended.old j) }
 {
     let count = 2 * ((n + 7) / 8);
-    let mut v = 0;
-    while v < lists {
+    for v in 0..lists {
         sum_list(ended, 64 * v, 64 * lists + 16 * count * v, count);
-        v += 1;
     }
 }
 
@@ -53,11 +47,11 @@ pub fn ended_of(ended: &[u64], sums: usize, ends: u64) -> u64
     let mut all: u64 = 0;
     let mut rest = ends;
     let mut at = sums;
+    // Eight states a turn, and no turn behind the last one.
     while rest != 0 {
-        all = all
-            | ended[at + ((rest % 16) as usize)]
-            | ended[at + 16 + ((rest / 16 % 16) as usize)];
-        rest = rest / 256;
+        all |= ended[at + ((rest % 16) as usize)];
+        all |= ended[at + 16 + ((rest / 16 % 16) as usize)];
+        rest /= 256;
         at += 32;
     }
     all

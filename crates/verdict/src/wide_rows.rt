@@ -15,7 +15,7 @@ ghost use Rattle.verdict.specs.WideRowsPrepared.{ListSteps, ListEnters};
 use crate::column_steps::inner;
 use crate::columns::put_at;
 use crate::rows::row_at;
-use finding::clear::clear_words;
+use places::Places;
 use places::wide::Wide;
 
 // The occurrences in a set of places of a list, which come after the offset `base`, are added to the two words at `at`.
@@ -25,8 +25,8 @@ fn add_places(set: u64, size: u64, base: u64, at: usize, rows: &mut [u64])
 {
     let places = Wide::EMPTY.with_shifted(inner(set, size), base + 1);
     let words = places.words;
-    rows[at] = rows[at] | words[0];
-    rows[at + 1] = rows[at + 1] | words[1];
+    rows[at] |= words[0];
+    rows[at + 1] |= words[1];
 }
 
 // The offset of the place o of a list, whose occurrences come after the offset `base`.
@@ -45,14 +45,12 @@ fn list_steps(follow: &[u64], v: usize, size: u64, base: u64, rows: &mut [u64]) 
     requires { (v < 16) × (size < 64) × (base + size < 128) × (64 * v + 128 ≤ length follow.now) × (352 ≤ length rows.old) }
     ensures { result ≡ true → ListSteps v (size + 1) size base follow.now rows.old rows.new }
 {
-    let mut o: u64 = 0;
-    while o <= size {
+    for o in 0..size + 1 {
         let set = follow[64 * (v + 1) + (o as usize)];
         if set & 1 == 1 {
             return false;
         }
         add_places(set, size, base, 2 * (offset_from(base, o) as usize), rows);
-        o += 1;
     }
     true
 }
@@ -62,10 +60,8 @@ fn list_enters(enter: &[u64], v: usize, size: u64, base: u64, rows: &mut [u64])
     requires { (v < 16) × (size < 64) × (base + size < 128) × (32 * v + 64 ≤ length enter.now) × (352 ≤ length rows.old) }
     ensures { ListEnters v 32 size base enter.now rows.old rows.new }
 {
-    let mut a = 0;
-    while a < 32 {
+    for a in 0..32 {
         add_places(enter[32 * (v + 1) + a], size, base, 256 + 2 * a, rows);
-        a += 1;
     }
 }
 
@@ -83,10 +79,9 @@ pub fn prepare_rows(
     ensures { result ≡ true → RowsPrepared lists follow.now enter.now sizes.now accepting.now
         rows.new }
 {
-    clear_words(rows, 352);
+    rows[..352].fill(0);
     let mut base: u64 = 0;
-    let mut v = 0;
-    while v < lists {
+    for v in 0..lists {
         let size = sizes[v + 1];
         if !list_steps(follow, v, size, base, rows) {
             return false;
@@ -94,7 +89,6 @@ pub fn prepare_rows(
         list_enters(enter, v, size, base, rows);
         add_places(accepting[v + 1], size, base, 320 + 2 * v, rows);
         base += size;
-        v += 1;
     }
     true
 }
@@ -106,15 +100,13 @@ fn follow_part(rows: &[u64], part: u64, first: usize, at: usize, laid: &mut [u64
 {
     let mut low: u64 = 0;
     let mut high: u64 = 0;
-    let mut rest = part;
-    while rest != 0 {
-        let entry = first + 2 * (u64::trailing_zeros(rest) as usize);
-        low = low | rows[entry];
-        high = high | rows[entry + 1];
-        rest = rest & (rest - 1);
+    for p in Places(part).members() {
+        let entry = first + 2 * p;
+        low |= rows[entry];
+        high |= rows[entry + 1];
     }
-    laid[at] = laid[at] | low;
-    laid[at + 1] = laid[at + 1] | high;
+    laid[at] |= low;
+    laid[at + 1] |= high;
 }
 
 // The offsets that can come next from the row of each state of a set, over any label, at 2 × state.
@@ -124,15 +116,13 @@ pub fn lay_rows(rows: &[u64], w: u64, states: u64, words: &[u64], laid: &mut [u6
     ensures { RowsLaid w states rows.now (number_of words.now) laid.new }
 {
     let mut from: u64 = 0;
-    let mut q: u64 = 0;
-    while q < states {
+    for q in 0..states {
         let at = 2 * (q as usize);
         laid[at] = 0;
         laid[at + 1] = 0;
         follow_part(rows, row_at(words, from, 64), 0, at, laid);
         follow_part(rows, row_at(words, from + 64, w - 64), 128, at, laid);
         from += w;
-        q += 1;
     }
 }
 
@@ -142,13 +132,11 @@ fn ended_row(rows: &[u64], ended: &[u64], lists: usize, q: usize, low: u64, high
     ensures { (t : ℕ) → Member t result ↔ Ends lists rows.now ended.now q (Has low high) t }
 {
     let mut alone: u64 = 0;
-    let mut v = 0;
-    while v < lists {
+    for v in 0..lists {
         let at = 320 + 2 * v;
         if (low & rows[at]) | (high & rows[at + 1]) != 0 {
-            alone = alone | ended[64 * v + q];
+            alone |= ended[64 * v + q];
         }
-        v += 1;
     }
     alone
 }
@@ -167,10 +155,8 @@ fn put_alone(w: u64, alone: u64, words: &mut [u64])
     requires { (length words.old ≡ 16) × ((t : ℕ) → Member t alone → w * t < 1024) }
     ensures { AlonePut w alone words.old words.new }
 {
-    let mut rest = alone;
-    while rest != 0 {
-        put_at(words, 1, w * (u64::trailing_zeros(rest) as u64), 1);
-        rest = rest & (rest - 1);
+    for t in Places(alone).members() {
+        put_at(words, 1, w * t as u64, 1);
     }
 }
 
@@ -194,16 +180,14 @@ pub fn step_rows(
     let label = 256 + 2 * a;
     let mut alone: u64 = 0;
     let mut from: u64 = 0;
-    let mut q: usize = 0;
-    while q < (states as usize) {
+    for q in 0..states as usize {
         let low = laid[2 * q] & rows[label];
         let high = laid[2 * q + 1] & rows[label + 1];
         if low | high != 0 {
             put_row(words, low, high, from, w);
-            alone = alone | ended_row(rows, ended, lists, q, low, high);
+            alone |= ended_row(rows, ended, lists, q, low, high);
         }
         from += w;
-        q += 1;
     }
     put_alone(w, alone, words);
 }

@@ -10,14 +10,9 @@ pub fn load(workspace: &[u64], i: usize) -> Wide
     ensures { 18 * i + 18 ≤ length workspace.now → result.words ≡ words_at workspace.now (18 * i + 1) 16 }
 {
     let mut words: [u64; 16] = [0; 16];
-    if workspace.len() / 18 <= i {
-        return Wide { words };
-    }
-    let from = 18 * i + 1;
-    let mut j = 0;
-    while j < 16 {
-        words[j] = workspace[from + j];
-        j += 1;
+    if i < workspace.len() / 18 {
+        let from = 18 * i + 1;
+        words.copy_from_slice(&workspace[from..from + 16]);
     }
     Wide { words }
 }

@@ -8,37 +8,37 @@ pub loop-a-init : goal.loop-a-init
 loop-a-init c = followed-none
 
 pub overflow_mul-sizes : goal.overflow_mul-sizes
-overflow_mul-sizes c = omega (arith, row_small c.requires.1 c.loop-a-test.true)
+overflow_mul-sizes c = omega (arith, row_small {a = c.loop-a.a} c.args.turned.ends_fit (omega arith))
 
 pub overflow_add-sizes : goal.overflow_add-sizes
-overflow_add-sizes c = omega (arith, row_small c.requires.1 c.loop-a-test.true)
+overflow_add-sizes c = omega (arith, row_small {a = c.loop-a.a} c.args.turned.ends_fit (omega arith))
 
 pub overflow_mul-sizes-in-loop-a : goal.overflow_mul-sizes-in-loop-a
-overflow_mul-sizes-in-loop-a c = omega (arith, word-there c.requires.0 c.requires.2 c.loop-a-test.true)
+overflow_mul-sizes-in-loop-a c = omega (arith, word-there {a = c.loop-a.a} c.args.turned.turnable c.requires.0 (omega arith))
 
 pub overflow_add-sizes-in-loop-a : goal.overflow_add-sizes-in-loop-a
-overflow_add-sizes-in-loop-a c = omega (arith, word-there c.requires.0 c.requires.2 c.loop-a-test.true)
+overflow_add-sizes-in-loop-a c = omega (arith, word-there {a = c.loop-a.a} c.args.turned.turnable c.requires.0 (omega arith))
 
 pub offset_bounds-rows-sizes : goal.offset_bounds-rows-sizes
-offset_bounds-rows-sizes c = omega (arith, word-there c.requires.0 c.requires.2 c.loop-a-test.true)
+offset_bounds-rows-sizes c = omega (arith, word-there {a = c.loop-a.a} c.args.turned.turnable c.requires.0 (omega arith))
 
 pub bounds-rows-sizes : goal.bounds-rows-sizes
-bounds-rows-sizes c = word-there c.requires.0 c.requires.2 c.loop-a-test.true
+bounds-rows-sizes c = word-there {a = c.loop-a.a} c.args.turned.turnable c.requires.0 (omega arith)
 
 pub follow_symbol-requires : goal.follow_symbol-requires
 follow_symbol-requires c =
     let l = c.loop-a in
     let a = c.args in
     let p = c.requires in
-    let word = c.type_inv.rows (a.sizes.symbols * a.s + l.a) in (
-      ends_there a.from a.set p.1 c.loop-a-test.true p.3,
-      image-there l.sets p.0 p.2 c.loop-a-test.true (omega (arith, word)) (omega (arith, l.invariant.words-kept, p.5)),
+    let word = c.type_inv.rows (a.turned.sizes.symbols * a.s + l.a) in (
+      ends_there a.from a.set a.turned.ends_fit (omega arith) p.1,
+      image-there l.sets a.turned.turnable p.0 (omega arith) (omega (arith, word)) (omega (arith, l.invariant.words-kept, p.3)),
     )
 
 pub loop-a-preserved : goal.loop-a-preserved
 loop-a-preserved c =
     let f = c.follow_symbol in
-    followed-more c.loop-a.invariant c.loop-a-test.true f.auto.sets f.ensures
+    followed-more c.loop-a.invariant (omega arith) f.auto.sets f.ensures
 
 pub returns : goal.returns
 returns c = followed-all c.loop-a.invariant (omega arith)

@@ -1,6 +1,6 @@
 use Rattle.std.specs.Prelude.{◌≡◌, ℕ, ◌+◌, ◌*◌, ◌/◌, ◌<◌, List, length, get_or}
 use Rattle.theory.specs.Graph.{Table}
-use mathlib.Core.Path.{refl, sym, ◌∙◌, subst}
+use mathlib.Core.Path.{sym, subst}
 use Rattle.answering.specs.Links.{InRange}
 use Rattle.answering.specs.Ends.{EndsFit, EndsTo, LinkFits, link_fits, ends-none, ends_more, ends-all}
 use native.Mathlib.Omega.{arith}
@@ -12,28 +12,28 @@ link-read : {t : Table} {k N i : ℕ} {before ends : List ℕ} {x a y : ℕ} →
 link-read r f e l p q s = link_fits r f e l (sym p, sym q, sym s)
 
 pub loop-at-init : goal.loop-at-init
-loop-at-init c = (omega arith, refl, ends-none c.requires.2)
+loop-at-init c = ends-none c.requires.2
 
 pub overflow_mul-sizes : goal.overflow_mul-sizes
 overflow_mul-sizes c =
-    let f = (link-read c.requires.0 c.requires.1 c.loop-at.invariant.1 c.loop-at-test.true c.index-x.ensures c.index-a.ensures c.index-y.ensures).row in
+    let f = (link-read c.requires.0 c.requires.1 c.loop-at.auto.ends (omega arith) c.from-x.ensures c.from-a.ensures c.from-y.ensures).row in
     omega arith
 
 pub overflow_add-sizes : goal.overflow_add-sizes
 overflow_add-sizes c =
-    let f = (link-read c.requires.0 c.requires.1 c.loop-at.invariant.1 c.loop-at-test.true c.index-x.ensures c.index-a.ensures c.index-y.ensures).row in
+    let f = (link-read c.requires.0 c.requires.1 c.loop-at.auto.ends (omega arith) c.from-x.ensures c.from-a.ensures c.from-y.ensures).row in
     omega arith
 
 pub put-requires : goal.put-requires
 put-requires c =
-    (link-read c.requires.0 c.requires.1 c.loop-at.invariant.1 c.loop-at-test.true c.index-x.ensures c.index-a.ensures c.index-y.ensures).fits
+    (link-read c.requires.0 c.requires.1 c.loop-at.auto.ends (omega arith) c.from-x.ensures c.from-a.ensures c.from-y.ensures).fits
 
 pub loop-at-preserved : goal.loop-at-preserved
 loop-at-preserved c =
     let l = c.loop-at in
     let e = c.put.ensures in
-    let f = link-read c.requires.0 c.requires.1 l.invariant.1 c.loop-at-test.true c.index-x.ensures c.index-a.ensures c.index-y.ensures in
-    (omega arith, c.put.auto.pairs ∙ l.invariant.1, subst (EndsTo _ _ _ _) (sym e) (ends_more f l.invariant.2))
+    let f = link-read c.requires.0 c.requires.1 l.auto.ends (omega arith) c.from-x.ensures c.from-a.ensures c.from-y.ensures in
+    subst (EndsTo _ _ _ _) (sym e) (ends_more f l.invariant)
 
 pub returns : goal.returns
-returns c = ends-all (omega arith) c.loop-at.invariant.2
+returns c = ends-all (omega arith) c.loop-at.invariant

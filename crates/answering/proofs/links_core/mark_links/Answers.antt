@@ -6,7 +6,7 @@ pub returns-then-few_standings : goal.returns-then-few_standings
 returns-then-few_standings c =
     let a = c.args in
     λ g l.
-    links-marked a.follow.now a.enter.now a.accepting a.labels g
+    links-marked a.follow.now a.enter.now a.accepting a.links.symbols g
     ((c.few_standings.ensures g.few-labels g.enters).few c.if-few_standings.true a.accepting)
     (c.mark_places.ensures g l)
 
@@ -14,6 +14,6 @@ pub returns : goal.returns
 returns c =
     let a = c.args in
     λ g l.
-    links-over a.follow.now a.enter.now a.accepting a.labels g
+    links-over a.follow.now a.enter.now a.accepting a.links.symbols g
     ((c.few_standings.ensures g.few-labels g.enters).many c.if-few_standings.false a.accepting)
-    l c.clear_bytes.ensures c.clear_words.ensures
+    l c.clear.ensures c.clear-2.ensures

@@ -7,6 +7,6 @@ pub returns : goal.returns
 returns c =
     let a = c.args in
     λ g l.
-    places-marked a.follow.now a.enter.now a.accepting a.labels g (λ i. search rules)
+    places-marked a.follow.now a.enter.now a.accepting a.links.symbols g (λ i. search rules)
     (λ i. search rules) l c.search_any.ensures c.mark-ones.ensures
-    c.clear_words.ensures
+    c.clear.ensures

@@ -1,33 +1,33 @@
 -- `links_in` meets its contract: the text is refused, or the tables hold its job.
+use Rattle.std.specs.Prelude.{◌≡◌, Err}
+use borrow.Author.Rules.{rules}
+use Rattle.reading.specs.Loading.{tables}
+use Rattle.finding.specs.Operation.{rows-loaded}
 use Rattle.answering.specs.AnswerJob.{links_job}
 use Rattle.answering.specs.LinksOperation.{left}
-use Rattle.finding.specs.Operation.{read-few}
-use Rattle.answering.specs.AnswerReading.{read-sizes, read-answered, read-refused}
-use native.Mathlib.Omega.{arith}
+use Rattle.answering.specs.AnswerReading.{read-answered, read-refused}
 use Rattle.answering.proofs.links_operation.links_in.Goals as goal
 
-pub job_links-requires : goal.job_links-requires
-job_links-requires c =
-    let told = c.in-Job.is in
-    let (a, b) = read-few c.args.text.now c.load_rows-told.ensures.loaded told in
-    let r = c.load_rows-told.ensures.roomy.rows _ _ told in (
-      a,
-      b,
-      record { query_follow = omega (arith, r.1); query_enter = omega (arith, r.2); lists_follow = λ h. r.1; lists_enter = λ h. r.2 },
-      c.requires.1,
-      read-sizes c.args.text.now c.load_rows-told.ensures.loaded told,
-    )
+pub invariant_of-rows : goal.invariant_of-rows
+invariant_of-rows g c =
+    let l = c.load_rows in
+    let T = tables l.new.names l.new.follow l.new.enter l.new.sizes l.new.accepting in
+    record { held = rows-loaded c.args.text.now l.result T l.ensures.loaded l.ensures.roomy _ _ c.in_ok-job.was }
 
-pub returns-in-Job : goal.returns-in-Job
-returns-in-Job c =
+pub returns-in_err-job : goal.returns-in_err-job
+returns-in_err-job g c =
     let a = c.args in
-    read-answered a.text.now c.load_rows-told.ensures.loaded
+    let l = c.load_rows.new in
+    let same : c.from_residual.result ≡ Err c.in_err-job.field-0.0 = search rules in
+    rw same
+    (read-refused a.text.now {T = tables l.names l.follow l.enter l.sizes l.accepting} c.load_rows.ensures.loaded
     (λ J. left a.recordings a.marks.now a.workspace.now (links_job J a.recordings a.chosen a.table.now a.start))
-    a.marks.now a.workspace.now c.in-Job.is (λ J w. c.job_links.ensures J)
+    a.marks.now a.workspace.now c.in_err-job.was)
 
-pub returns-in-Refused : goal.returns-in-Refused
-returns-in-Refused c =
+pub returns : goal.returns
+returns g c =
     let a = c.args in
-    read-refused a.text.now c.load_rows-told.ensures.loaded
+    let l = c.load_rows.new in
+    read-answered a.text.now {T = tables l.names l.follow l.enter l.sizes l.accepting} c.load_rows.ensures.loaded
     (λ J. left a.recordings a.marks.now a.workspace.now (links_job J a.recordings a.chosen a.table.now a.start))
-    a.marks.now a.workspace.now c.in-Refused.is
+    a.marks.now a.workspace.now c.in_ok-job.was (λ J w. c.job_links.ensures J)

@@ -7,8 +7,8 @@ use native.Mathlib.Omega.{arith}
 use borrow.Author.Rules.{rules}
 use Rattle.answering.proofs.lists_core.mark_lists.Goals as goal
 
-pub returns-then-recordings-gt4096 : goal.returns-then-recordings-gt4096
-returns-then-recordings-gt4096 c = λ l R g. absurd (omega (arith, l.few))
+pub returns-then-links-gt4096 : goal.returns-then-links-gt4096
+returns-then-links-gt4096 c = λ l R g. absurd (omega (arith, l.few))
 
 pub returns-then-not-has_rows : goal.returns-then-not-has_rows
 returns-then-not-has_rows c =
@@ -42,18 +42,18 @@ accept_ranks-requires c =
       accepted-none _ _ 4,
     )
 
-pub overflow_add-words : goal.overflow_add-words
-overflow_add-words c =
+pub overflow_add-ranked : goal.overflow_add-ranked
+overflow_add-ranked c =
     let (some, few, lists, rows) = c.has_rows.ensures.0 c.if-not-has_rows.false in
     omega (arith, c.rank_states-count.ensures.few)
 
-pub search_states-requires : goal.search_states-requires
-search_states-requires c =
+pub invariant_of-ranked : goal.invariant_of-ranked
+invariant_of-ranked c =
     let (some, few, lists, rows) = c.has_rows.ensures.0 c.if-not-has_rows.false in
     let k = c.rank_states-count.ensures in
     let n = k.few in
-    let p = c.requires in (
-      record {
+    record {
+      lent = record {
         few-lists = lists;
         few = few;
         given = rows;
@@ -63,14 +63,12 @@ search_states-requires c =
         inside = k.inside;
         width = omega arith;
         few_words = omega arith;
-      },
-      p.0,
-      p.1,
-    )
+      };
+    }
 
 pub returns : goal.returns
 returns c =
     λ l R g.
     lists-marked g l c.rank_states-count.ensures c.accept_ranks.ensures refl
     c.search_states.ensures (λ i. search rules) c.mark-ones.ensures
-    c.clear_words.ensures
+    c.clear.ensures

@@ -2,12 +2,10 @@
 use Rattle.answering.specs.ListsOperationLaws.{finding-marked, finding-refused}
 use Rattle.answering.proofs.lists_operation.finding_lists.Goals as goal
 
-pub returns-in-Found : goal.returns-in-Found
-returns-in-Found c =
-    λ F g. finding-marked g c.in-Found.is (c.mark_lists-ones.ensures c.requires.0)
+pub returns-in-Ok : goal.returns-in-Ok
+returns-in-Ok c =
+    λ F g. finding-marked g c.in-Ok.is (c.mark_lists.ensures c.requires)
 
-pub returns-in-Refused : goal.returns-in-Refused
-returns-in-Refused c =
-    λ F g.
-    finding-refused g c.in-Refused.is c.requires.0 c.clear_bytes.ensures
-    c.clear_words.ensures
+pub returns-in-Err : goal.returns-in-Err
+returns-in-Err c =
+    λ F g. finding-refused g c.in-Err.is c.requires c.clear.ensures c.clear-in-Err.ensures

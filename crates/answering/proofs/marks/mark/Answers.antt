@@ -1,17 +1,11 @@
-use Rattle.std.specs.Prelude.{◌≡◌, ℕ, ◌<◌, ◌≤◌, Bool, length}
-use Rattle.answering.specs.MarksLaws.{mark_of}
-use mathlib.Core.Path.{refl, sym, subst}
-use lib.ListN.{length-set}
+use Rattle.std.specs.Prelude.{◌≡◌, ◌<◌, length}
+use mathlib.Core.Path.{refl, subst}
 use Rattle.answering.specs.Marked.{ones}
 use Rattle.answering.specs.Pairs.{row_below}
 use Rattle.answering.specs.Marks.{marks_of, Markable}
-use Rattle.answering.specs.MarksSteps.{mark-at-most, marks-stored, marks-counted}
+use Rattle.answering.specs.MarksSteps.{mark-small, marks-stored, marks-counted}
 use native.Mathlib.Omega.{arith}
 use Rattle.answering.proofs.marks.mark.Goals as goal
-
--- A mark is at most 1.
-mark-small : {m : ℕ} (b : Bool) → m ≡ mark_of b → m ≤ 1
-mark-small b e = subst (λ n. n ≤ 1) (sym e) (mark-at-most b)
 
 pub returns-then-not-sufficing : goal.returns-then-not-sufficing
 returns-then-not-sufficing c =
@@ -31,30 +25,26 @@ returns-then-per-eq1 c =
 
 pub loop-y-init : goal.loop-y-init
 unfolding marks_of ones
-loop-y-init c = (omega arith, omega arith, refl, refl, refl)
+loop-y-init c = (omega arith, refl, refl)
 
 pub overflow_mul-per : goal.overflow_mul-per
 overflow_mul-per c =
-    let r = row_below c.args.words c.args.recordings c.loop-y-test.true in
+    let r = row_below c.args.words c.args.recordings {y = c.loop-y.y} (omega arith) in
     omega (arith, (c.sufficing.ensures.fits c.if-not-sufficing.false).room, c.well_formed.0.0)
 
 pub mark_of-m-requires : goal.mark_of-m-requires
 mark_of-m-requires c =
-    let r = row_below c.args.words c.args.recordings c.loop-y-test.true in
+    let r = row_below c.args.words c.args.recordings {y = c.loop-y.y} (omega arith) in
     (omega (arith, (c.sufficing.ensures.fits c.if-not-sufficing.false).room), (c.sufficing.ensures.fits c.if-not-sufficing.false).few_words)
 
 pub bounds-marks-y : goal.bounds-marks-y
 bounds-marks-y c =
-    omega (arith, (c.sufficing.ensures.fits c.if-not-sufficing.false).marks-fit, c.loop-y.invariant.2)
-
-pub overflow_cast-count : goal.overflow_cast-count
-overflow_cast-count c =
-    let l = mark-small _ c.mark_of-m.ensures in omega arith
+    omega (arith, (c.sufficing.ensures.fits c.if-not-sufficing.false).marks-fit)
 
 pub overflow_add-count : goal.overflow_add-count
 overflow_add-count c =
     let l = mark-small _ c.mark_of-m.ensures in
-    let v = c.loop-y.invariant.1 in
+    let v = c.loop-y.invariant.0 in
     omega arith
 
 pub loop-y-preserved : goal.loop-y-preserved
@@ -64,16 +54,14 @@ loop-y-preserved c =
     let l = mark-small _ c.mark_of-m.ensures in
     let h : c.loop-y.y < length a.marks.now = omega (arith, (c.sufficing.ensures.fits c.if-not-sufficing.false).marks-fit) in (
       omega arith,
-      omega arith,
-      simp length-set v.2,
       marks-stored a.words a.reached.now a.accepting.now c.loop-y.y c.mark_of-m.result c.mark_of-m.ensures
-          a.marks.now c.loop-y.marks h v.3,
-      marks-counted a.words a.reached.now a.accepting.now c.loop-y.y c.mark_of-m.result c.mark_of-m.ensures
-          c.loop-y.count v.4,
+          a.marks.now c.loop-y.marks h v.1,
+      rw c.from-count.ensures
+          (marks-counted a.words a.reached.now a.accepting.now c.loop-y.y c.mark_of-m.result c.mark_of-m.ensures c.loop-y.count v.2),
     )
 
 pub returns : goal.returns
 returns c =
     let v = c.loop-y.invariant in
     let e : c.loop-y.y ≡ c.args.recordings = omega arith in
-    record { set = λ g. rw e at v.3; counted = λ g. rw e at v.4; unfit = λ n. absurd (n (c.sufficing.ensures.fits c.if-not-sufficing.false)) }
+    record { set = λ g. rw e at v.1; counted = λ g. rw e at v.2; unfit = λ n. absurd (n (c.sufficing.ensures.fits c.if-not-sufficing.false)) }

@@ -26,12 +26,12 @@ returns-then-next-most c =
     next-found a.words a.pairs.now a.x l.s a.from l.invariant.1
     (omega arith) c.if-word-ne0.true a.most l.invariant.0 c.if-next-most.true
 
-pub returns-then-word-ne0 : goal.returns-then-word-ne0
-returns-then-word-ne0 c =
+pub returns-else-next-most : goal.returns-else-next-most
+returns-else-next-most c =
     let l = c.loop-s in
     let a = c.args in
     next-over a.words a.pairs.now a.x l.s a.from l.invariant.1
-    (omega arith) c.if-word-ne0.true a.most (omega arith) (omega (arith, c.if-next-most.false))
+    (omega arith) c.if-word-ne0.true a.most (omega (arith, c.if-next-most.false))
 
 pub loop-s-preserved : goal.loop-s-preserved
 loop-s-preserved c =
@@ -43,4 +43,4 @@ pub returns : goal.returns
 returns c =
     let l = c.loop-s in
     let a = c.args in
-    next-none a.words a.pairs.now a.x a.from a.most l.s (omega arith) (omega arith) l.invariant.1
+    next-none a.words a.pairs.now a.x a.from a.most l.s (omega arith) l.invariant.1

@@ -1,14 +1,13 @@
 use Rattle.std.specs.Prelude.{◌≡◌, ◌+◌, get_or, set}
-use mathlib.Core.Path.{refl, sym, subst}
+use mathlib.Core.Path.{sym, subst}
 use native.Mathlib.Nat.{one-mul}
-use lib.ListN.{length-set}
 use Rattle.theory.specs.PlacesLaws.{member-intersection}
 use Rattle.answering.specs.PlaceRows.{RowPlaced, row-none, row_more}
 use native.Mathlib.Omega.{arith}
 use Rattle.answering.proofs.place_rows.place_row.Goals as goal
 
 pub loop-a-init : goal.loop-a-init
-loop-a-init c = (omega arith, refl, row-none _ _ _ _ _)
+loop-a-init c = row-none _ _ _ _ _
 
 pub join-requires : goal.join-requires
 join-requires c =
@@ -21,17 +20,14 @@ join-requires c =
 pub loop-a-preserved : goal.loop-a-preserved
 loop-a-preserved c =
     let l = c.loop-a in
-    let a = c.args in (
-      omega arith,
-      simp length-set l.invariant.1,
-      subst
-          (λ w. RowPlaced a.leads.now a.after a.enter.now (l.a + 1) a.from a.rows.now (set l.rows (a.from + l.a) w))
-          (sym c.join.ensures) (row_more (omega (arith, l.invariant.1, c.requires.2)) l.invariant.2),
-    )
+    let a = c.args in
+    subst
+    (λ w. RowPlaced a.leads.now a.after a.enter.now (l.a + 1) a.from a.rows.now (set l.rows (a.from + l.a) w))
+    (sym c.join.ensures) (row_more (omega (arith, c.requires.2)) l.invariant)
 
 pub returns : goal.returns
 returns c =
     let l = c.loop-a in
     let a = c.args in
     let e : l.a ≡ a.labels = omega arith in
-    subst (λ n. RowPlaced a.leads.now a.after a.enter.now n a.from a.rows.now l.rows) e l.invariant.2
+    subst (λ n. RowPlaced a.leads.now a.after a.enter.now n a.from a.rows.now l.rows) e l.invariant

@@ -1,5 +1,5 @@
 use Rattle.std.specs.Prelude.{◌≡◌, length, get_or}
-use mathlib.Core.Path.{refl, ◌∙◌, subst}
+use mathlib.Core.Path.{subst}
 use Rattle.theory.specs.PlacesLaws.{member_below}
 use Rattle.answering.specs.Pairs.{row_below}
 use Rattle.answering.specs.FewPlaces.{below_64}
@@ -7,13 +7,8 @@ use Rattle.answering.specs.PlaceRows.{RowsFilled, rows_none, rows_more, rows-pla
 use native.Mathlib.Omega.{arith}
 use Rattle.answering.proofs.place_rows.place_rows.Goals as goal
 
-pub lead_places-requires : goal.lead_places-requires
-lead_places-requires c =
-    let f = c.requires.0 in
-    (omega (arith, f.few), omega (arith, f.few))
-
 pub loop-p-init : goal.loop-p-init
-loop-p-init c = (omega arith, refl, rows_none _ _ _ _ _)
+loop-p-init c = rows_none _ _ _ _ _
 
 pub overflow_mul-labels : goal.overflow_mul-labels
 overflow_mul-labels c =
@@ -30,14 +25,12 @@ place_row-requires c =
     let h = row_below a.labels (length a.follow.now) {y = l.p} (omega arith) in (
       λ q m. omega (arith, member_below 6 (get_or a.follow.now l.p 0) q (below_64 f l.p) m),
       c.requires.1,
-      omega (arith, h, c.requires.2, l.invariant.1),
+      omega (arith, h, c.requires.2),
     )
 
 pub loop-p-preserved : goal.loop-p-preserved
 loop-p-preserved c =
-    let l = c.loop-p in
-    let r = c.place_row in
-    (omega arith, r.auto.rows ∙ l.invariant.1, rows_more l.invariant.2 r.ensures)
+    rows_more c.loop-p.invariant c.place_row.ensures
 
 pub returns : goal.returns
 returns c =
@@ -46,4 +39,4 @@ returns c =
     let leads = c.lead_places.new.leads in
     let e : l.p ≡ length a.follow.now = omega arith in
     rows-placed c.requires.0 c.lead_places.ensures
-    (subst (λ n. RowsFilled a.follow.now a.enter.now a.labels leads n l.rows) e l.invariant.2)
+    (subst (λ n. RowsFilled a.follow.now a.enter.now a.labels leads n l.rows) e l.invariant)

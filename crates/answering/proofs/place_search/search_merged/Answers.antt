@@ -7,6 +7,7 @@ use lib.ListN.{length-replicate}
 use Rattle.answering.specs.PlaceSteps.{places-starting, places-unsearched}
 use Rattle.answering.specs.PlaceRows.{few-count, rows-searched}
 use native.Mathlib.Omega.{arith}
+use Rattle.answering.specs.LinkReading.{table-in-range}
 use Rattle.answering.proofs.place_search.search_merged.Goals as goal
 
 pub returns-then-not-fitting : goal.returns-then-not-fitting
@@ -17,30 +18,27 @@ pub place_rows-requires : goal.place_rows-requires
 place_rows-requires c =
     let f = c.fitting.ensures.0 c.if-not-fitting.false in
     let p = c.requires in
-    (p.2, f.enters, omega (arith, p.3))
+    (p.0, f.enters, omega (arith, p.1))
+
+pub invariant_of-steps : goal.invariant_of-steps
+invariant_of-steps c =
+    let a = c.args in
+    let r = c.place_rows in
+    let e = one-mul (a.links.symbols * length a.follow.now) in
+    let long = length-replicate {A = ℕ} 48 0 in
+    let h : 1 * (a.links.symbols * length a.follow.now) ≤ length r.new.rows = omega (arith, e, c.requires.1, r.auto.rows, long) in
+    record { fit = h }
 
 pub search_words-requires : goal.search_words-requires
 search_words-requires c =
     let f = c.fitting.ensures.0 c.if-not-fitting.false in
-    let d = c.clear_words in
-    let a = c.args in
-    let p = c.requires in
-    let r = c.place_rows in
-    let e = one-mul (a.labels * length a.follow.now) in
-    let long = length-replicate {A = ℕ} 48 0 in
-    let h : 1 * (a.labels * length a.follow.now) ≤ length r.new.rows =
-    omega (arith, e, p.3, r.auto.rows, long) in (
-      places-starting (few-count p.2) f d.ensures d.auto.words,
-      h,
-      omega (arith, f.few-labels),
-      p.0,
-      p.1,
-    )
+    let d = c.clear in
+    (places-starting (few-count c.requires.0) f d.ensures d.auto.items, omega (arith, f.few-labels), table-in-range _ _ _ c.args.links.tested, c.args.links.begun)
 
 pub returns : goal.returns
 returns c =
     let p = c.requires in
     let f = c.fitting.ensures.0 c.if-not-fitting.false in
-    let d = c.clear_words in
+    let d = c.clear in
     let r = c.search_words in
-    rows-searched p.2 f c.place_rows.ensures d.ensures (r.auto.reached ∙ d.auto.words) r.ensures
+    rows-searched p.0 f c.place_rows.ensures d.ensures (r.auto.reached ∙ d.auto.items) r.ensures

@@ -3,6 +3,7 @@ use mathlib.Core.Path.{◌∙◌, sym}
 use mathlib.Core.Bool.{false≢true}
 use Rattle.answering.specs.PlaceSteps.{places-starting, places-searched, places-unsearched}
 use native.Mathlib.Omega.{arith}
+use Rattle.answering.specs.LinkReading.{table-in-range}
 use Rattle.answering.proofs.place_search.search_places.Goals as goal
 
 pub returns-then-not-fitting : goal.returns-then-not-fitting
@@ -14,20 +15,22 @@ load_enter-requires c =
     let f = c.fitting.ensures.0 c.if-not-fitting.false in
     (f.enters, omega (arith, f.few-labels))
 
+pub invariant_of-steps : goal.invariant_of-steps
+invariant_of-steps c = record { fit = c.place_count.ensures.fits }
+
 pub search_words-requires : goal.search_words-requires
 search_words-requires c =
     let f = c.fitting.ensures.0 c.if-not-fitting.false in
-    let d = c.clear_words in
+    let d = c.clear in
     let n = c.place_count.ensures in
-    let p = c.requires in
-    (places-starting n f d.ensures d.auto.words, n.fits, omega (arith, f.few-labels), p.0, p.1)
+    (places-starting n f d.ensures d.auto.items, omega (arith, f.few-labels), table-in-range _ _ _ c.args.links.tested, c.args.links.begun)
 
 pub returns : goal.returns
 returns c =
     let f = c.fitting.ensures.0 c.if-not-fitting.false in
-    let d = c.clear_words in
+    let d = c.clear in
     let r = c.search_words in
     let e = c.load_enter in
     λ accepting.
     places-searched e.new.images c.place_count.ensures f e.ensures d.ensures
-    (r.auto.reached ∙ d.auto.words) r.ensures
+    (r.auto.reached ∙ d.auto.items) r.ensures

@@ -11,21 +11,20 @@ returns-then-flags-s-eq1 c = (λ e. absurd (false≢true e), λ (d, o). absurd (
 pub loop-v-init : goal.loop-v-init
 loop-v-init c =
     let a = c.args in
-    (omega arith, own-next-none a.next.now a.s)
+    own-next-none a.next.now a.s
 
-pub returns-then-index-s : goal.returns-then-index-s
-returns-then-index-s c =
+pub returns-then-from-s : goal.returns-then-from-s
+returns-then-from-s c =
     let v = c.loop-v.v in
-    let h = c.loop-v-test.true in
-    (λ e. absurd (false≢true e), λ (d, o). absurd (c.if-index-s.true (c.index.ensures ∙ o v h)))
+    (λ e. absurd (false≢true e), λ (d, o). absurd (c.if-from-s.true (c.from.ensures ∙ o v (omega arith))))
 
 pub loop-v-preserved : goal.loop-v-preserved
 loop-v-preserved c =
     let a = c.args in
-    (omega arith, own-next-more a.next.now a.s c.loop-v.invariant.1 (sym c.index.ensures ∙ c.if-index-s.false))
+    own-next-more a.next.now a.s c.loop-v.invariant (sym c.from.ensures ∙ c.if-from-s.false)
 
 pub returns : goal.returns
 returns c =
     let a = c.args in
     let e : c.loop-v.v ≡ a.lists = omega arith in
-    (λ t. (c.if-flags-s-eq1.false, rw e at c.loop-v.invariant.1), λ o. refl)
+    (λ t. (c.if-flags-s-eq1.false, rw e at c.loop-v.invariant), λ o. refl)

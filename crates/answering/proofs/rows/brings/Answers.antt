@@ -6,9 +6,6 @@ use Rattle.answering.specs.SetRows.{word_of, some-new, none-new}
 use native.Mathlib.Omega.{arith}
 use Rattle.answering.proofs.rows.brings.Goals as goal
 
-pub loop-j-init : goal.loop-j-init
-loop-j-init c = (omega arith, λ k h. absurd (omega arith))
-
 pub returns-then-new-ne0 : goal.returns-then-new-ne0
 returns-then-new-ne0 c =
     let l = c.loop-j in
@@ -21,7 +18,7 @@ returns-then-new-ne0 c =
 
 pub loop-j-preserved : goal.loop-j-preserved
 loop-j-preserved c =
-    (omega arith, below_more _ _ c.loop-j.invariant.1 c.if-new-ne0.false)
+    below_more _ _ c.loop-j.invariant c.if-new-ne0.false
 
 pub returns : goal.returns
 returns c =
@@ -30,5 +27,5 @@ returns c =
     record {
       some = λ e. absurd (false≢true e);
       nothing = λ e k h i m.
-          none-new (word_of a.sets.now a.from k) (word_of a.known.now a.base k) (l.invariant.1 k (omega arith)) i m;
+          none-new (word_of a.sets.now a.from k) (word_of a.known.now a.base k) (l.invariant k (omega arith)) i m;
     }

@@ -14,10 +14,6 @@ nothing : (c : goal.Else-waits)
 nothing c (k, l, d) =
     d (c.any_from-waits.ensures.nothing c.if-waits.false k l)
 
-pub overflow_mul-from : goal.overflow_mul-from
-overflow_mul-from c =
-    let p = c.requires.2 in omega arith
-
 pub overflow_mul-base : goal.overflow_mul-base
 overflow_mul-base c =
     let l = row-reached c.requires.0 c.args.y c.requires.1 in omega arith
@@ -30,10 +26,6 @@ pub returns-then-not-brings : goal.returns-then-not-brings
 returns-then-not-brings c =
     let a = c.args in
     states-known a.images.now a.a c.requires.0 (c.brings.ensures.nothing (c.if-not-brings.true))
-
-pub any_from-waits-requires : goal.any_from-waits-requires
-any_from-waits-requires c =
-    row-pending c.requires.0 c.args.y c.requires.1
 
 pub unite_new-requires : goal.unite_new-requires
 unite_new-requires c =
@@ -51,10 +43,6 @@ returns-then-waits c =
     states-stay a.a a.y p.0 p.1 (c.brings.ensures.some (c.if-not-brings.false))
     c.unite.auto.into c.unite_new.auto.into c.unite.ensures c.unite_new.ensures
     (c.any_from-waits.ensures.some c.if-waits.true)
-
-pub overflow_cast-stack : goal.overflow_cast-stack
-overflow_cast-stack c =
-    omega (arith, c.requires.0.few, c.requires.1)
 
 pub offset_bounds-stack-height : goal.offset_bounds-stack-height
 offset_bounds-stack-height c =

@@ -1,16 +1,12 @@
--- `spread` meets its contract. The loop's invariant: the rows have the next states of the pending states below s, and s is the next where
--- it is below the number of states.
-use Rattle.std.specs.Prelude.{◌≡◌, ◌-◌, ◌<◌, ◌≤◌, length}
+-- `spread` meets its contract. The loop's invariant: the rows have the next states of the pending states before the one that comes next.
 use Rattle.answering.specs.Pairs.{Has}
 use Rattle.answering.specs.SetSearch.{Steps}
-use Rattle.answering.specs.SetSteps.{Spread}
+use Rattle.answering.specs.SetSteps.{Spreads, states_left}
 use Rattle.answering.proofs.set_search.spread.Given as goal
 
-abbrev pub invariant-loop-s : goal.invariant-loop-s
-invariant-loop-s l =
-    (l.s ≤ l.sizes.states) × (length l.images ≡ length l.initial.images)
-    × Spread l.sizes.words l.sizes.symbols (Steps l.sets l.sizes.symbols l.sizes.words) l.x l.s l.pending (Has l.sizes.words l.images)
-    × (l.s < l.sizes.states → Has l.sizes.words l.pending l.x l.s)
+abbrev pub invariant-loop-next : goal.invariant-loop-next
+invariant-loop-next l =
+    Spreads l.sizes.words l.sizes.symbols (Steps l.sets l.sizes.symbols l.sizes.words) l.x l.sizes.states l.pending (Has l.sizes.words l.images) l.next
 
-abbrev pub decreases-loop-s : goal.decreases-loop-s
-decreases-loop-s l = l.sizes.states - l.s
+abbrev pub decreases-loop-next : goal.decreases-loop-next
+decreases-loop-next l = states_left l.sizes.states l.next

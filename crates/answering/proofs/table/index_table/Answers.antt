@@ -23,10 +23,6 @@ returns-then-table-ne0 c =
     let a = c.args in
     record { value = sym (table-uneven a.recordings a.symbols a.table.now c.if-table-ne0.true); listed = λ e. absurd (false≢true e) }
 
-pub number_of-after-requires : goal.number_of-after-requires
-number_of-after-requires c =
-    (omega (arith, c.requires.0), omega arith, omega arith)
-
 pub loop-at-init : goal.loop-at-init
 loop-at-init c =
     let a = c.args in
@@ -88,10 +84,6 @@ returns-then-after-number c =
       listed = λ e. absurd (false≢true e);
     }
 
-pub bounds-begins-x : goal.bounds-begins-x
-bounds-begins-x c =
-    omega (arith, c.requires.1.fits, c.loop-at.invariant.long, c.loop-at.invariant.below)
-
 pub loop-at-preserved : goal.loop-at-preserved
 loop-at-preserved c =
     let a = c.args in
@@ -103,7 +95,7 @@ loop-at-preserved c =
     let narrow : (i : ℕ) → get_or t i 0 < 65536 = λ i. omega (arith, c.type_inv.table i) in
     let n = c.number_of-number.result in
     let number : triple_number (get_or t (3 * m) 0) (get_or t (3 * m + 1) 0) (get_or t (3 * m + 2) 0) ≡ n = omega
-    (arith, c.number_of-number.ensures, c.wide-x.ensures, c.wide-a.ensures, c.wide-y.ensures) in
+    (arith, c.number_of-number.ensures, c.from-x.ensures, c.from-a.ensures, c.from-y.ensures) in
     let below = l.invariant.below in
     let rest = subst (λ i. RiseUpTo a.recordings a.symbols t i l.after) e l.invariant.rest in
     let leaves : get_or t (3 * m) 0 < a.recordings =
@@ -117,7 +109,7 @@ loop-at-preserved c =
           (omega arith));
       long = simp length-set l.invariant.long;
       begun =
-          begun_more {begins = l.begins} (omega arith) (omega (arith, c.requires.1.fits, l.invariant.long)) c.wide-x.ensures
+          begun_more {begins = l.begins} (omega arith) (omega (arith, c.requires.1.fits, l.invariant.long)) c.from-x.ensures
           (rw f l.invariant.begun);
     }
 

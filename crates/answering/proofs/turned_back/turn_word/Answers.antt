@@ -1,5 +1,5 @@
-use Rattle.std.specs.Prelude.{◌+◌, ◌-◌, ◌<◌, length}
-use mathlib.Core.Path.{refl, ◌∙◌, subst}
+use Rattle.std.specs.Prelude.{◌≡◌, ◌+◌, ◌-◌, ◌<◌, length}
+use mathlib.Core.Path.{subst}
 use native.Mathlib.Nat.{one-mul}
 use lib.Bits.{bit_and, and_le_r}
 use lib.Count.{count_trailing_zeros, trailing_le}
@@ -7,48 +7,49 @@ use Rattle.places.specs.NextPlace.{trailing-here}
 use Rattle.places.specs.Followed.{rest-within}
 use Rattle.answering.specs.TurnedBack.{WordTurned, turned_none, turned-least}
 use native.Mathlib.Omega.{arith}
+use borrow.Author.Rules.{rules}
 use Rattle.answering.proofs.turned_back.turn_word.Goals as goal
 
-pub loop-rest-init : goal.loop-rest-init
-loop-rest-init c = (omega arith, refl, λ p m. m, λ after w. w)
-
-pub overflow_cast-p : goal.overflow_cast-p
-overflow_cast-p c = omega (arith, trailing_le 64 c.loop-rest.rest)
+pub loop-p-init : goal.loop-p-init
+loop-p-init c =
+    let e : c.into_iter-p-iterator.result.rest ≡ c.args.set = search rules in
+    rw e (search rules, search rules, omega arith, λ p m. m, λ after w. w)
 
 pub overflow_add-from : goal.overflow_add-from
-overflow_add-from c = omega (arith, trailing_le 64 c.loop-rest.rest, c.requires.1)
+overflow_add-from c =
+    let (some, is, left) = c.in-Some.ensures.steps in
+    omega (arith, is, trailing_le 64 c.loop-p.p-iterator.rest, c.requires.1)
 
 pub put-requires : goal.put-requires
 put-requires c =
-    let l = c.loop-rest in
-    let h = c.requires.2 _ (l.invariant.2 _ (trailing-here 64 l.rest c.loop-rest-test.true l.invariant.0)) in
-    let g : c.args.from + count_trailing_zeros 64 l.rest < length l.reached = omega (arith, l.invariant.1) in
-    let e = one-mul (c.args.from + count_trailing_zeros 64 c.loop-rest.rest) in
-    omega (arith, c.requires.0)
+    let (some, is, left) = c.in-Some.ensures.steps in
+    let l = c.loop-p in
+    let rest = l.p-iterator.rest in
+    let h = c.requires.2 _ (l.invariant.3 _ (trailing-here 64 rest some l.invariant.2)) in
+    let e = one-mul (c.args.from + count_trailing_zeros 64 rest) in
+    rw is (omega (arith, h, c.requires.0))
 
-pub loop-rest-smaller : goal.loop-rest-smaller
-loop-rest-smaller c =
-    let r = c.loop-rest.rest in
-    omega (arith, c.loop-rest-test.true, and_le_r r (r - 1))
-
-pub loop-rest-preserved : goal.loop-rest-preserved
-loop-rest-preserved c =
-    let l = c.loop-rest in
+pub loop-p-preserved : goal.loop-p-preserved
+loop-p-preserved c =
+    let (some, is, left) = c.in-Some.ensures.steps in
+    let l = c.loop-p in
+    let rest = l.p-iterator.rest in
     let a = c.args in
     let k = c.requires.0 in
-    let d = c.loop-rest-test.true in
     let v = l.invariant in
-    let h = c.requires.2 _ (v.2 _ (trailing-here 64 l.rest d v.0)) in
-    let g : a.from + count_trailing_zeros 64 l.rest < length l.reached = omega (arith, v.1) in (
-      omega (arith, v.0, and_le_r l.rest (l.rest - 1)),
-      c.put.auto.pairs ∙ v.1,
-      rest-within a.set l.rest v.2 d v.0,
-      λ after w. v.3 after
-          (turned-least l.reached d v.0 k g
-          (subst (λ m. WordTurned (bit_and l.rest (l.rest - 1)) a.from a.s m after) c.put.ensures w)),
+    let h = c.requires.2 _ (v.3 _ (trailing-here 64 rest some v.2)) in
+    let g : a.from + count_trailing_zeros 64 rest < length l.reached = omega arith in
+    rw left (
+      search rules,
+      search rules,
+      omega (arith, v.2, and_le_r rest (rest - 1)),
+      rest-within a.set rest v.3 some v.2,
+      λ after w. v.4 after
+          (turned-least l.reached some v.2 k g
+          (subst (λ m. WordTurned (bit_and rest (rest - 1)) a.from a.s m after) (rw is at c.put.ensures) w)),
     )
 
 pub returns : goal.returns
 returns c =
-    let l = c.loop-rest in
-    l.invariant.3 l.reached (turned_none _ _ l.reached c.loop-rest-test.false)
+    let l = c.loop-p in
+    l.invariant.4 l.reached (turned_none _ _ l.reached c.in-None.ensures.steps.0)

@@ -1,14 +1,11 @@
--- `turn_word` meets its contract. The loop's invariant: what comes of the members left comes of the whole word. The measure is the members
--- left.
-use Rattle.std.specs.Prelude.{◌≡◌, ℕ, ◌^◌, ◌<◌, List, length}
+-- `turn_word` meets its contract. The loop's invariant: what comes of the members left comes of the whole word.
+use Rattle.std.specs.Prelude.{ℕ, ◌^◌, ◌<◌, List}
 use Rattle.theory.specs.Places.{Member}
 use Rattle.answering.specs.TurnedBack.{WordTurned}
 use Rattle.answering.proofs.turned_back.turn_word.Given as goal
 
-abbrev pub invariant-loop-rest : goal.invariant-loop-rest
-invariant-loop-rest l =
-    (l.rest < 2 ^ 64) × (length l.reached ≡ length l.initial.reached) × ((p : ℕ) → Member p l.rest → Member p l.set)
-    × ((after : List ℕ) → WordTurned l.rest l.from l.s l.reached after → WordTurned l.set l.from l.s l.initial.reached after)
-
-abbrev pub decreases-loop-rest : goal.decreases-loop-rest
-decreases-loop-rest l = l.rest
+abbrev pub invariant-loop-p : goal.invariant-loop-p
+invariant-loop-p l =
+    (goal.iterator-loop-p).can_next l.p-iterator × (goal.iterator-loop-p).is_finite l.p-iterator
+    × (l.p-iterator.rest < 2 ^ 64) × ((p : ℕ) → Member p l.p-iterator.rest → Member p l.set)
+    × ((after : List ℕ) → WordTurned l.p-iterator.rest l.from l.s l.reached after → WordTurned l.set l.from l.s l.initial.reached after)

@@ -3,7 +3,8 @@ use Rattle.std.specs.Prelude.{◌*◌, ◌≤◌}
 use mathlib.Core.Bool.{false≢true}
 use native.Mathlib.Nat.{mul-le-mul}
 use Rattle.answering.specs.TurnedTest.{turnable-told}
-use native.Mathlib.Omega.{arith}
+use Rattle.std.proofs.Common.{arith}
+use Rattle.std.proofs.lemmas.Grind.{common_steps}
 use Rattle.answering.proofs.turned_search.turnable.Goals as goal
 
 pub returns-then-sizes-eq0 : goal.returns-then-sizes-eq0
@@ -27,4 +28,4 @@ returns-then-sizes-gt768 c e = absurd (false≢true e)
 pub returns : goal.returns
 returns c e =
     let p = c.requires in
-    (turnable-told (omega arith) (omega arith) p.0 p.1 (c.rows_within.ensures e), omega arith, omega arith)
+    (turnable-told (omega arith) (omega arith) p.0 p.1 (λ i h. grind (arith, common_steps, c.sets_within.ensures e i)), omega arith, omega arith)

@@ -20,10 +20,6 @@ module _ {N x top : ℕ} {reached : List ℕ} (head : ℕ) (stack : List ℕ) wh
       → 0 < top → x ≡ get_or stack head 0 → WordRoom x reached done (drop head stack) top
   taken-room r w l e = words-room (record { ready = r; within = w }) (taken-below r l e)
 
-pub states_below-known-requires : goal.states_below-known-requires
-states_below-known-requires c =
-    omega (arith, c.requires.0.starting.fits.width)
-
 pub add_word-top-requires : goal.add_word-top-requires
 add_word-top-requires c =
     let begun = words-begin c.requires.0 (λ i. search rules) (λ i. search rules) in
@@ -33,7 +29,7 @@ pub loop-top-init : goal.loop-top-init
 loop-top-init c =
     let p = c.requires.0 in
     let r = words-begin c.requires.0 (λ i. search rules) (λ i. search rules) in
-    let f = c.add_word-top.ensures c.args.sizes.recordings r p.starting.fits.begins in
+    let f = c.add_word-top.ensures c.args.steps.sizes.recordings r p.starting.fits.begins in
     let within = pending-within p (λ i. search rules) (λ i. search rules) in (
       refl,
       refl,
@@ -45,62 +41,50 @@ loop-top-init c =
       (words-grown r.within f.grown).within,
     )
 
-pub offset_bounds-stack-head : goal.offset_bounds-stack-head
-offset_bounds-stack-head c =
-    let v = c.loop-top.invariant in omega (arith, v.6, v.5.ready.few)
-
 pub bounds-stack-head : goal.bounds-stack-head
 bounds-stack-head c =
     let l = c.loop-top in front-inside l.head l.stack l.invariant.5.ready
 
-pub overflow_add-head : goal.overflow_add-head
-overflow_add-head c =
-    let v = c.loop-top.invariant in omega (arith, v.6, v.5.ready.few)
-
 pub offset_bounds-reached-x : goal.offset_bounds-reached-x
 offset_bounds-reached-x c =
     let l = c.loop-top in
-    omega (arith, (taken-room l.head l.stack l.invariant.5.ready l.invariant.7 c.loop-top-test.true c.index-x.ensures).small)
+    omega (arith, (taken-room l.head l.stack l.invariant.5.ready l.invariant.7 c.loop-top-test.true c.from-x.ensures).small)
 
 pub bounds-reached-x : goal.bounds-reached-x
 bounds-reached-x c =
     let l = c.loop-top in
-    (taken-room l.head l.stack l.invariant.5.ready l.invariant.7 c.loop-top-test.true c.index-x.ensures).known
+    (taken-room l.head l.stack l.invariant.5.ready l.invariant.7 c.loop-top-test.true c.from-x.ensures).known
 
 pub offset_bounds-done-x : goal.offset_bounds-done-x
 offset_bounds-done-x c =
     let l = c.loop-top in
-    omega (arith, (taken-room l.head l.stack l.invariant.5.ready l.invariant.7 c.loop-top-test.true c.index-x.ensures).small)
+    omega (arith, (taken-room l.head l.stack l.invariant.5.ready l.invariant.7 c.loop-top-test.true c.from-x.ensures).small)
 
 pub bounds-done-x : goal.bounds-done-x
 bounds-done-x c =
     let l = c.loop-top in
-    (taken-room l.head l.stack l.invariant.5.ready l.invariant.7 c.loop-top-test.true c.index-x.ensures).waits
+    (taken-room l.head l.stack l.invariant.5.ready l.invariant.7 c.loop-top-test.true c.from-x.ensures).waits
 
 pub offset_bounds-done-x-in-loop-top : goal.offset_bounds-done-x-in-loop-top
 offset_bounds-done-x-in-loop-top c =
     let l = c.loop-top in
-    omega (arith, (taken-room l.head l.stack l.invariant.5.ready l.invariant.7 c.loop-top-test.true c.index-x.ensures).small)
+    omega (arith, (taken-room l.head l.stack l.invariant.5.ready l.invariant.7 c.loop-top-test.true c.from-x.ensures).small)
 
 pub bounds-done-x-in-loop-top : goal.bounds-done-x-in-loop-top
 bounds-done-x-in-loop-top c =
     let l = c.loop-top in
-    (taken-room l.head l.stack l.invariant.5.ready l.invariant.7 c.loop-top-test.true c.index-x.ensures).waits
+    (taken-room l.head l.stack l.invariant.5.ready l.invariant.7 c.loop-top-test.true c.from-x.ensures).waits
 
 pub offset_bounds-begins-x : goal.offset_bounds-begins-x
 offset_bounds-begins-x c =
     let l = c.loop-top in
-    omega (arith, (taken-room l.head l.stack l.invariant.5.ready l.invariant.7 c.loop-top-test.true c.index-x.ensures).small)
+    omega (arith, (taken-room l.head l.stack l.invariant.5.ready l.invariant.7 c.loop-top-test.true c.from-x.ensures).small)
 
 pub bounds-begins-x : goal.bounds-begins-x
 bounds-begins-x c =
     let l = c.loop-top in
-    let below = taken-below l.head l.stack l.invariant.5.ready c.loop-top-test.true c.index-x.ensures in
-    omega (arith, c.requires.3.fits)
-
-pub offset_bounds-stack-head-in-loop-top : goal.offset_bounds-stack-head-in-loop-top
-offset_bounds-stack-head-in-loop-top c =
-    let v = c.loop-top.invariant in omega (arith, v.6, v.5.ready.few)
+    let below = taken-below l.head l.stack l.invariant.5.ready c.loop-top-test.true c.from-x.ensures in
+    omega (arith, c.requires.2.fits)
 
 pub slice_bounds-follow_states-count : goal.slice_bounds-follow_states-count
 slice_bounds-follow_states-count c =
@@ -112,38 +96,34 @@ follow_states-top-requires c =
     let a = c.args in
     let l = c.loop-top in
     let v = l.invariant in
-    let x = c.index-x.result in
-    let below = taken-below l.head l.stack v.5.ready c.loop-top-test.true c.index-x.ensures in
-    let long : 2 * c.args.sizes.recordings < length l.stack = omega (arith, l.invariant.3, c.add_word-top.auto.stack, c.requires.4) in
+    let x = c.from-x.result in
+    let below = taken-below l.head l.stack v.5.ready c.loop-top-test.true c.from-x.ensures in
+    let long : 2 * c.args.steps.sizes.recordings < length l.stack = omega (arith, l.invariant.3, c.add_word-top.auto.stack, c.requires.3) in
     let pending = bit_xor (get_or l.reached x 0) (get_or l.done x 0) in (
       rw c.states_below-known.ensures
-          (next-room a.cut a.sizes.symbols a.sizes.states pending a.rows.now l.images p.1 (omega (arith, v.1, p.2))),
-      words-front l.head l.stack (record { ready = v.5.ready; within = v.7 }) c.loop-top-test.true (omega (arith, v.6)) c.index-x.ensures,
-      rw c.index-first.ensures (p.3.first x below),
-      p.5,
+          (next-room a.steps.cut a.steps.sizes.symbols a.steps.sizes.states pending a.steps.rows.now l.images a.steps.fit (omega (arith, v.1, p.1))),
+      words-front l.head l.stack (record { ready = v.5.ready; within = v.7 }) c.loop-top-test.true (omega (arith, v.6)) c.from-x.ensures,
+      rw c.from.ensures (p.2.first x below),
+      p.4,
     )
 
 pub move_front-requires : goal.move_front-requires
 move_front-requires c =
     let f = c.follow_states-top in
     let l = c.loop-top in
-    let long : 2 * c.args.sizes.recordings < length l.stack = omega (arith, l.invariant.3, c.add_word-top.auto.stack, c.requires.4) in
+    let long : 2 * c.args.steps.sizes.recordings < length l.stack = omega (arith, l.invariant.3, c.add_word-top.auto.stack, c.requires.3) in
     let inside : l.head + 1 ≤ length l.stack = omega (arith, front-inside l.head l.stack l.invariant.5.ready) in
     let e = back-length (l.head + 1) l.stack f.new.stack inside
     f.auto.stack in
     let most = waiting-most f.ensures.followed.grown.ready.waiting in
     subst (λ n. l.head + 1 + f.result ≤ n) (sym e) (omega (arith, most, long, l.invariant.6))
 
-pub loop-top-smaller-then-head-sizes : goal.loop-top-smaller-then-head-sizes
-loop-top-smaller-then-head-sizes c =
-    omega (arith, c.follow_states-top.ensures.followed.grown.less, c.loop-top-test.true)
-
-pub loop-top-preserved-then-head-sizes : goal.loop-top-preserved-then-head-sizes
-loop-top-preserved-then-head-sizes c =
+pub loop-top-preserved-then-head-steps : goal.loop-top-preserved-then-head-steps
+loop-top-preserved-then-head-steps c =
     let f = c.follow_states-top in
     let l = c.loop-top in
     let v = l.invariant in
-    let x = c.index-x.result in
+    let x = c.from-x.result in
     let word = get_or l.reached x 0 in
     let p = c.requires.0.starting.fits in
     let rest = f.new.stack in
@@ -152,10 +132,10 @@ loop-top-preserved-then-head-sizes c =
     let back = ready-back (l.head + 1) l.stack rest f.ensures.followed.grown.ready inside in
     let known = c.states_below-known in
     let a = c.args in
-    let below = taken-below l.head l.stack v.5.ready c.loop-top-test.true c.index-x.ensures in
-    let room = taken-room l.head l.stack v.5.ready v.7 c.loop-top-test.true c.index-x.ensures in
-    let spread = words_spread a.cut a.sizes.symbols a.sizes.states a.rows.now (omega (arith, p.width)) v.4
-    (states-taken a.sizes.states known.result room known.ensures) in
+    let below = taken-below l.head l.stack v.5.ready c.loop-top-test.true c.from-x.ensures in
+    let room = taken-room l.head l.stack v.5.ready v.7 c.loop-top-test.true c.from-x.ensures in
+    let spread = words_spread a.steps.cut a.steps.sizes.symbols a.steps.sizes.states a.steps.rows.now (omega (arith, p.width)) v.4
+    (states-taken a.steps.sizes.states known.result room known.ensures) in
     let going = set-going-next v.5 x p.width below spread (done-zeroed l.reached l.done x) f.ensures.followed in
     let within = (words-grown (done-taken l.reached l.done x room.waits v.7) f.ensures.followed.grown).within in
     let m = c.move_front in
@@ -170,16 +150,12 @@ loop-top-preserved-then-head-sizes c =
       within,
     )
 
-pub loop-top-smaller : goal.loop-top-smaller
-loop-top-smaller c =
-    omega (arith, c.follow_states-top.ensures.followed.grown.less, c.loop-top-test.true)
-
 pub loop-top-preserved : goal.loop-top-preserved
 loop-top-preserved c =
     let f = c.follow_states-top in
     let l = c.loop-top in
     let v = l.invariant in
-    let x = c.index-x.result in
+    let x = c.from-x.result in
     let word = get_or l.reached x 0 in
     let p = c.requires.0.starting.fits in
     let rest = f.new.stack in
@@ -188,10 +164,10 @@ loop-top-preserved c =
     let back = ready-back (l.head + 1) l.stack rest f.ensures.followed.grown.ready inside in
     let known = c.states_below-known in
     let a = c.args in
-    let below = taken-below l.head l.stack v.5.ready c.loop-top-test.true c.index-x.ensures in
-    let room = taken-room l.head l.stack v.5.ready v.7 c.loop-top-test.true c.index-x.ensures in
-    let spread = words_spread a.cut a.sizes.symbols a.sizes.states a.rows.now (omega (arith, p.width)) v.4
-    (states-taken a.sizes.states known.result room known.ensures) in
+    let below = taken-below l.head l.stack v.5.ready c.loop-top-test.true c.from-x.ensures in
+    let room = taken-room l.head l.stack v.5.ready v.7 c.loop-top-test.true c.from-x.ensures in
+    let spread = words_spread a.steps.cut a.steps.sizes.symbols a.steps.sizes.states a.steps.rows.now (omega (arith, p.width)) v.4
+    (states-taken a.steps.sizes.states known.result room known.ensures) in
     let going = set-going-next v.5 x p.width below spread (done-zeroed l.reached l.done x) f.ensures.followed in
     let within = (words-grown (done-taken l.reached l.done x room.waits v.7) f.ensures.followed.grown).within in (
       f.auto.reached ∙ v.0,
@@ -200,7 +176,7 @@ loop-top-preserved c =
       long-back ∙ v.3,
       λ e. f.ensures.same e ∙ v.4 e,
       set-going-moved going back,
-      omega (arith, c.if-head-sizes.false, v.6),
+      omega (arith, c.if-head-steps.false, v.6),
       within,
     )
 
@@ -209,5 +185,5 @@ returns c =
     let p = c.requires.0 in
     let f = p.starting.fits in
     let begun = words-begin c.requires.0 (λ i. search rules) (λ i. search rules) in
-    let a = c.add_word-top.ensures c.args.sizes.recordings begun f.begins in
+    let a = c.add_word-top.ensures c.args.steps.sizes.recordings begun f.begins in
     set-going-done c.loop-top.invariant.5 (omega arith) f.begins f.width a.grown.beyond

@@ -11,10 +11,10 @@ use Rattle.answering.proofs.word_search.follow_all_words.Given as goal
 abbrev pub invariant-loop-top : goal.invariant-loop-top
 invariant-loop-top l =
     (length l.reached ≡ length l.initial.reached) × (length l.images ≡ length l.initial.images) × (length l.done ≡ length l.initial.done) ×
-    (length l.stack ≡ length l.initial.stack) × (l.cut ≡ true → l.images ≡ l.initial.images)
-    × SetGoing 1 (WordStep l.cut l.rows l.sizes.symbols l.initial.images) l.sizes.symbols l.sizes.states l.table l.sizes.recordings l.start
+    (length l.stack ≡ length l.initial.stack) × (l.steps.cut ≡ true → l.images ≡ l.initial.images)
+    × SetGoing 1 (WordStep l.steps.cut l.steps.rows.now l.steps.sizes.symbols l.initial.images) l.steps.sizes.symbols l.steps.sizes.states l.table l.steps.sizes.recordings l.start
     l.initial.reached l.reached (pending_of l.reached l.done) (drop l.head l.stack) l.top
-    × (l.head < l.sizes.recordings) × DoneReached l.reached l.done
+    × (l.head < l.steps.sizes.recordings) × DoneReached l.reached l.done
 
 abbrev pub decreases-loop-top : goal.decreases-loop-top
 decreases-loop-top l =

@@ -18,42 +18,34 @@ overflow_cast-from c = omega (arith, trailing_le 64 c.args.states)
 
 pub overflow_mul-from : goal.overflow_mul-from
 overflow_mul-from c =
-    omega (arith, row-alone (count_trailing_zeros 64 c.args.states) c.requires.0 c.if-not-cut.true (c.alone.ensures.only c.if-alone.true))
+    omega (arith, row-alone (count_trailing_zeros 64 c.args.states) c.requires.0 c.if-not-steps.true (c.alone.ensures.only c.if-alone.true))
 
-pub offset_bounds-rows-from : goal.offset_bounds-rows-from
-offset_bounds-rows-from c =
-    omega (arith, row-alone (count_trailing_zeros 64 c.args.states) c.requires.0 c.if-not-cut.true (c.alone.ensures.only c.if-alone.true))
+pub offset_bounds-steps-from : goal.offset_bounds-steps-from
+offset_bounds-steps-from c =
+    omega (arith, row-alone (count_trailing_zeros 64 c.args.states) c.requires.0 c.if-not-steps.true (c.alone.ensures.only c.if-alone.true))
 
 pub slice_bounds-follow_word_links-count : goal.slice_bounds-follow_word_links-count
 slice_bounds-follow_word_links-count c =
-    omega (arith, row-alone (count_trailing_zeros 64 c.args.states) c.requires.0 c.if-not-cut.true (c.alone.ensures.only c.if-alone.true))
+    omega (arith, row-alone (count_trailing_zeros 64 c.args.states) c.requires.0 c.if-not-steps.true (c.alone.ensures.only c.if-alone.true))
 
 pub slice_bounds-follow_word_links-start : goal.slice_bounds-follow_word_links-start
 slice_bounds-follow_word_links-start c =
-    omega (arith, row-alone (count_trailing_zeros 64 c.args.states) c.requires.0 c.if-not-cut.true (c.alone.ensures.only c.if-alone.true))
+    omega (arith, row-alone (count_trailing_zeros 64 c.args.states) c.requires.0 c.if-not-steps.true (c.alone.ensures.only c.if-alone.true))
 
 pub follow_word_links-requires : goal.follow_word_links-requires
 follow_word_links-requires c =
     let a = c.args in
     let p = c.requires in
     let s = count_trailing_zeros 64 a.states in
-    let from = a.sizes.symbols * s in
-    let e = ap length (rest_all from a.rows.now) ∙ length-drop from a.rows.now in
-    let h = row-alone s p.0 c.if-not-cut.true (c.alone.ensures.only c.if-alone.true) in
+    let from = a.steps.sizes.symbols * s in
+    let e = ap length (rest_all from a.steps.rows.now) ∙ length-drop from a.steps.rows.now in
+    let h = row-alone s p.0 c.if-not-steps.true (c.alone.ensures.only c.if-alone.true) in
     (p.1, omega arith, p.2, p.3)
 
 pub returns-then-alone : goal.returns-then-alone
 returns-then-alone c =
-    links-alone c.args.images.now (count_trailing_zeros 64 c.args.states) c.if-not-cut.true (c.alone.ensures.only c.if-alone.true)
+    links-alone c.args.images.now (count_trailing_zeros 64 c.args.states) c.if-not-steps.true (c.alone.ensures.only c.if-alone.true)
     c.follow_word_links.ensures
-
-pub next_images-next-requires : goal.next_images-next-requires
-next_images-next-requires c = c.requires.0
-
-pub follow_word_links-requires-2 : goal.follow_word_links-requires-2
-follow_word_links-requires-2 c =
-    let p = c.requires in
-    (p.1, omega (arith, c.next_images-next.auto.images, p.0.fits), p.2, p.3)
 
 pub returns : goal.returns
 returns c = links-joined c.next_images-next.ensures c.follow_word_links-2.ensures

@@ -3,8 +3,4 @@ use Rattle.finding.specs.Operation.{read-few}
 use Rattle.cases.proofs.count.count.Goals as goal
 
 pub count_in-requires : goal.count_in-requires
-count_in-requires c =
-    let at_told = c in
-    let at_load = at_told in
-    let start = at_load in
-    read-few start.args.text.now at_load.load-told.ensures at_told.in-Job.is
+count_in-requires c = read-few c.args.text.now c.load-told.ensures c.in-Ok.is

@@ -1,13 +1,11 @@
 -- `put_title` meets its contract: no part is put beyond the end.
 use native.Mathlib.Omega.{arith}
-use Rattle.output.specs.Put.{ends-within}
+use Rattle.output.specs.Writer.{puts_both}
+use Rattle.output.specs.Within.{started_within}
 use Rattle.cases.proofs.run.put_title.Goals as goal
 
 pub returns : goal.returns
 returns c =
-    ends-within _ _ (ends-within _ _ (ends-within _ _ (ends-within _ _ (ends-within _ _ (omega arith)
-    c.put_part-opened.ensures)
-    c.put_part-titled.ensures)
-    c.put_part-worded.ensures)
-    c.put_number-numbered.ensures)
-    c.put_part.ensures
+    let opened = puts_both c.put_part.ensures (puts_both c.put_part-2.ensures c.put_part-3.ensures) in
+    let all = puts_both opened (puts_both c.put_number.ensures c.put.ensures) in
+    omega (arith, started_within c.new-w.ensures.starts all)

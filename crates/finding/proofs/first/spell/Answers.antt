@@ -16,10 +16,10 @@ pub loop-end-preserved : goal.loop-end-preserved
 loop-end-preserved c =
     let a = c.args in
     let l = c.loop-end in (
-      c.wide-at.ensures.1,
+      omega (arith, c.from-at.ensures, c.fits-parents l.at),
       spelling-more a.parents.now a.symbols.now a.state a.size a.word.now l.at l.end
-          (get_or a.symbols.now l.at 0) c.wide-at.result l.word l.invariant.1 c.requires.1
-          c.loop-end-test.true refl c.wide-at.ensures.0,
+          (get_or a.symbols.now l.at 0) c.from-at.result l.word l.invariant.1 c.requires.1
+          (omega arith) refl c.from-at.ensures,
     )
 
 pub shape_of-word : goal.shape_of-word
@@ -30,4 +30,4 @@ returns c =
     let a = c.args in
     let l = c.loop-end in
     spelling-end a.parents.now a.symbols.now a.state a.size a.word.now l.at l.end l.word l.invariant.1 c.requires.1
-    c.loop-end-test.false
+    (omega arith)

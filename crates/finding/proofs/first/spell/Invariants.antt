@@ -6,6 +6,3 @@ use Rattle.finding.proofs.first.spell.Given as goal
 abbrev pub invariant-loop-end : goal.invariant-loop-end
 invariant-loop-end l =
     (l.at < 256) × Spelling l.parents l.symbols l.state l.size l.initial.word l.at l.end l.word
-
-abbrev pub decreases-loop-end : goal.decreases-loop-end
-decreases-loop-end l = l.end

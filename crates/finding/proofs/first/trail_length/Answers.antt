@@ -12,9 +12,9 @@ pub returns-then-parent-at : goal.returns-then-parent-at
 returns-then-parent-at c =
     let a = c.args in
     let l = c.loop-at in
-    let parent = c.wide-parent in
+    let parent = c.from-parent in
     walking-stuck a.parents.now a.state l.at l.steps parent.result l.invariant c.loop-at-test.true
-    parent.ensures.0 c.if-parent-at.true
+    parent.ensures c.if-parent-at.true
 
 pub overflow_add-steps : goal.overflow_add-steps
 overflow_add-steps c = omega (arith, c.loop-at.invariant.within)
@@ -23,9 +23,9 @@ pub loop-at-preserved : goal.loop-at-preserved
 loop-at-preserved c =
     let a = c.args in
     let l = c.loop-at in
-    let parent = c.wide-parent in
+    let parent = c.from-parent in
     walking-more a.parents.now a.state l.at l.steps parent.result l.invariant c.loop-at-test.true
-    parent.ensures.0 c.if-parent-at.false
+    parent.ensures c.if-parent-at.false
 
 pub returns : goal.returns
 returns c =

@@ -39,19 +39,18 @@ pub returns-then-count-gt64 : goal.returns-then-count-gt64
 returns-then-count-gt64 c = λ A e h k. absurd (omega arith)
 
 pub loop-i-init : goal.loop-i-init
-loop-i-init c = (omega arith, omega arith, collect-none _)
+loop-i-init c = (omega arith, collect-none _)
 
 pub loop-i-preserved : goal.loop-i-preserved
 loop-i-preserved c =
     let a = c.args in
     let l = c.loop-i in
     let at = c.number_at in (
-      omega arith,
-      l.invariant.1,
+      l.invariant.0,
       (elim c.if-number_at-accepting-ne0.branch [
-        | then-number_at-accepting-ne0 w ↦ w.numbers-is ∙ (ap (λ n. union n (1 * 2 ^ l.i % 2 ^ 64)) l.invariant.2
+        | then-number_at-accepting-ne0 w ↦ w.numbers-is ∙ (ap (λ n. union n (1 * 2 ^ l.i % 2 ^ 64)) l.invariant.1
             ∙ passes a.found.now a.accepting.0 l.i at.result at.ensures w.if-number_at-accepting-ne0.true (omega arith))
-        | else-number_at-accepting-ne0 w ↦ w.numbers-is ∙ (l.invariant.2 ∙ fails a.found.now a.accepting.0 l.i at.result at.ensures w.if-number_at-accepting-ne0.false)
+        | else-number_at-accepting-ne0 w ↦ w.numbers-is ∙ (l.invariant.1 ∙ fails a.found.now a.accepting.0 l.i at.result at.ensures w.if-number_at-accepting-ne0.false)
       ]),
     )
 
@@ -59,4 +58,4 @@ pub returns : goal.returns
 returns c =
     let found = c.args.found.now in
     let e : c.loop-i.i ≡ c.args.count = omega arith in
-    λ A a h k. c.loop-i.invariant.2 ∙ (ap (collect (meets found _)) e ∙ told A found _ _ a k)
+    λ A a h k. c.loop-i.invariant.1 ∙ (ap (collect (meets found _)) e ∙ told A found _ _ a k)

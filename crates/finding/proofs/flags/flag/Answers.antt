@@ -1,12 +1,13 @@
--- By the two cases.
+use Rattle.std.specs.Prelude.{◌≡◌, Bool, true, false, refl}
+use Rattle.std.proofs.Common.{◌∙◌}
+use mir.Val.{bool_byte}
 use Rattle.finding.specs.Find.{flag}
-use borrow.Author.Rules.{rules}
 use Rattle.finding.proofs.flags.flag.Goals as goal
 
-pub returns-then-accepts : goal.returns-then-accepts
+flag_byte : (b : Bool) → bool_byte b ≡ flag b
 unfolding flag
-returns-then-accepts c = search rules
+flag_byte true = refl
+flag_byte false = refl
 
-pub returns-else-accepts : goal.returns-else-accepts
-unfolding flag
-returns-else-accepts c = search rules
+pub returns : goal.returns
+returns c = c.from.ensures ∙ flag_byte c.args.accepts

@@ -7,23 +7,16 @@ use Rattle.finding.specs.Find.{flag}
 use Rattle.finding.specs.Filling.{map_more}
 use Rattle.finding.proofs.flags.flags.Goals as goal
 
-pub returns-then-n-states : goal.returns-then-n-states
-returns-then-n-states c = λ h k. absurd (omega arith)
-
-pub returns-then-n-flags : goal.returns-then-n-flags
-returns-then-n-flags c = λ h k. absurd (omega arith)
-
 pub loop-i-preserved : goal.loop-i-preserved
 loop-i-preserved c =
     let a = c.args in
     let l = c.loop-i in
     let e : c.flag.result ≡ flag (state_accepts a.accepting (get_or a.states.now l.i 0)) =
     c.flag.ensures ∙ ap flag c.state_accepts.ensures in (
-      omega arith,
+      l.invariant.0,
       l.invariant.1,
-      l.invariant.2,
-      simp length-set l.invariant.3,
-      ap₂ (λ t v. set t l.i v) l.invariant.4 e
+      simp length-set l.invariant.2,
+      ap₂ (λ t v. set t l.i v) l.invariant.3 e
           ∙ map_more (λ X. flag (state_accepts a.accepting X)) a.states.now a.flags.now l.i (omega arith) (omega arith),
     )
 
@@ -32,5 +25,5 @@ returns c =
     let a = c.args in
     let e : c.loop-i.i ≡ a.count = omega arith in
     λ h k.
-    c.loop-i.invariant.4
+    c.loop-i.invariant.3
     ∙ ap (λ n. map (λ X. flag (state_accepts a.accepting X)) (take n a.states.now) ++ drop n a.flags.now) e

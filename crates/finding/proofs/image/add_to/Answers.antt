@@ -1,63 +1,55 @@
-use Rattle.std.specs.Prelude.{◌≡◌, ◌≢◌, ℕ, ◌-◌, ◌*◌, ◌%◌, ◌^◌, ◌<◌, List, length, get_or, set}
-use mathlib.Core.Path.{sym, ◌∙◌, subst}
-use lib.Bits.{bit_and, and_le_r}
-use lib.Count.{count_trailing_zeros, trailing_le}
+use Rattle.std.specs.Prelude.{◌≡◌, ◌*◌, ◌%◌, ◌^◌, get_or, set}
+use mathlib.Core.Path.{ap, sym, ◌∙◌, subst}
 use lib.Dec.{lit<}
 use lib.Pow.{shl_exact}
-use Rattle.theory.specs.Places.{Member, one, union}
-use Rattle.places.specs.NextPlace.{trailing-here}
-use Rattle.places.specs.Followed.{Passed, rest-within}
-use Rattle.finding.specs.ImagesTurned.{Added, added_none, added-all, added_more}
+use Rattle.theory.specs.Places.{one, union}
+use Rattle.places.specs.declared.members.Members.{Members}
+use Rattle.places.specs.Followed.{Passed, passed_none, passed-all}
+use Rattle.finding.specs.ImagesTurned.{Added, added_none, added-same, added_more}
+use Rattle.finding.proofs.MembersLeft.{members-all, members-on, member-here, member-turn}
 use native.Mathlib.Omega.{arith}
 use Rattle.finding.proofs.image.add_to.Goals as goal
 
--- The standing passed next has an image.
-there : (all rest : ℕ) (before out : List ℕ) → rest ≢ 0 → rest < 2 ^ 64 → ((i : ℕ) → Member i rest → Member i all)
-    → ((i : ℕ) → Member i all → i < length before) → length out ≡ length before → count_trailing_zeros 64 rest < length out
-there all rest before out d small within room size =
-    subst (λ z. count_trailing_zeros 64 rest < z) (sym size) (room _ (within _ (trailing-here 64 rest d small)))
-
-pub loop-rest-init : goal.loop-rest-init
-loop-rest-init c = (omega arith, λ i m. m, added_none c.args.all c.args.to c.args.out.now)
-
-pub overflow_cast-i : goal.overflow_cast-i
-overflow_cast-i c = omega (arith, trailing_le 64 c.loop-rest.rest)
-
-pub offset_bounds-out-i : goal.offset_bounds-out-i
-offset_bounds-out-i c = omega (arith, trailing_le 64 c.loop-rest.rest)
+pub loop-i-init : goal.loop-i-init
+loop-i-init c =
+    let x = c.args in
+    let e : c.into_iter-i-iterator.result.rest ≡ x.all =
+    ap (λ (m : Members). m.rest) c.into_iter-i-iterator.ensures.into_iter_gives ∙ c.members-i-items.ensures in
+    (tt, tt, members-all c.ranges.all.fits e, rw e (added_none x.to x.out.now (passed_none x.all)))
 
 pub bounds-out-i : goal.bounds-out-i
-bounds-out-i c = let l = c.loop-rest in there _ l.rest _ _ c.loop-rest-test.true l.invariant.0 l.invariant.1 c.requires.1 l.invariant.2.size
+bounds-out-i c =
+    let i = c.loop-i.invariant in
+    let h = c.requires.1 _ (member-here i.2 c.in-Some.ensures.steps) in
+    omega (arith, i.3.size)
 
-pub offset_bounds-out-i-in-loop-rest : goal.offset_bounds-out-i-in-loop-rest
-offset_bounds-out-i-in-loop-rest c = omega (arith, trailing_le 64 c.loop-rest.rest)
+pub bounds-out-i-in-loop-i : goal.bounds-out-i-in-loop-i
+bounds-out-i-in-loop-i c =
+    let i = c.loop-i.invariant in
+    let h = c.requires.1 _ (member-here i.2 c.in-Some.ensures.steps) in
+    omega (arith, i.3.size)
 
-pub bounds-out-i-in-loop-rest : goal.bounds-out-i-in-loop-rest
-bounds-out-i-in-loop-rest c = let l = c.loop-rest in there _ l.rest _ _ c.loop-rest-test.true l.invariant.0 l.invariant.1 c.requires.1 l.invariant.2.size
-
-pub loop-rest-smaller : goal.loop-rest-smaller
-loop-rest-smaller c = omega (arith, c.loop-rest-test.true, and_le_r c.loop-rest.rest (c.loop-rest.rest - 1))
-
-pub loop-rest-preserved : goal.loop-rest-preserved
-loop-rest-preserved c =
-    let l = c.loop-rest in
+pub loop-i-preserved : goal.loop-i-preserved
+loop-i-preserved c =
     let x = c.args in
-    let d = c.loop-rest-test.true in
+    let l = c.loop-i in
+    let inv = l.invariant in
+    let step = c.in-Some.ensures.steps in
+    let i = c.in-Some.i in
+    let h = c.requires.1 _ (member-here inv.2 step) in
     let bit : 1 * 2 ^ x.to % 2 ^ 64 ≡ one x.to = shl_exact {a = 1} 1 x.to 64 (lit< tt) (omega arith) ∙ omega arith in (
-      omega (arith, l.invariant.0, and_le_r l.rest (l.rest - 1)),
-      rest-within x.all l.rest l.invariant.1 d l.invariant.0,
-      subst
-          (λ z. Added (Passed x.all (bit_and l.rest (l.rest - 1))) x.to x.out.now
-          (set l.out (count_trailing_zeros 64 l.rest) (union (get_or l.out (count_trailing_zeros 64 l.rest) 0) z)))
-          (sym bit)
-          (added_more x.all l.rest x.to x.out.now l.out l.invariant.1 d l.invariant.0 (there _ l.rest _ _ d l.invariant.0 l.invariant.1 c.requires.1 l.invariant.2.size) l.invariant.2),
+      tt,
+      tt,
+      members-on inv.2 step,
+      subst (λ z. Added (Passed x.all c.next.new.self.rest) x.to x.out.now (set l.out i (union (get_or l.out i 0) z))) (sym bit)
+          (added_more i x.to x.out.now l.out (member-turn inv.2 step) (omega (arith, inv.3.size)) inv.3),
     )
 
 pub shape_of-out : goal.shape_of-out
-shape_of-out c = c.loop-rest.invariant.2.size
+shape_of-out c = c.loop-i.invariant.3.size
 
 pub returns : goal.returns
 returns c =
-    let l = c.loop-rest in
     let x = c.args in
-    added-all x.all l.rest x.to x.out.now l.out c.loop-rest-test.false l.invariant.2
+    let l = c.loop-i in
+    added-same (λ i. let p = passed-all x.all l.i-iterator.rest c.in-None.ensures.steps.0 i in (p.1, p.0)) l.invariant.3

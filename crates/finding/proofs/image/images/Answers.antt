@@ -1,5 +1,5 @@
 -- `images` meets its contract: the images are read off the sources that the search has found.
-use Rattle.finding.specs.ImageSearch.{tables}
+use Rattle.finding.specs.ListTables.{tables_of}
 use Rattle.finding.specs.ImagesTold.{images-told}
 use native.Mathlib.Omega.{arith}
 use Rattle.finding.proofs.image.images.Goals as goal
@@ -20,7 +20,7 @@ turn-requires c =
 pub returns : goal.returns
 returns c =
     let x = c.args in
-    let D = tables x.moves.now x.count x.labels x.follow.now x.enter.now in
+    let D = tables_of x.list in
     let f = c.find_sources in
     record {
       images_told = images-told D x.accepting.0 _ x.out.now _ f.ensures.searched c.turn.ensures;

@@ -7,8 +7,7 @@ use Rattle.finding.proofs.image.turn.Goals as goal
 pub loop-to-init : goal.loop-to-init
 loop-to-init c =
     let x = c.args in
-    let e = c.clear_words.ensures.enough c.requires.2 in (
-      omega arith,
+    let e = c.clear.ensures.enough c.requires.2 in (
       refl,
       subst (λ l. Turned x.count x.places x.accepting x.from.now 0 l l) (sym e)
           (turned_none x.count x.places x.accepting x.from.now x.out.now),
@@ -24,7 +23,7 @@ add_to-requires c =
       λ i m.
           let h =
           ended-inside x.count x.places x.from.now l.to e.result p.3 c.loop-to-test.true e.ensures i m in
-          omega (arith, h, p.2, l.invariant.1, c.clear_words.auto.words),
+          omega (arith, h, p.2, l.invariant.0, c.clear.auto.items),
     )
 
 pub loop-to-preserved : goal.loop-to-preserved
@@ -33,10 +32,9 @@ loop-to-preserved c =
     let x = c.args in
     let a = c.add_to in
     let e = c.ended-all in (
-      omega arith,
-      a.ensures.size ∙ l.invariant.1,
+      a.ensures.size ∙ l.invariant.0,
       turned_more x.count x.places x.accepting x.from.now _ l.to e.result l.out _ c.requires.3
-          c.loop-to-test.true l.invariant.2 e.ensures a.ensures,
+          c.loop-to-test.true l.invariant.1 e.ensures a.ensures,
     )
 
 pub returns : goal.returns
@@ -45,9 +43,9 @@ returns c =
     let p = c.requires in
     let x = c.args in
     let e : l.to ≡ x.count = omega arith in
-    let f = c.clear_words.ensures.enough p.2 in
+    let f = c.clear.ensures.enough p.2 in
     turned-cleared x.count x.places x.accepting x.from.now x.out.now x.count l.out p.2
     (subst
     (λ z. Turned x.count x.places x.accepting x.from.now z (replicate x.count 0 ++ drop x.count x.out.now) l.out)
     e
-    (subst (λ z. Turned x.count x.places x.accepting x.from.now l.to z l.out) f l.invariant.2))
+    (subst (λ z. Turned x.count x.places x.accepting x.from.now l.to z l.out) f l.invariant.1))

@@ -1,11 +1,8 @@
 -- The loop's invariant: the standings passed are in the images of their sources.
-use Rattle.std.specs.Prelude.{◌≡◌, ◌-◌, ◌≤◌, length}
+use Rattle.std.specs.Prelude.{◌≡◌, length}
 use Rattle.finding.specs.ImagesTurned.{Turned}
 use Rattle.finding.proofs.image.turn.Given as goal
 
 abbrev pub invariant-loop-to : goal.invariant-loop-to
 invariant-loop-to l =
-    (l.to ≤ l.count) × (length l.out ≡ length l.initial.out) × Turned l.count l.places l.accepting l.from l.to l.initial.out l.out
-
-abbrev pub decreases-loop-to : goal.decreases-loop-to
-decreases-loop-to l = l.count - l.to
+    (length l.out ≡ length l.initial.out) × Turned l.count l.places l.accepting l.from l.to l.initial.out l.out

@@ -6,6 +6,7 @@ use Rattle.finding.proofs.job_rows.found_answer.Goals as goal
 pub returns : goal.returns
 returns c =
     let a = c.args in
-    found-told a.found.now a.count a.accepting a.explored.now a.n a.parents.now a.symbols.now a.marks.now
-    c.flags.new.flags c.accepting_standings-good.result c.first-word.result c.accepting_standings-good.ensures
-    c.flags.ensures c.first-word.ensures (omega arith)
+    let s = a.states.now in
+    found-told a.standings.now.found a.count a.accepting s.found a.n s.parents s.symbols a.marks.now
+    c.flags.new.flags c.accepting_standings-good.result c.first-first.result c.accepting_standings-good.ensures
+    c.flags.ensures c.first-first.ensures (omega arith)

@@ -3,7 +3,7 @@ use Rattle.std.specs.Prelude.{◌≡◌, ◌+◌, ◌-◌, ◌*◌, length}
 use mathlib.Core.Path.{◌∙◌}
 use native.Mathlib.Nat.{add-sub_cancel_left}
 use lib.ListN.{length-take, length-drop}
-use Rattle.finding.specs.ImageSearch.{tables}
+use Rattle.finding.specs.ListTables.{tables_of}
 use Rattle.finding.specs.ListRows.{row-filled}
 use native.Mathlib.Omega.{arith}
 use Rattle.finding.proofs.list_images.fill_row.Goals as goal
@@ -22,7 +22,7 @@ returns c =
     let sized : length called.new.out ≡ 64 =
     called.auto.out ∙ simp (length-take, length-drop) (omega (arith, room)) in
     record {
-      filled_row = row-filled (tables a.moves.now a.count a.labels a.follow.now a.enter.now) a.accepting a.v a.rows.now
+      filled_row = row-filled (tables_of a.list) a.accepting a.v a.rows.now
           called.new.out (64 * a.v + 64 - 64 * a.v) (add-sub_cancel_left (64 * a.v) 64) room sized
           called.ensures.images_told;
       cleared = called.ensures.cleared;

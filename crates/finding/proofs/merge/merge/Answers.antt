@@ -25,7 +25,7 @@ sizes {states = states} {classes = classes} T n put = (
 pub refine-requires : goal.refine-requires
 refine-requires c =
     let p = c.requires in
-    (p, λ s h. get_or-replicate 256 s 0 0 (omega (arith, p.rows.most)), refl)
+    (λ s h. get_or-replicate 256 s 0 0 (omega (arith, p.rows.most)), refl)
 
 pub number_classes-count-requires : goal.number_classes-count-requires
 number_classes-count-requires c =
@@ -41,20 +41,20 @@ overflow_mul-count c = omega (arith, sizes c.requires c.number_classes-count.ens
 pub offset_bounds-table-count : goal.offset_bounds-table-count
 offset_bounds-table-count c = omega (arith, sizes c.requires c.number_classes-count.ensures c.put_classes.ensures)
 
-pub slice_bounds-clear_numbers-count : goal.slice_bounds-clear_numbers-count
-slice_bounds-clear_numbers-count c = omega (arith, sizes c.requires c.number_classes-count.ensures c.put_classes.ensures)
+pub slice_bounds-clear-count : goal.slice_bounds-clear-count
+slice_bounds-clear-count c = omega (arith, sizes c.requires c.number_classes-count.ensures c.put_classes.ensures)
 
-pub slice_bounds-clear_numbers-start : goal.slice_bounds-clear_numbers-start
-slice_bounds-clear_numbers-start c = omega (arith, sizes c.requires c.number_classes-count.ensures c.put_classes.ensures)
+pub slice_bounds-clear-start : goal.slice_bounds-clear-start
+slice_bounds-clear-start c = omega (arith, sizes c.requires c.number_classes-count.ensures c.put_classes.ensures)
 
 pub overflow_sub-states : goal.overflow_sub-states
 overflow_sub-states c = omega (arith, sizes c.requires c.number_classes-count.ensures c.put_classes.ensures)
 
-pub slice_bounds-clear_bytes-count : goal.slice_bounds-clear_bytes-count
-slice_bounds-clear_bytes-count c = omega (arith, sizes c.requires c.number_classes-count.ensures c.put_classes.ensures)
+pub slice_bounds-clear-count-2 : goal.slice_bounds-clear-count-2
+slice_bounds-clear-count-2 c = omega (arith, sizes c.requires c.number_classes-count.ensures c.put_classes.ensures)
 
-pub slice_bounds-clear_bytes-start : goal.slice_bounds-clear_bytes-start
-slice_bounds-clear_bytes-start c = omega (arith, sizes c.requires c.number_classes-count.ensures c.put_classes.ensures)
+pub slice_bounds-clear-start-2 : goal.slice_bounds-clear-start-2
+slice_bounds-clear-start-2 c = omega (arith, sizes c.requires c.number_classes-count.ensures c.put_classes.ensures)
 
 pub overflow_sub-states-2 : goal.overflow_sub-states-2
 overflow_sub-states-2 c = omega (arith, sizes c.requires c.number_classes-count.ensures c.put_classes.ensures)
@@ -64,6 +64,6 @@ returns c =
     let count = c.number_classes-count.result in
     let left = c.args.states - count in
     let there = sizes c.requires c.number_classes-count.ensures c.put_classes.ensures in
-    let table = rest-cleared (16 * count) (16 * left) c.put_classes.new.table (omega (arith, there)) _ c.clear_numbers.ensures in
-    let flags = rest-cleared count left c.put_classes.new.flags (omega (arith, there)) _ c.clear_bytes.ensures in
+    let table = rest-cleared (16 * count) (16 * left) c.put_classes.new.table (omega (arith, there)) _ c.clear.ensures in
+    let flags = rest-cleared count left c.put_classes.new.flags (omega (arith, there)) _ c.clear-2.ensures in
     rw (table, flags) (merge-told c.requires c.refine.ensures c.put_classes.ensures c.number_classes-count.ensures.count)

@@ -7,7 +7,7 @@ use Rattle.finding.proofs.merge.number_classes.Goals as goal
 use Rattle.finding.proofs.merge.number_classes.Goals.{else-first-s, then-first-s}
 
 pub loop-s-init : goal.loop-s-init
-loop-s-init c = (omega arith, numbers-none _ _ c.requires.2)
+loop-s-init c = numbers-none _ _ c.requires.2
 
 pub overflow_cast-first : goal.overflow_cast-first
 overflow_cast-first c = omega (arith, c.requires.1.at_most c.loop-s.s c.loop-s-test.true, c.requires.0)
@@ -25,16 +25,14 @@ pub loop-s-preserved : goal.loop-s-preserved
 loop-s-preserved c =
     let l = c.loop-s in
     let h = c.loop-s-test.true in
-    let room : l.s < 256 = omega (arith, c.requires.0) in (
-      omega arith,
-      elim c.if-first-s.branch [
-        | then-first-s w ↦ rw (w.numbers-is, w.count-is) (numbers-first l.invariant.1 room w.if-first-s.true)
-        | else-first-s w ↦ rw (w.numbers-is, w.count-is) (numbers-later l.invariant.1 room c.requires.1 h w.if-first-s.false)
-      ],
-    )
+    let room : l.s < 256 = omega (arith, c.requires.0) in
+    elim c.if-first-s.branch [
+      | then-first-s w ↦ rw (w.numbers-is, w.count-is) (numbers-first l.invariant room w.if-first-s.true)
+      | else-first-s w ↦ rw (w.numbers-is, w.count-is) (numbers-later l.invariant room c.requires.1 h w.if-first-s.false)
+    ]
 
 pub returns : goal.returns
 returns c =
     let l = c.loop-s in
     let e : l.s ≡ c.args.states = omega arith in
-    rw e at l.invariant.1
+    rw e at l.invariant

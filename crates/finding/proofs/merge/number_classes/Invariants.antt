@@ -1,10 +1,6 @@
 -- The loop's invariant: the classes that begin below s are counted, and the states below s have the numbers of their classes.
-use Rattle.std.specs.Prelude.{◌-◌, ◌≤◌}
 use Rattle.finding.specs.MergeTold.{ClassNumbers}
 use Rattle.finding.proofs.merge.number_classes.Given as goal
 
 abbrev pub invariant-loop-s : goal.invariant-loop-s
-invariant-loop-s l = (l.s ≤ l.states) × ClassNumbers l.classes l.s l.numbers l.count
-
-abbrev pub decreases-loop-s : goal.decreases-loop-s
-decreases-loop-s l = l.states - l.s
+invariant-loop-s l = ClassNumbers l.classes l.s l.numbers l.count

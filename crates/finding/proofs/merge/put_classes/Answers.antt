@@ -18,7 +18,7 @@ module _ (classes numbers : List ℕ) (s : ℕ) (numbered : get_or numbers s 0 �
   number-at-most = omega (arith, number, leaders-at-most (class_at classes) s)
 
 pub loop-s-init : goal.loop-s-init
-loop-s-init c = (omega arith, classes-none _ _ _ _)
+loop-s-init c = classes-none _ _ _ _
 
 pub overflow_cast-classes : goal.overflow_cast-classes
 overflow_cast-classes c =
@@ -36,10 +36,10 @@ put_row-requires c =
     let s = c.loop-s.s in
     let h = c.loop-s-test.true in
     let p = c.requires in
-    (row-waits p.0 p.1 c.loop-s.invariant.1 h, number-at-most _ _ s (p.2 s h) c.if-classes-s.true)
+    (row-waits p.0 p.1 c.loop-s.invariant h, number-at-most _ _ s (p.2 s h) c.if-classes-s.true)
 
 pub bounds-flags-s : goal.bounds-flags-s
-bounds-flags-s c = omega (arith, c.loop-s.invariant.1.flags-sized, c.requires.0.flags-room, c.requires.0.rows.most)
+bounds-flags-s c = omega (arith, c.loop-s.invariant.flags-sized, c.requires.0.flags-room, c.requires.0.rows.most)
 
 pub bounds-flags-k : goal.bounds-flags-k
 bounds-flags-k c =
@@ -47,7 +47,7 @@ bounds-flags-k c =
     let p = c.requires in
     omega (
       arith,
-      c.loop-s.invariant.1.flags-sized,
+      c.loop-s.invariant.flags-sized,
       p.0.flags-room,
       p.0.rows.most,
       number-at-most _ _ s (p.2 s c.loop-s-test.true) c.if-classes-s.true,
@@ -57,18 +57,16 @@ pub loop-s-preserved : goal.loop-s-preserved
 loop-s-preserved c =
     let p = c.requires in
     let l = c.loop-s in
-    let h = c.loop-s-test.true in (
-      omega arith,
-      elim c.if-classes-s.branch [
-        | then-classes-s w ↦
-            let e = w.if-classes-s.true in
-            rw (w.table-is, w.flags-is) (classes-first p.0 p.1 l.invariant.1 h p.2 e (number _ _ l.s (p.2 l.s h) e) w.put_row.ensures)
-        | else-classes-s w ↦ rw (w.table-is, w.flags-is) (classes-later p.0 p.1 l.invariant.1 h w.if-classes-s.false)
-      ],
-    )
+    let h = c.loop-s-test.true in
+    elim c.if-classes-s.branch [
+      | then-classes-s w ↦
+          let e = w.if-classes-s.true in
+          rw (w.table-is, w.flags-is) (classes-first p.0 p.1 l.invariant h p.2 e (number _ _ l.s (p.2 l.s h) e) w.put_row.ensures)
+      | else-classes-s w ↦ rw (w.table-is, w.flags-is) (classes-later p.0 p.1 l.invariant h w.if-classes-s.false)
+    ]
 
 pub returns : goal.returns
 returns c =
     let l = c.loop-s in
     let e : l.s ≡ c.args.states = omega arith in
-    rw e at l.invariant.1
+    rw e at l.invariant

@@ -1,47 +1,36 @@
 -- The text is read into the tables, and Find runs on them.
-use native.Mathlib.Omega.{arith}
+use Rattle.std.specs.Prelude.{◌≡◌, Err}
+use mathlib.Core.Path.{refl}
+use borrow.Author.Rules.{rules}
 use Rattle.reading.specs.Loading.{tables}
-use Rattle.finding.specs.Operation.{read-few, holds-job, reading-refused, reading-found}
+use Rattle.finding.specs.Operation.{rows-loaded, reading-refused, reading-found}
 use Rattle.finding.proofs.operation.find_in.Goals as goal
 
-pub find_rows-requires : goal.find_rows-requires
-find_rows-requires c =
-    let text = c.args.text.now in
-    let e = c.in-Job.is in
-    let r = c.load_rows-told.ensures.roomy.rows _ _ e in
-    let (few-labels, few-lists) = read-few text c.load_rows-told.ensures.loaded e in
+pub invariant_of-rows : goal.invariant_of-rows
+invariant_of-rows g c =
+    let l = c.load_rows in
     record {
-      rows_fit = record {
-        query_follow = omega (arith, r.1);
-        query_enter = omega (arith, r.2);
-        lists_follow = λ h. r.1;
-        lists_enter = λ h. r.2;
-      };
-      room = record {
-        labels = few-labels;
-        lists = few-lists;
-        states = omega arith;
-        table = c.requires.1;
-        flags = c.requires.2;
-      };
-      most_standings_bound = omega arith;
-      holds_job = holds-job text c.load_rows-told.ensures.loaded e;
+      held =
+          rows-loaded c.args.text.now l.result (tables l.new.names l.new.follow l.new.enter l.new.sizes l.new.accepting) l.ensures.loaded
+          l.ensures.roomy _ _ c.in_ok-job.was;
     }
 
-pub returns-in-Refused : goal.returns-in-Refused
-returns-in-Refused c =
+pub returns-in_err-job : goal.returns-in_err-job
+returns-in_err-job g c =
     let a = c.args in
-    let l = c.load_rows-told in
-    reading-refused a.text.now a.table.now a.marks.now c.requires.1 c.requires.2 l.result
+    let l = c.load_rows in
+    let same : c.from_residual.result ≡ Err c.in_err-job.field-0.0 = search rules in
+    rw same
+    (reading-refused a.text.now a.table.now a.marks.now c.requires.lent.0 c.requires.lent.1 l.result
     (tables l.new.names l.new.follow l.new.enter l.new.sizes l.new.accepting)
-    l.ensures.loaded _ _ c.refused.result c.in-Refused.is c.refused.ensures
+    l.ensures.loaded _ _ _ c.in_err-job.was refl)
 
-pub returns-in-Job : goal.returns-in-Job
-returns-in-Job c =
+pub returns : goal.returns
+returns g c =
     let a = c.args in
-    let l = c.load_rows-told in
+    let l = c.load_rows in
     let f = c.find_rows in
-    reading-found a.text.now a.table.now a.marks.now c.requires.1 c.requires.2 l.result
+    reading-found a.text.now a.table.now a.marks.now c.requires.lent.0 c.requires.lent.1 l.result
     (tables l.new.names l.new.follow l.new.enter l.new.sizes l.new.accepting)
-    l.ensures.loaded _ _ f.result f.new.table f.new.marks c.in-Job.is
+    l.ensures.loaded _ _ f.result f.new.table f.new.marks c.in_ok-job.was
     f.ensures

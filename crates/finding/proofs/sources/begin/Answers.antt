@@ -16,9 +16,8 @@ overflow_mul-count c = omega (arith, c.requires.2)
 pub loop-i-init : goal.loop-i-init
 loop-i-init c =
     let x = c.args in (
-      omega arith,
       refl,
-      subst (λ l. Begun x.count 0 x.places l 0) (sym (c.clear_words.ensures.enough c.requires.2))
+      subst (λ l. Begun x.count 0 x.places l 0) (sym (c.clear.ensures.enough c.requires.2))
           (begun-none x.count x.places x.from.now),
     )
 
@@ -28,8 +27,8 @@ bounds-from-i c =
     let p = c.requires in
     omega (
       arith,
-      c.loop-i.invariant.1,
-      c.clear_words.auto.words,
+      c.loop-i.invariant.0,
+      c.clear.auto.items,
       p.2,
       row_within x.count 0 x.places p.1,
     )
@@ -40,11 +39,10 @@ loop-i-preserved c =
     let x = c.args in
     let p = c.requires in
     let bit : 1 * 2 ^ l.i % 2 ^ 64 ≡ one l.i = shl_exact {a = 1} 1 l.i 64 (lit< tt) (omega arith) ∙ omega arith in (
-      omega arith,
-      length-set l.from l.i (1 * 2 ^ l.i % 2 ^ 64) ∙ l.invariant.1,
+      length-set l.from l.i (1 * 2 ^ l.i % 2 ^ 64) ∙ l.invariant.0,
       subst (λ z. Begun x.count (l.i + 1) x.places (set l.from l.i z) (union l.all z)) (sym bit)
           (begun_more x.count l.i x.places l.from l.all c.loop-i-test.true
-          (omega (arith, l.invariant.1, c.clear_words.auto.words, p.2, row_within x.count 0 x.places p.1)) l.invariant.2),
+          (omega (arith, l.invariant.0, c.clear.auto.items, p.2, row_within x.count 0 x.places p.1)) l.invariant.1),
     )
 
 pub returns : goal.returns
@@ -52,4 +50,4 @@ returns c =
     let l = c.loop-i in
     let x = c.args in
     let e : l.i ≡ x.count = omega arith in
-    subst (λ z. Begun x.count z x.places l.from l.all) e l.invariant.2
+    subst (λ z. Begun x.count z x.places l.from l.all) e l.invariant.1

@@ -1,112 +1,74 @@
-use Rattle.std.specs.Prelude.{◌≡◌, ◌-◌, ◌*◌, ◌%◌, ◌^◌, ◌<◌}
-use mathlib.Core.Path.{ap, ◌∙◌}
-use lib.Bits.{and_le_r}
-use lib.Count.{count_trailing_zeros, trailing_le}
+use Rattle.std.specs.Prelude.{◌≡◌, ◌*◌, ◌%◌, ◌^◌, ◌<◌, ◌+◌, get_or}
+use mathlib.Core.Path.{ap, ◌∙◌, refl}
 use lib.Dec.{lit<}
+use lib.ListN.{length-set}
 use lib.Pow.{shl_exact}
 use Rattle.theory.specs.Places.{one, union}
-use Rattle.places.specs.Followed.{passed_none, passed-turn, passed-all, rest-within, least-small}
-use Rattle.finding.specs.SourcesBrought.{brought-none, brought-same, brought-as, brought-out, brought-more, least-standing}
+use Rattle.places.specs.declared.members.Members.{Members}
+use Rattle.places.specs.Followed.{passed_none, passed-all}
+use Rattle.finding.specs.SourcesBrought.{brought-none, brought-same, brought-as, brought-out, brought-more}
+use Rattle.finding.proofs.MembersLeft.{members-all, members-on, member-here, member-small, member-turn}
 use native.Mathlib.Omega.{arith}
-use borrow.Author.Rules.{rules}
 use Rattle.finding.proofs.sources.gather.Goals as goal
-use Rattle.finding.proofs.sources.gather.Goals.{else-to-count, then-to-count}
 
-pub loop-rest-init : goal.loop-rest-init
-loop-rest-init c =
-    let x = c.args in (
-      omega arith,
-      λ i m. m,
-      brought-none x.moves.now x.count x.a x.p x.from.now _ c.clear_moved.ensures (passed_none x.taken),
-    )
-
-pub overflow_cast-s : goal.overflow_cast-s
-overflow_cast-s c = omega (arith, trailing_le 64 c.loop-rest.rest)
-
-pub overflow_mul-s : goal.overflow_mul-s
-overflow_mul-s c = omega (arith, trailing_le 64 c.loop-rest.rest)
-
-pub overflow_add-s : goal.overflow_add-s
-overflow_add-s c = omega (arith, trailing_le 64 c.loop-rest.rest)
-
-pub bounds-moves-s : goal.bounds-moves-s
-bounds-moves-s c =
-    let l = c.loop-rest in
-    omega (arith, c.requires, least-small l.rest c.loop-rest-test.true l.invariant.0)
-
-pub bounds-held-to : goal.bounds-held-to
-bounds-held-to c =
-    omega arith
-
-pub overflow_add-moved : goal.overflow_add-moved
-overflow_add-moved c =
-    let l = c.loop-rest in
-    let p = c.requires in
-    let s = least-standing c.args.count c.args.taken l.rest p.2 l.invariant.1 c.loop-rest-test.true l.invariant.0 in
-    search rules
-
-pub offset_bounds-from-count : goal.offset_bounds-from-count
-offset_bounds-from-count c =
-    let l = c.loop-rest in
-    let p = c.requires in
-    let s = least-standing c.args.count c.args.taken l.rest p.2 l.invariant.1 c.loop-rest-test.true l.invariant.0 in
-    search rules
-
-pub bounds-from-count : goal.bounds-from-count
-bounds-from-count c =
-    let l = c.loop-rest in
-    let p = c.requires in
-    let s = least-standing c.args.count c.args.taken l.rest p.2 l.invariant.1 c.loop-rest-test.true l.invariant.0 in
-    omega (arith, p.3)
-
-pub bounds-moved-to : goal.bounds-moved-to
-bounds-moved-to c =
-    omega (
-      arith,
-      c.if-to-count.true,
-      c.requires.0,
-    )
-
-pub overflow_shl-met : goal.overflow_shl-met
-overflow_shl-met c =
-    omega (
-      arith,
-      c.if-to-count.true,
-      c.requires.0,
-    )
-
-pub loop-rest-smaller : goal.loop-rest-smaller
-loop-rest-smaller c =
-    let l = c.loop-rest in
-    omega (arith, c.loop-rest-test.true, and_le_r l.rest (l.rest - 1))
-
-pub loop-rest-preserved : goal.loop-rest-preserved
-loop-rest-preserved c =
-    let l = c.loop-rest in
+pub loop-s-init : goal.loop-s-init
+loop-s-init c =
     let x = c.args in
-    let p = c.requires in
-    let d = c.loop-rest-test.true in
-    let to = c.wide-to in
-    let s = count_trailing_zeros 64 l.rest in
-    let turn = passed-turn x.taken l.rest l.invariant.1 d l.invariant.0 in
-    let bit : to.result < 64 → 1 * 2 ^ to.result % 2 ^ 64 ≡ one to.result =
-    λ h. shl_exact {a = 1} 1 to.result 64 (lit< tt) (omega arith) ∙ omega arith in (
-      omega (arith, l.invariant.0, and_le_r l.rest (l.rest - 1)),
-      rest-within x.taken l.rest l.invariant.1 d l.invariant.0,
-      (elim c.if-to-count.branch [
-        | then-to-count w ↦ brought-as w.moved-is (w.met-is ∙ ap (union l.met) (bit (omega (arith, w.if-to-count.true, p.0))))
-            (brought-more x.moves.now x.count x.a x.p x.from.now s turn l.moved l.met l.invariant.2 to.result
-            to.ensures.0 w.if-to-count.true (omega (arith, w.if-to-count.true, p.0)))
-        | else-to-count w ↦ brought-as w.moved-is w.met-is
-            (brought-out x.moves.now x.count x.a x.p x.from.now s turn l.moved l.met l.invariant.2
-            (omega (arith, w.if-to-count.false, to.ensures.0)))
-      ]),
+    let e : c.into_iter-s-iterator.result.rest ≡ x.taken =
+    ap (λ (m : Members). m.rest) c.into_iter-s-iterator.ensures.into_iter_gives ∙ c.members-s-items.ensures in (
+      tt,
+      tt,
+      members-all c.ranges.taken.fits e,
+      omega arith,
+      rw e (brought-none x.list.moves.now x.list.count x.a x.p x.from.now _ c.clear_moved.ensures (passed_none x.taken)),
+    )
+
+pub overflow_mul-to : goal.overflow_mul-to
+overflow_mul-to c = let h = member-small c.loop-s.invariant.2 c.in-Some.ensures.steps in omega arith
+
+pub bounds-list-s : goal.bounds-list-s
+bounds-list-s c = let h = member-small c.loop-s.invariant.2 c.in-Some.ensures.steps in omega (arith, c.requires)
+
+pub bounds-from-list : goal.bounds-from-list
+bounds-from-list c =
+    let h = c.requires.2 _ (member-here c.loop-s.invariant.2 c.in-Some.ensures.steps) in
+    omega (arith, c.requires.3)
+
+pub loop-s-preserved-then-to-list : goal.loop-s-preserved-then-to-list
+loop-s-preserved-then-to-list c =
+    let x = c.args in
+    let l = c.loop-s in
+    let i = l.invariant in
+    let step = c.in-Some.ensures.steps in
+    let s = c.in-Some.s in
+    let to = get_or x.list.moves.now (32 * s + x.a) 0 in
+    let room : to < 64 = omega (arith, c.if-to-list.true, c.requires.0) in
+    let bit : 1 * 2 ^ to % 2 ^ 64 ≡ one to = shl_exact {a = 1} 1 to 64 (lit< tt) (omega arith) ∙ omega arith in (
+      tt,
+      tt,
+      members-on i.2 step,
+      length-set l.moved to _ ∙ i.3,
+      brought-as refl (ap (union l.met) bit)
+          (brought-more x.list.moves.now x.list.count x.a x.p x.from.now s (member-turn i.2 step) l.moved l.met i.4 to refl
+          c.if-to-list.true (omega (arith, i.3))),
+    )
+
+pub loop-s-preserved : goal.loop-s-preserved
+loop-s-preserved c =
+    let x = c.args in
+    let l = c.loop-s in
+    let i = l.invariant in
+    let step = c.in-Some.ensures.steps in (
+      tt,
+      tt,
+      members-on i.2 step,
+      i.3,
+      brought-out x.list.moves.now x.list.count x.a x.p x.from.now c.in-Some.s (member-turn i.2 step) l.moved l.met i.4 c.if-to-list.false,
     )
 
 pub returns : goal.returns
 returns c =
-    let l = c.loop-rest in
+    let l = c.loop-s in
     let x = c.args in
-    let all = passed-all x.taken l.rest c.loop-rest-test.false in
-    brought-same x.moves.now x.count x.a x.p x.from.now l.moved l.met (λ s k h. (all s).1 k) (λ s k. (all s).0 k)
-    l.invariant.2
+    let all = passed-all x.taken l.s-iterator.rest c.in-None.ensures.steps.0 in
+    brought-same x.list.moves.now x.list.count x.a x.p x.from.now l.moved l.met (λ s k h. (all s).1 k) (λ s k. (all s).0 k) l.invariant.4

@@ -1,7 +1,6 @@
 -- `put_name` meets its contract: its length is put, and then its bytes.
-use Rattle.output.specs.Put.{puts}
+use Rattle.output.specs.Writer.{puts_both}
 use Rattle.keeping.proofs.names.put_name.Goals as goal
 
 pub returns : goal.returns
-unfolding puts
-returns c = cc
+returns c = puts_both c.put.ensures c.put_part.ensures

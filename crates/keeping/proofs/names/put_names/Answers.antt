@@ -1,25 +1,25 @@
-use mathlib.Core.Path.{refl, ◌∙◌}
-use native.Mathlib.Omega.{arith}
-use Rattle.keeping.specs.KeptLaws.{puts-name, names-end}
-use Rattle.output.specs.Put.{writing, puts_none, puts-length}
+use Rattle.std.proofs.Common.{List, ap}
+use lib.Seq.{take_all}
+use Rattle.syntax.specs.declared.table.Span.{Span}
+use Rattle.syntax.specs.Resolve.{names_at}
+use Rattle.output.specs.Writer.{puts_nothing, puts_both, puts_same}
+use Rattle.keeping.specs.Write.{one_name, name_bytes}
+use Rattle.keeping.specs.KeptLaws.{names-more}
 use Rattle.keeping.proofs.names.put_names.Goals as goal
 
-pub loop-i-init : goal.loop-i-init
-loop-i-init c = (omega arith, refl)
+pub loop-span-init : goal.loop-span-init
+unfolding name_bytes names_at
+loop-span-init c = puts_nothing c.args.w.now
 
-pub loop-i-preserved : goal.loop-i-preserved
-loop-i-preserved c =
-    let l = c.loop-i in
-    let a = c.args in
-    let step = puts-name a.text.now a.names.now l.i (writing l.out l.next) (omega arith) c.part.ensures
-    c.put_name-next.ensures in
-    (omega arith, step ∙ l.invariant.1)
-
-pub shape_of-out : goal.shape_of-out
-shape_of-out c = let l = c.loop-i in puts-length (writing l.out l.next) (writing _ _) _ _ l.invariant.1
+pub loop-span-preserved : goal.loop-span-preserved
+loop-span-preserved c =
+    let names = c.args.names in
+    let l = c.loop-span in
+    puts_same (names-more names.text.now names.spans.now l.span-index (record { start = 0; size = 0 }) c.loop-span-test.true)
+    (puts_both l.invariant (puts_same (ap one_name c.of.ensures) c.put_name.ensures))
 
 pub returns : goal.returns
 returns c =
-    let a = c.args in
-    let l = c.loop-i in
-    puts_none (writing l.out l.next) (names-end a.text.now a.names.now l.i (omega arith)) l.invariant.1
+    let names = c.args.names in
+    puts_same (ap (λ (l : List Span). name_bytes (names_at names.text.now l)) (take_all c.loop-span.span-index names.spans.now c.loop-span-test.false))
+    c.loop-span.invariant

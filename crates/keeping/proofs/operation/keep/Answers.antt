@@ -1,33 +1,42 @@
 -- The output is measured first; then the text is read into tables, and Keep runs on them.
-use mathlib.Core.Path.{sym, ◌∙◌, subst}
-use Rattle.reading.specs.Loading.{tables, Loaded}
+use Rattle.std.proofs.Common.{◌≡◌, Err, sym, ap, ◌∙◌, rules, arith}
+use Rattle.reading.specs.declared.answer.Refused.{Refused}
+use Rattle.reading.specs.Loading.{tables}
+use Rattle.finding.specs.RowsHeld.{rows-held}
+use Rattle.finding.specs.Operation.{read-few, holds-job}
+use Rattle.keeping.specs.KeepOperation.{left}
 use Rattle.keeping.specs.KeepOperationLaws.{out-short, out-long, text-refused}
 use Rattle.keeping.proofs.operation.keep.Goals as goal
 
-pub returns-then-out-lt8728 : goal.returns-then-out-lt8728
-returns-then-out-lt8728 c =
+pub returns-then-out-lt-LENGTH : goal.returns-then-out-lt-LENGTH
+returns-then-out-lt-LENGTH c =
     let a = c.args in
-    out-short a.text.now a.out.now c.if-out-lt8728.true
+    ap (λ (r : Refused). left (Err r) a.out.now) c.from.ensures ∙ out-short a.text.now a.out.now c.if-out-lt-LENGTH.true
 
-pub keep_job-requires : goal.keep_job-requires
-keep_job-requires c =
+pub returns-in_err-job : goal.returns-in_err-job
+returns-in_err-job c =
     let a = c.args in
-    let l = c.load-told in (
-      c.if-out-lt8728.false,
-      subst (λ b. Loaded a.text.now b
-          (tables l.new.names l.new.follow l.new.enter l.new.sizes l.new.accepting))
-          c.in-Job.is l.ensures,
-    )
+    let l = c.load in
+    let same : c.from_residual.result ≡ Err c.in_err-job.field-0.0 = search rules in
+    rw same
+    (text-refused a.text.now a.out.now c.if-out-lt-LENGTH.false l.result (tables l.new.names l.new.follow l.new.enter l.new.sizes l.new.accepting)
+    l.ensures _ c.in_err-job.was)
 
-pub returns-in-Refused : goal.returns-in-Refused
-returns-in-Refused c =
-    let a = c.args in
-    let l = c.load-told in
-    text-refused a.text.now a.out.now c.if-out-lt8728.false l.result
-    (tables l.new.names l.new.follow l.new.enter l.new.sizes l.new.accepting)
-    l.ensures _ _ c.in-Refused.is
+pub invariant_of-rows : goal.invariant_of-rows
+invariant_of-rows c =
+    let text = c.args.text.now in
+    let e = c.in_ok-job.was in
+    let (few-labels, few-lists) = read-few text c.load.ensures e in
+    record {
+      held = rows-held few-labels few-lists
+          (record {
+            query_follow = omega arith;
+            query_enter = omega arith;
+            lists_follow = λ h. omega arith;
+            lists_enter = λ h. omega arith;
+          })
+          (holds-job text c.load.ensures e);
+    }
 
-pub returns-in-Job : goal.returns-in-Job
-returns-in-Job c =
-    let a = c.args in
-    c.keep_job.ensures ∙ sym (out-long a.text.now a.out.now c.if-out-lt8728.false)
+pub returns : goal.returns
+returns c = c.keep_job.ensures ∙ sym (out-long c.args.text.now c.args.out.now c.if-out-lt-LENGTH.false)

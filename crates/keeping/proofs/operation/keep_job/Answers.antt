@@ -1,49 +1,27 @@
 -- Find runs on zeroed memory; what it finds is written to the output, and where it finds nothing the output is cleared.
-use mathlib.Core.Path.{refl}
+use Rattle.std.proofs.Common.{ℕ, ◌≡◌, ◌+◌, ◌-◌, take, drop, refl, ap, arith}
+use Rattle.reading.specs.Tables.{Tables}
 use Rattle.reading.specs.Loading.{tables}
-use Rattle.finding.specs.Operation.{read-few, holds-job}
 use Rattle.keeping.specs.KeepOperationLaws.{job-kept, job-unfound}
-use native.Mathlib.Omega.{arith}
 use Rattle.keeping.proofs.operation.keep_job.Goals as goal
 
-pub find_rows-told-requires : goal.find_rows-told-requires
-find_rows-told-requires c =
-    let text = c.args.text.now in
-    let loaded = c.requires.1 in
-    let (few-labels, few-lists) = read-few text loaded refl in
-    record {
-      rows_fit = record {
-        query_follow = omega arith;
-        query_enter = omega arith;
-        lists_follow = λ h. omega arith;
-        lists_enter = λ h. omega arith;
-      };
-      room = record {
-        labels = few-labels;
-        lists = few-lists;
-        states = omega arith;
-        table = omega arith;
-        flags = omega arith;
-      };
-      most_standings_bound = omega arith;
-      holds_job = holds-job text loaded refl;
-    }
+pub slice_bounds-spans-end : goal.slice_bounds-spans-end
+slice_bounds-spans-end c = omega (arith, c.args.job.held.few-lists)
 
-pub returns-in-Found : goal.returns-in-Found
-returns-in-Found c =
+pub returns-in-Ok : goal.returns-in-Ok
+returns-in-Ok c =
     let a = c.args in
-    let f = c.find_rows-told in
-    job-kept a.text.now (tables a.names.now a.follow.now a.enter.now a.sizes.now a.accepting.now) a.labels
-    a.lists a.out.now (omega arith) _ _ refl refl f.result
-    f.new.table f.new.marks f.ensures
-    c.requires.0 c.requires.1 _ _ c.write-size.result
-    c.write-size.new.out c.in-Found.is c.write-size.ensures
+    let f = c.find_rows in
+    let T : Tables = tables a.names.now a.job.follow.now a.job.enter.now a.job.sizes.now a.job.accepting.now in
+    let e : 32 + a.job.lists - 32 ≡ a.job.lists = omega arith in
+    job-kept a.text.now T a.job.labels a.job.lists a.out.now (omega arith) _ _ refl refl f.result f.new.table f.new.marks f.ensures
+    c.requires.0 c.requires.1 c.in-Ok.found _ c.write.result c.write.new.out c.in-Ok.is (ap (λ (n : ℕ). take n (drop 32 a.names.now)) e)
+    c.write.ensures
 
-pub returns-in-Refused : goal.returns-in-Refused
-returns-in-Refused c =
+pub returns-in-Err : goal.returns-in-Err
+returns-in-Err c =
     let a = c.args in
-    let f = c.find_rows-told in
-    job-unfound a.text.now (tables a.names.now a.follow.now a.enter.now a.sizes.now a.accepting.now) a.labels
-    a.lists a.out.now (omega arith) _ _ refl refl f.result
-    f.new.table f.new.marks f.ensures
-    c.requires.0 c.requires.1 _ _ c.clear.new.out c.in-Refused.is c.clear.ensures
+    let f = c.find_rows in
+    let T : Tables = tables a.names.now a.job.follow.now a.job.enter.now a.job.sizes.now a.job.accepting.now in
+    job-unfound a.text.now T a.job.labels a.job.lists a.out.now (omega arith) _ _ refl refl f.result f.new.table f.new.marks f.ensures
+    c.requires.0 c.requires.1 c.in-Err.refused c.clear.new.items c.in-Err.is (c.clear.ensures.enough c.requires.0)

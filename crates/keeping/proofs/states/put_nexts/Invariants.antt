@@ -1,13 +1,7 @@
--- `put_nexts` meets its contract. The loop's invariant: to put the next states that are left comes to what to put all of them comes to.
-use Rattle.std.specs.Prelude.{◌≡◌, ◌-◌, ◌≤◌}
+-- `put_nexts` meets its contract. The loop's invariant: the next states for the lists before this one are put.
+use Rattle.output.specs.Writer.{Puts}
 use Rattle.keeping.specs.Kept.{kept_nexts}
-use Rattle.output.specs.Put.{writing, puts}
 use Rattle.keeping.proofs.states.put_nexts.Given as goal
 
 abbrev pub invariant-loop-list : goal.invariant-loop-list
-invariant-loop-list l =
-    (l.list ≤ l.lists) × (puts (writing l.out l.next) (kept_nexts l.table l.state (l.lists - l.list) l.list)
-    ≡ puts (writing l.initial.out l.initial.next) (kept_nexts l.table l.state l.lists 0))
-
-abbrev pub decreases-loop-list : goal.decreases-loop-list
-decreases-loop-list l = l.lists - l.list
+invariant-loop-list l = Puts l.initial.w (kept_nexts l.table l.state l.list 0) l.w

@@ -1,29 +1,23 @@
-use mathlib.Core.Path.{◌∙◌}
-use native.Mathlib.Nat.{sub-zero}
-use native.Mathlib.Omega.{arith}
-use Rattle.keeping.specs.KeptLaws.{puts-state, states-end}
-use Rattle.output.specs.Put.{writing, puts_none, puts-length}
+use Rattle.std.proofs.Common.{ℕ, ◌≡◌, [], ◌∷◌, ap, arith}
+use Rattle.output.specs.Writer.{puts_nothing, puts_both, puts_same}
+use Rattle.keeping.specs.Kept.{kept_states}
 use Rattle.keeping.specs.Write.{lent}
+use Rattle.keeping.specs.KeptLaws.{states-more}
 use Rattle.keeping.proofs.states.put_states.Goals as goal
 
 pub loop-state-init : goal.loop-state-init
-loop-state-init c = (omega arith, rw sub-zero)
+unfolding kept_states
+loop-state-init c = puts_nothing c.args.w.now
 
 pub loop-state-preserved : goal.loop-state-preserved
 loop-state-preserved c =
-    let l = c.loop-state in
     let a = c.args in
-    let R = lent a.states a.table.now a.flags.now in
-    let step = puts-state R a.lists a.states l.state (writing l.out l.next) (omega arith) c.flag.ensures
-    c.put-flagged.ensures c.put_nexts-next.ensures in
-    (omega arith, step ∙ l.invariant.1)
-
-pub shape_of-out : goal.shape_of-out
-shape_of-out c = let l = c.loop-state in puts-length (writing l.out l.next) (writing _ _) _ _ l.invariant.1
+    let l = c.loop-state in
+    let flagged = puts_same (ap (λ (b : ℕ). b ∷ []) c.flag.ensures) c.put.ensures in
+    puts_same (states-more (lent a.states a.table.now a.flags.now) a.lists l.state) (puts_both l.invariant (puts_both flagged c.put_nexts.ensures))
 
 pub returns : goal.returns
 returns c =
     let a = c.args in
-    let l = c.loop-state in
-    let R = lent a.states a.table.now a.flags.now in
-    puts_none (writing l.out l.next) (states-end R a.lists a.states l.state (omega arith)) l.invariant.1
+    let e : c.loop-state.state ≡ a.states = omega arith in
+    puts_same (ap (λ n. kept_states (lent a.states a.table.now a.flags.now) a.lists n 0) e) c.loop-state.invariant

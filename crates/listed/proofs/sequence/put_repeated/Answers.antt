@@ -1,23 +1,19 @@
-use mathlib.Core.Path.{refl, ◌∙◌}
-use native.Mathlib.Omega.{arith}
-use Rattle.output.specs.Put.{writing, puts_none, puts-length}
-use Rattle.listed.specs.TextsLaws.{puts-repeated, none-repeated}
+use Rattle.std.proofs.Common.{ℕ, ◌≡◌, ap, arith}
+use Rattle.output.specs.Writer.{puts_nothing, puts_both, puts_same}
+use Rattle.listed.specs.Texts.{repeated}
+use Rattle.listed.specs.TextsLaws.{repeated-more}
 use Rattle.listed.proofs.sequence.put_repeated.Goals as goal
 
-pub loop-left-init : goal.loop-left-init
-loop-left-init c = refl
+pub loop-init : goal.loop-init
+unfolding repeated
+loop-init c = puts_nothing c.args.w.now
 
-pub loop-left-preserved : goal.loop-left-preserved
-loop-left-preserved c =
-    let a = c.args in
-    let l = c.loop-left in
-    puts-repeated (writing l.out l.next) l.left a.bytes.now (omega arith) c.put_part-next.ensures ∙ l.invariant
-
-pub shape_of-out : goal.shape_of-out
-shape_of-out c = let l = c.loop-left in puts-length (writing l.out l.next) (writing _ _) _ _ l.invariant
+pub loop-preserved : goal.loop-preserved
+loop-preserved c =
+    let l = c.loop in
+    puts_same (repeated-more l.counter c.args.bytes.now) (puts_both l.invariant c.put_part.ensures)
 
 pub returns : goal.returns
 returns c =
-    let a = c.args in
-    let l = c.loop-left in
-    puts_none (writing l.out l.next) (none-repeated l.left a.bytes.now (omega arith)) l.invariant
+    let e : c.loop.counter ≡ c.args.count = omega arith in
+    puts_same (ap (λ (n : ℕ). repeated n c.args.bytes.now) e) c.loop.invariant

@@ -5,9 +5,10 @@ use Rattle.theory.specs.Places.{Member}
 use Rattle.places.specs.Followed.{FollowedLeft}
 use Rattle.places.proofs.joined.join.Given as goal
 
-abbrev pub invariant-loop-rest : goal.invariant-loop-rest
-invariant-loop-rest l =
-    (l.rest < 2 ^ 64) × ((p : ℕ) → Member p l.rest → Member p l.set) × FollowedLeft (λ p. get_or l.words (l.apart * p + l.first) 0) l.set l.all l.rest
-
-abbrev pub decreases-loop-rest : goal.decreases-loop-rest
-decreases-loop-rest l = l.rest
+abbrev pub invariant-loop-place : goal.invariant-loop-place
+invariant-loop-place l =
+    (goal.iterator-loop-place).can_next l.place-iterator
+    × (goal.iterator-loop-place).is_finite l.place-iterator
+    × (l.place-iterator.rest < 2 ^ 64)
+    × ((p : ℕ) → Member p l.place-iterator.rest → Member p l.set)
+    × FollowedLeft (λ p. get_or l.words (l.apart * p + l.first) 0) l.set l.all l.place-iterator.rest

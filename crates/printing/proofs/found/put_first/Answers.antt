@@ -1,17 +1,22 @@
 -- `put_first` meets its contract: a word is put by its names, and `empty` where there is none.
+use Rattle.std.proofs.Common.{List, Option, sym, ap, ◌∙◌}
+use Rattle.syntax.specs.Byte.{Bytes}
 use Rattle.syntax.specs.Resolve.{names_at}
-use Rattle.output.specs.Put.{writing}
-use Rattle.printing.specs.ToldLaws.{puts-first-word, puts-no-word}
+use Rattle.finding.specs.declared.first.FirstWord.{FirstWord}
+use Rattle.finding.specs.WordTold.{word_of}
+use Rattle.output.specs.Writer.{puts_same}
+use Rattle.printing.specs.Lines.{first_word, named_line, first_line}
 use Rattle.printing.proofs.found.put_first.Goals as goal
 
-pub returns-then-first : goal.returns-then-first
-returns-then-first c =
-    let a = c.args in
-    puts-first-word (names_at a.text.now a.names.now) a.first (writing a.out.now a.at) c.if-first.true
-    c.part.ensures c.put_named_line.ensures
+pub returns-in-Some : goal.returns-in-Some
+unfolding first_line
+returns-in-Some c =
+    let N : List Bytes = names_at c.args.names.text.now c.args.names.spans.now in
+    puts_same (ap (named_line first_word N) c.of.ensures ∙ ap (λ (o : Option FirstWord). first_line N (word_of o)) (sym c.in-Some.is))
+    c.put_named_line.ensures
 
-pub returns-else-first : goal.returns-else-first
-returns-else-first c =
-    let a = c.args in
-    puts-no-word (names_at a.text.now a.names.now) a.first (writing a.out.now a.at) c.if-first.false
-    c.put_part.ensures
+pub returns-in-None : goal.returns-in-None
+unfolding first_line
+returns-in-None c =
+    let N : List Bytes = names_at c.args.names.text.now c.args.names.spans.now in
+    puts_same (ap (λ (o : Option FirstWord). first_line N (word_of o)) (sym c.in-None.is)) c.put_part.ensures

@@ -1,27 +1,29 @@
 -- `put_verdict` meets its contract: Verdict runs, and what it tells is put.
-use mathlib.Core.Path.{refl}
-use Rattle.output.specs.Put.{writing}
+use Rattle.std.proofs.Common.{◌≡◌, Ok, refl, rules}
+use Rattle.output.specs.Writer.{written}
+use Rattle.verdict.specs.declared.verdict.Verdict.TheVariants.{Complete, Missed}
 use Rattle.printing.specs.VerdictPutLaws.{complete-put, missed-put, refused-put}
 use Rattle.printing.proofs.judged.put_verdict.Goals as goal
 
-pub returns-in-Complete : goal.returns-in-Complete
-returns-in-Complete c =
-    let j = c.judge-told in
+pub returns-in-Ok-Complete-clause-puts : goal.returns-in-Ok-Complete-clause-puts
+returns-in-Ok-Complete-clause-puts c =
+    let j = c.judge in
     let a = c.args in
-    complete-put a.text.now a.allowance _ _ _ _ refl refl c.requires j.result j.new.table j.new.flags j.new.path j.new.workspace j.ensures
-    a.labels.now (writing a.out.now a.at) _ c.in-Complete.is c.put_part-next.ensures c.put_count.ensures
+    let told : j.result ≡ Ok (Complete c.in-Ok-Complete.pairs) = search rules in
+    complete-put a.labels.text.now a.allowance _ _ _ _ refl refl c.requires j.result j.new.table j.new.flags j.new.path j.new.workspace j.ensures
+    a.labels.spans.now (written a.w.now) _ told c.put_part.ensures.puts c.put_count.ensures.puts
 
-pub returns-in-Missed : goal.returns-in-Missed
-returns-in-Missed c =
-    let j = c.judge-told in
+pub returns-in-Ok-Missed-clause-puts : goal.returns-in-Ok-Missed-clause-puts
+returns-in-Ok-Missed-clause-puts c =
+    let j = c.judge in
     let a = c.args in
-    missed-put a.text.now a.allowance _ _ _ _ refl refl c.requires j.result j.new.table j.new.flags j.new.path j.new.workspace j.ensures
-    a.labels.now (writing a.out.now a.at) _ _ c.in-Missed.is c.part-missed.ensures c.put_named_line-next.ensures
-    c.put_count-in-Missed.ensures
+    let told : j.result ≡ Ok (Missed c.in-Ok-Missed.size c.in-Ok-Missed.pairs) = search rules in
+    missed-put a.labels.text.now a.allowance _ _ _ _ refl refl c.requires j.result j.new.table j.new.flags j.new.path j.new.workspace j.ensures
+    a.labels.spans.now (written a.w.now) _ _ told c.of.ensures c.put_named_line.ensures.puts c.put_count-in-Ok-Missed.ensures.puts
 
-pub returns-in-Refused : goal.returns-in-Refused
-returns-in-Refused c =
-    let j = c.judge-told in
+pub returns-in-Err-clause-puts : goal.returns-in-Err-clause-puts
+returns-in-Err-clause-puts c =
+    let j = c.judge in
     let a = c.args in
-    refused-put a.text.now a.allowance _ _ _ _ refl refl c.requires j.result j.new.table j.new.flags j.new.path j.new.workspace j.ensures
-    a.labels.now (writing a.out.now a.at) _ _ c.in-Refused.is c.put_refusal.ensures
+    refused-put a.labels.text.now a.allowance _ _ _ _ refl refl c.requires j.result j.new.table j.new.flags j.new.path j.new.workspace j.ensures
+    a.labels.spans.now (written a.w.now) c.in-Err.refused c.in-Err.is c.put_refusal.ensures.puts

@@ -1,10 +1,8 @@
 -- `put_count` meets its contract: the word, the number and the line's end are put one after another.
-use Rattle.output.specs.Put.{writing}
-use Rattle.printing.specs.LinesLaws.{puts-count}
+use Rattle.output.specs.Writer.{puts_both}
+use Rattle.printing.specs.Lines.{count_line}
 use Rattle.printing.proofs.lines.put_count.Goals as goal
 
 pub returns : goal.returns
-returns c =
-    let a = c.args in
-    puts-count a.word.now a.n (writing a.out.now a.at) c.put_part-worded.ensures c.put_number-numbered.ensures
-    c.put.ensures
+unfolding count_line
+returns c = puts_both (puts_both c.put_part.ensures c.put_number.ensures) c.put.ensures

@@ -1,20 +1,13 @@
 -- `put_place` meets its contract: nothing is put without a line, else the word and the number.
-use mathlib.Core.Path.{sym, ap, ◌∙◌}
-use Rattle.output.specs.Decimal.{decimal}
-use Rattle.output.specs.Put.{writing, puts, puts_then}
-use Rattle.printing.specs.Lines.{line_word}
-use Rattle.printing.specs.LinesLaws.{no_place, a-place}
+use Rattle.std.proofs.Common.{◌≡◌, arith}
+use Rattle.output.specs.Writer.{puts_nothing, puts_both, puts_same}
+use Rattle.printing.specs.LinesLaws.{no-place, a-place}
 use Rattle.printing.proofs.lines.put_place.Goals as goal
 
-pub returns-then-line-eq0 : goal.returns-then-line-eq0
-unfolding puts
-returns-then-line-eq0 c =
-    let a = c.args in
-    sym (ap (puts (writing a.out.now a.at)) (no_place a.line c.if-line-eq0.true))
+pub returns-then-line-gt0 : goal.returns-then-line-gt0
+returns-then-line-gt0 c = puts_same (a-place c.args.line c.if-line-gt0.true) (puts_both c.put_part.ensures c.put_number.ensures)
 
-pub returns : goal.returns
-returns c =
-    let a = c.args in
-    let w = writing a.out.now a.at in
-    puts_then w line_word (decimal a.line) c.put_part-worded.ensures c.put_number.ensures
-    ∙ ap (puts w) (sym (a-place a.line c.if-line-eq0.false))
+pub returns-else-line-gt0 : goal.returns-else-line-gt0
+returns-else-line-gt0 c =
+    let e : c.args.line ≡ 0 = omega arith in
+    puts_same (no-place c.args.line e) (puts_nothing c.args.w.now)

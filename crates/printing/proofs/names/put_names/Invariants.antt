@@ -1,16 +1,9 @@
--- `put_names` meets its contract. The loop's invariant: to put the names that are left comes to what to put all of them comes to.
-use Prim.Native.Nat.{◌-◌, ◌≤◌}
-use mathlib.Core.Path.{◌≡◌}
-use lib.ListN.{length, drop}
+-- `put_names` meets its contract. The loop's invariant: the names at the places before this one are put.
+use Rattle.std.specs.Prelude.{take}
 use Rattle.syntax.specs.Resolve.{names_at}
-use Rattle.output.specs.Put.{writing, puts}
+use Rattle.output.specs.Writer.{Puts}
 use Rattle.printing.specs.Lines.{spelled}
 use Rattle.printing.proofs.names.put_names.Given as goal
 
-abbrev pub invariant-loop-i : goal.invariant-loop-i
-invariant-loop-i l =
-    (l.i ≤ length l.places) × (puts (writing l.out l.next) (spelled (names_at l.text l.names) (drop l.i l.places))
-    ≡ puts (writing l.initial.out l.initial.next) (spelled (names_at l.text l.names) l.places))
-
-abbrev pub decreases-loop-i : goal.decreases-loop-i
-decreases-loop-i l = length l.places - l.i
+abbrev pub invariant-loop-place : goal.invariant-loop-place
+invariant-loop-place l = Puts l.initial.w (spelled (names_at l.names.text.now l.names.spans.now) (take l.place-index l.places)) l.w

@@ -1,5 +1,6 @@
 -- `print_at` meets its contract: there is room for all that is printed.
 use native.Mathlib.Omega.{arith}
+use Rattle.output.specs.Writer.{puts_started}
 use Rattle.printing.specs.PrintLaws.{prints}
 use Rattle.printing.proofs.printer.print_at.Goals as goal
 
@@ -7,4 +8,4 @@ pub returns : goal.returns
 returns c =
     let p = c.put_printed in
     let a = c.args in
-    prints a.allowance a.text.now a.out.now p.result _ (omega arith) p.ensures
+    prints a.allowance a.text.now a.out.now p.new.w.at _ (omega arith) (puts_started c.new-w.ensures.starts p.ensures)

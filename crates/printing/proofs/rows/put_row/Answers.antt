@@ -1,11 +1,13 @@
 -- `put_row` meets its contract: its parts are put one after another.
-use Rattle.output.specs.Put.{writing}
-use Rattle.printing.specs.LinesLaws.{puts-state}
+use Rattle.std.proofs.Common.{ℕ, [], ◌∷◌, ap, ◌∙◌}
+use Rattle.output.specs.Decimal.{decimal}
+use Rattle.output.specs.Writer.{puts_both, puts_same}
+use Rattle.printing.specs.Lines.{sign, row}
 use Rattle.printing.proofs.rows.put_row.Goals as goal
 
 pub returns : goal.returns
+unfolding row
 returns c =
-    let a = c.args in
-    puts-state a.table.now a.flags.now a.lists a.state (writing a.out.now a.at) c.put_number-numbered.ensures
-    c.put-spaced.ensures c.flag.ensures c.sign.ensures c.put-signed.ensures
-    c.put_nexts-stated.ensures c.put.ensures
+    let signed = puts_same (ap (λ (b : ℕ). b ∷ []) (c.sign.ensures ∙ ap sign c.flag.ensures)) c.put-2.ensures in
+    let told = puts_both c.put.ensures (puts_both signed c.put_nexts.ensures) in
+    puts_both (puts_both (puts_same (ap decimal c.from.ensures) c.put_number.ensures) told) c.put-3.ensures

@@ -1,27 +1,21 @@
-use mathlib.Core.Path.{◌∙◌}
-use native.Mathlib.Nat.{sub-zero}
-use native.Mathlib.Omega.{arith}
-use Rattle.output.specs.Put.{writing, puts_none, puts-length}
-use Rattle.printing.specs.LinesLaws.{puts-row, rows_end}
+use Rattle.std.proofs.Common.{◌≡◌, ap, arith}
+use Rattle.output.specs.Writer.{puts_nothing, puts_both, puts_same}
+use Rattle.printing.specs.Lines.{rows}
+use Rattle.printing.specs.LinesLaws.{rows-more}
 use Rattle.printing.proofs.rows.put_rows.Goals as goal
 
 pub loop-state-init : goal.loop-state-init
-loop-state-init c = (omega arith, rw sub-zero)
+unfolding rows
+loop-state-init c = puts_nothing c.args.w.now
 
 pub loop-state-preserved : goal.loop-state-preserved
 loop-state-preserved c =
     let a = c.args in
     let l = c.loop-state in
-    let wrote = puts-row a.table.now a.flags.now a.lists a.states l.state (writing l.out l.next) (omega arith)
-    c.put_row-next.ensures in
-    (omega arith, wrote ∙ l.invariant.1)
-
-pub shape_of-out : goal.shape_of-out
-shape_of-out c = let l = c.loop-state in puts-length (writing l.out l.next) (writing _ _) _ _ l.invariant.1
+    puts_same (rows-more a.table.now a.flags.now a.lists l.state) (puts_both l.invariant c.put_row.ensures)
 
 pub returns : goal.returns
 returns c =
     let a = c.args in
-    let l = c.loop-state in
-    puts_none (writing l.out l.next)
-    (rows_end a.table.now a.flags.now a.lists a.states l.state (omega arith)) l.invariant.1
+    let e : c.loop-state.state ≡ a.states = omega arith in
+    puts_same (ap (λ n. rows a.table.now a.flags.now a.lists n 0) e) c.loop-state.invariant

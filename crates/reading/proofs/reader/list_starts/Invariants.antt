@@ -1,12 +1,9 @@
 -- `list_starts` meets its contract. The loop's invariant: those counted and those of what is left are those of the whole.
-use Prim.Native.Nat.{◌+◌, ◌-◌, ◌≤◌}
+use Prim.Native.Nat.{◌+◌, ◌-◌}
 use mathlib.Core.Path.{◌≡◌}
-use lib.ListN.{length, drop}
+use lib.ListN.{drop}
 use Rattle.reading.specs.ListStarts.{list_starts}
 use Rattle.reading.proofs.reader.list_starts.Given as goal
 
 abbrev pub invariant-loop-i : goal.invariant-loop-i
-invariant-loop-i l = (l.i ≤ length l.text) × (l.n + list_starts (drop l.i l.text) ≡ list_starts l.text)
-
-abbrev pub decreases-loop-i : goal.decreases-loop-i
-decreases-loop-i l = length l.text - l.i
+invariant-loop-i l = l.n + list_starts (drop (l.i - 1) l.text) ≡ list_starts l.text

@@ -5,6 +5,3 @@ use Rattle.reading.proofs.reader.load.Goals as goal
 
 pub load_rows-requires : goal.load_rows-requires
 load_rows-requires c = all-rows _ (omega arith) (omega arith)
-
-pub returns : goal.returns
-returns c = c.load_rows.ensures.loaded

@@ -4,4 +4,5 @@ use Rattle.reading.specs.Underway.{loaded-long}
 use Rattle.reading.proofs.reader.load_rows.Goals as goal
 
 pub returns-then-text-gt-MOST_TEXT : goal.returns-then-text-gt-MOST_TEXT
-returns-then-text-gt-MOST_TEXT c = record { loaded = loaded-long c.args.text.now _ c.if-text-gt-MOST_TEXT.true; roomy = roomy-refused _ 0 _ _ }
+returns-then-text-gt-MOST_TEXT c =
+    rw c.from.ensures (record { loaded = loaded-long c.args.text.now _ c.if-text-gt-MOST_TEXT.true; roomy = roomy-refused _ 0 _ _ })

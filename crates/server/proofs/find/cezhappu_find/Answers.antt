@@ -1,12 +1,15 @@
 -- Find's answer is small, so that it fits into the number; its first word goes to the lent word.
 use Rattle.server.specs.FindLeftLaws.{no_room, small, all_told}
-use native.Mathlib.Omega.{arith}
+use Rattle.std.proofs.Common.{ap, ◌∙◌, arith}
+use Rattle.syntax.specs.Reply.{refusing}
+use Rattle.reading.specs.declared.answer.Refused.{Refused}
+use Rattle.server.specs.Packed.{packed}
 use Rattle.server.proofs.find.cezhappu_find.Goals as goal
 
 pub returns-then-word-lt256 : goal.returns-then-word-lt256
 returns-then-word-lt256 c =
     let a = c.args in
-    no_room a.job.now a.table.now a.flags.now a.word.now c.refused.result c.if-word-lt256.true c.refused.ensures
+    no_room a.job.now a.table.now a.flags.now a.word.now c.refused.result c.if-word-lt256.true (c.refused.ensures ∙ ap (λ (e : Refused). packed (refusing e.refusal e.line) 0) c.from.ensures)
 
 pub put_word-requires : goal.put_word-requires
 put_word-requires c = omega (arith, c.if-word-lt256.false)

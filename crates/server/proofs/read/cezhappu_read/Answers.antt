@@ -8,19 +8,19 @@ use Rattle.server.specs.ReadSmall.{read_small}
 use native.Mathlib.Omega.{arith}
 use Rattle.server.proofs.read.cezhappu_read.Goals as goal
 
-pub overflow_mul-lists : goal.overflow_mul-lists
-overflow_mul-lists c =
+pub overflow_mul-counts : goal.overflow_mul-counts
+overflow_mul-counts c =
     let a = c.args in
     let r = c.read in
-    let e = same-reply read_reply r.ensures c.in-Job.is in
+    let e = same-reply read_reply r.ensures c.in-Ok.is in
     let s = read_small a.job.now in
     omega (arith, s.labels, s.lists, ap (λ r. get_or r.values 0 0) e, ap (λ r. get_or r.values 1 0) e)
 
-pub overflow_add-labels : goal.overflow_add-labels
-overflow_add-labels c =
+pub overflow_add-counts : goal.overflow_add-counts
+overflow_add-counts c =
     let a = c.args in
     let r = c.read in
-    let e = same-reply read_reply r.ensures c.in-Job.is in
+    let e = same-reply read_reply r.ensures c.in-Ok.is in
     let s = read_small a.job.now in
     omega (arith, s.labels, s.lists, ap (λ r. get_or r.values 0 0) e, ap (λ r. get_or r.values 1 0) e)
 
@@ -28,7 +28,7 @@ pub answered-requires : goal.answered-requires
 answered-requires c =
     let a = c.args in
     let r = c.read in
-    let e = same-reply read_reply r.ensures c.in-Job.is in
+    let e = same-reply read_reply r.ensures c.in-Ok.is in
     let s = read_small a.job.now in
     omega (arith, s.labels, s.lists, ap (λ r. get_or r.values 0 0) e, ap (λ r. get_or r.values 1 0) e)
 
@@ -36,16 +36,16 @@ pub refused-requires : goal.refused-requires
 refused-requires c =
     let a = c.args in
     let r = c.read in
-    let e = same-reply read_reply r.ensures c.in-Refused.is in
+    let e = same-reply read_reply r.ensures c.in-Err.is in
     let s = read_small a.job.now in
     omega (arith, s.line, ap (λ r. r.line) e)
 
-pub returns-in-Job : goal.returns-in-Job
-returns-in-Job c =
+pub returns-in-Ok : goal.returns-in-Ok
+returns-in-Ok c =
     let r = c.read in
-    c.answered.ensures ∙ ap read_number (same-reply read_reply r.ensures c.in-Job.is)
+    c.answered.ensures ∙ ap read_number (same-reply read_reply r.ensures c.in-Ok.is)
 
-pub returns-in-Refused : goal.returns-in-Refused
-returns-in-Refused c =
+pub returns-in-Err : goal.returns-in-Err
+returns-in-Err c =
     let r = c.read in
-    c.refused.ensures ∙ ap read_number (same-reply read_reply r.ensures c.in-Refused.is)
+    c.refused.ensures ∙ ap read_number (same-reply read_reply r.ensures c.in-Err.is)

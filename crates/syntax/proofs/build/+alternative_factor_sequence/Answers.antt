@@ -3,140 +3,158 @@ use mathlib.Core.Path.{sym, ◌∙◌}
 use Rattle.syntax.specs.Byte.{dot, bar, opening, closing}
 use Rattle.syntax.specs.Resolve.{names_at}
 use Rattle.syntax.specs.PlaceLaws.{mark-to, mark-failed}
-use Rattle.syntax.proofs.Turns.{behind-to, behind-failed}
-use Rattle.syntax.proofs.Turns.{choosing-start, choosing-on, choosing-end, chaining-start, chaining-on, chaining-end}
-use Rattle.syntax.proofs.FactorWays.{factor-name, factor-deep, factor-unit, factor-group, factor-open}
+use Rattle.syntax.proofs.Turns.{choosing-start, choosing-none, choosing-on, choosing-end, chaining-start, chaining-none, chaining-on, chaining-end}
+use Rattle.syntax.proofs.FactorWays.{factor-no-name, factor-name, factor-deep, factor-unit, factor-no-group, factor-group, factor-open}
 use Rattle.syntax.proofs.build.+alternative_factor_sequence.Goals as goal
 
-pub alternative-loop-next-init : goal.alternative-loop-next-init
-alternative-loop-next-init t c =
+pub alternative-loop-right-init : goal.alternative-loop-right-init
+alternative-loop-right-init t c =
     let a = c.args in
-    choosing-start (names_at a.text.now a.names.now) a.s.now a.c.at a.k a.«open» a.follow.now a.enter.now c.nothing-part.result
-    c.nothing-part.ensures
+    choosing-start (names_at a.source.names.text.now a.source.names.spans.now) a.source.s.now a.c.at a.k a.«open» a.follow.now a.enter.now
+    c.nothing-part.result c.nothing-part.ensures
 
-pub alternative-sequence-right-requires : goal.alternative-sequence-right-requires
-alternative-sequence-right-requires t c = (omega (arith, c.loop-next.invariant.onward), c.requires)
+pub alternative-sequence-requires : goal.alternative-sequence-requires
+alternative-sequence-requires t c = omega (arith, c.loop-right.invariant.onward)
 
-pub alternative-loop-next-smaller : goal.alternative-loop-next-smaller
-alternative-loop-next-smaller t c =
+pub alternative-returns-in_err-right : goal.alternative-returns-in_err-right
+alternative-returns-in_err-right t c =
     let a = c.args in
-    let right = c.sequence-right in
-    let behind = c.behind in
-    let past = behind-to bar a.s.now right.result behind.result behind.ensures.0 behind.ensures.1 c.in-To.next (sym c.in-To.is) in
-    omega (arith, past.inside, past.next, right.ensures.onward)
+    let l = c.loop-right in
+    rw c.from_residual.ensures
+    (choosing-none (names_at a.source.names.text.now a.source.names.spans.now) a.source.s.now a.c.at a.k a.«open» a.follow.now a.enter.now
+    l.part l.from.at l.follow l.enter l.invariant c.in_err-right.ensures)
 
-pub alternative-loop-next-preserved : goal.alternative-loop-next-preserved
-alternative-loop-next-preserved t c =
+pub alternative-loop-right-smaller : goal.alternative-loop-right-smaller
+alternative-loop-right-smaller t c =
+    let right = c.in_ok-right.ensures in
+    let past = mark-to bar c.args.source.s.now c.in_ok-right.right.at c.in-Some.next (sym c.in-Some.is ∙ c.mark.ensures) in
+    omega (arith, past.inside, past.next, right.onward)
+
+pub alternative-loop-right-preserved : goal.alternative-loop-right-preserved
+alternative-loop-right-preserved t c =
     let a = c.args in
-    let l = c.loop-next in
-    let right = c.sequence-right in
-    let behind = c.behind in
-    let past = behind-to bar a.s.now right.result behind.result behind.ensures.0 behind.ensures.1 c.in-To.next (sym c.in-To.is) in
+    let l = c.loop-right in
+    let past = mark-to bar a.source.s.now c.in_ok-right.right.at c.in-Some.next (sym c.in-Some.is ∙ c.mark.ensures) in
     rw c.either-part.ensures
-    (choosing-on (names_at a.text.now a.names.now) a.s.now a.c.at a.k a.«open» a.follow.now a.enter.now
-    l.part l.from.at l.follow l.enter l.invariant right.result right.new.follow right.new.enter right.ensures c.in-To.next past)
+    (choosing-on (names_at a.source.names.text.now a.source.names.spans.now) a.source.s.now a.c.at a.k a.«open» a.follow.now a.enter.now
+    l.part l.from.at l.follow l.enter l.invariant c.in_ok-right.right c.sequence.new.follow c.sequence.new.enter c.in_ok-right.ensures
+    c.in-Some.next past)
 
-pub alternative-returns-in-Failed : goal.alternative-returns-in-Failed
-alternative-returns-in-Failed t c =
+pub alternative-returns-in-None : goal.alternative-returns-in-None
+alternative-returns-in-None t c =
     let a = c.args in
-    let l = c.loop-next in
-    let right = c.sequence-right in
-    let behind = c.behind in
+    let l = c.loop-right in
     rw c.either-part.ensures
-    (choosing-end (names_at a.text.now a.names.now) a.s.now a.c.at a.k a.«open» a.follow.now a.enter.now
-    l.part l.from.at l.follow l.enter l.invariant right.result right.new.follow right.new.enter right.ensures
-    (behind-failed bar a.s.now right.result behind.result behind.ensures.0 behind.ensures.1 (sym c.in-Failed.is)))
+    (choosing-end (names_at a.source.names.text.now a.source.names.spans.now) a.source.s.now a.c.at a.k a.«open» a.follow.now a.enter.now
+    l.part l.from.at l.follow l.enter l.invariant c.in_ok-right.right c.sequence.new.follow c.sequence.new.enter c.in_ok-right.ensures
+    (mark-failed bar a.source.s.now c.in_ok-right.right.at (sym c.in-None.is ∙ c.mark.ensures)))
+
+pub sequence-loop-right-init : goal.sequence-loop-right-init
+sequence-loop-right-init t c =
+    let a = c.args in
+    chaining-start (names_at a.source.names.text.now a.source.names.spans.now) a.source.s.now a.c.at a.k a.«open» a.follow.now a.enter.now
+    c.unit-part.result c.unit-part.ensures
+
+pub sequence-factor-requires : goal.sequence-factor-requires
+sequence-factor-requires t c = omega (arith, c.loop-right.invariant.onward)
+
+pub sequence-returns-in_err-right : goal.sequence-returns-in_err-right
+sequence-returns-in_err-right t c =
+    let a = c.args in
+    let l = c.loop-right in
+    rw c.from_residual.ensures
+    (chaining-none (names_at a.source.names.text.now a.source.names.spans.now) a.source.s.now a.c.at a.k a.«open» a.follow.now a.enter.now
+    l.part l.from.at l.follow l.enter l.invariant c.in_err-right.ensures)
+
+pub sequence-loop-right-smaller : goal.sequence-loop-right-smaller
+sequence-loop-right-smaller t c =
+    let right = c.in_ok-right.ensures in
+    let past = mark-to dot c.args.source.s.now c.in_ok-right.right.at c.in-Some.next (sym c.in-Some.is ∙ c.mark.ensures) in
+    omega (arith, past.inside, past.next, right.onward)
+
+pub sequence-loop-right-preserved : goal.sequence-loop-right-preserved
+sequence-loop-right-preserved t c =
+    let a = c.args in
+    let l = c.loop-right in
+    let past = mark-to dot a.source.s.now c.in_ok-right.right.at c.in-Some.next (sym c.in-Some.is ∙ c.mark.ensures) in
+    rw (c.both-part.ensures, c.link.ensures)
+    (chaining-on (names_at a.source.names.text.now a.source.names.spans.now) a.source.s.now a.c.at a.k a.«open» a.follow.now a.enter.now
+    l.part l.from.at l.follow l.enter l.invariant c.in_ok-right.right c.factor.new.follow c.factor.new.enter c.in_ok-right.ensures
+    c.in-Some.next past)
+
+pub sequence-returns-in-None : goal.sequence-returns-in-None
+sequence-returns-in-None t c =
+    let a = c.args in
+    let l = c.loop-right in
+    rw (c.both-part.ensures, c.link.ensures)
+    (chaining-end (names_at a.source.names.text.now a.source.names.spans.now) a.source.s.now a.c.at a.k a.«open» a.follow.now a.enter.now
+    l.part l.from.at l.follow l.enter l.invariant c.in_ok-right.right c.factor.new.follow c.factor.new.enter c.in_ok-right.ensures
+    (mark-failed dot a.source.s.now c.in_ok-right.right.at (sym c.in-None.is ∙ c.mark.ensures)))
+
+pub factor-returns-in_err-name : goal.factor-returns-in_err-name
+factor-returns-in_err-name t c =
+    let a = c.args in
+    let none = mark-failed opening a.source.s.now a.c.at (sym c.in_default.is ∙ c.mark.ensures) in
+    rw c.from_residual.ensures
+    (factor-no-name (names_at a.source.names.text.now a.source.names.spans.now) a.source.s.now a.c.at a.k a.«open» a.follow.now a.enter.now
+    none (c.in_err-name.ensures a.«open»))
+
+pub factor-returns-in_default : goal.factor-returns-in_default
+factor-returns-in_default t c =
+    let a = c.args in
+    let name = c.occurrence in
+    let none = mark-failed opening a.source.s.now a.c.at (sym c.in_default.is ∙ c.mark.ensures) in
+    factor-name (names_at a.source.names.text.now a.source.names.spans.now) a.source.s.now a.c.at a.k a.«open» a.follow.now a.enter.now
+    c.in_ok-name.name c.suffixes.result name.new.follow name.new.enter c.suffixes.new.follow none
+    (c.in_ok-name.ensures a.«open») c.suffixes.ensures
 
 pub factor-returns-then-open-ge-MOST_NESTING : goal.factor-returns-then-open-ge-MOST_NESTING
 factor-returns-then-open-ge-MOST_NESTING t c =
     let a = c.args in
-    let past = mark-to opening a.s.now a.c.at c.in-To.inner (sym c.in-To.is ∙ c.mark-opened.ensures) in
-    rw c.fault.ensures
-    (factor-deep (names_at a.text.now a.names.now) a.s.now a.c.at a.k a.«open» a.follow.now a.enter.now
-    c.in-To.inner past c.if-open-ge-MOST_NESTING.true (omega (arith, c.ranges.k)))
+    let past = mark-to opening a.source.s.now a.c.at c.in-Some.inner (sym c.in-Some.is ∙ c.mark.ensures) in
+    factor-deep (names_at a.source.names.text.now a.source.names.spans.now) a.source.s.now a.c.at a.k a.«open» a.follow.now a.enter.now
+    c.in-Some.inner past c.if-open-ge-MOST_NESTING.true
 
-pub factor-alternative-group-requires : goal.factor-alternative-group-requires
-factor-alternative-group-requires t c =
+pub factor-returns-in-Some-mark : goal.factor-returns-in-Some-mark
+factor-returns-in-Some-mark t c =
     let a = c.args in
-    let past = mark-to opening a.s.now a.c.at c.in-To.inner (sym c.in-To.is ∙ c.mark-opened.ensures) in
-    (omega (arith, past.inside, past.next), c.requires)
+    let past = mark-to opening a.source.s.now a.c.at c.in-Some.inner (sym c.in-Some.is ∙ c.mark.ensures) in
+    let end = mark-to closing a.source.s.now c.in-Some.inner.at c.in-Some-mark.after (sym c.in-Some-mark.is ∙ c.mark-2.ensures) in
+    factor-unit (names_at a.source.names.text.now a.source.names.spans.now) a.source.s.now a.c.at a.k a.«open» a.follow.now a.enter.now
+    c.in-Some.inner past c.if-open-ge-MOST_NESTING.false c.in-Some-mark.after c.suffixes-in-Some-mark.result c.suffixes-in-Some-mark.new.follow end
+    (rw c.unit.ensures at c.suffixes-in-Some-mark.ensures)
 
-pub factor-returns-in-To-closed : goal.factor-returns-in-To-closed
-factor-returns-in-To-closed t c =
+pub factor-alternative-requires : goal.factor-alternative-requires
+factor-alternative-requires t c =
+    let past = mark-to opening c.args.source.s.now c.args.c.at c.in-Some.inner (sym c.in-Some.is ∙ c.mark.ensures) in
+    omega (arith, past.inside, past.next)
+
+pub factor-returns-in_err-group : goal.factor-returns-in_err-group
+factor-returns-in_err-group t c =
     let a = c.args in
-    let past = mark-to opening a.s.now a.c.at c.in-To.inner (sym c.in-To.is ∙ c.mark-opened.ensures) in
-    let end = mark-to closing a.s.now c.in-To.inner.at c.in-To-closed.after (sym c.in-To-closed.is ∙ c.mark-closed.ensures) in
-    factor-unit (names_at a.text.now a.names.now) a.s.now a.c.at a.k a.«open» a.follow.now a.enter.now
-    c.in-To.inner past c.if-open-ge-MOST_NESTING.false c.in-To-closed.after c.suffixes.result c.suffixes.new.follow end
-    (rw c.unit.ensures at c.suffixes.ensures)
+    let past = mark-to opening a.source.s.now a.c.at c.in-Some.inner (sym c.in-Some.is ∙ c.mark.ensures) in
+    let none = mark-failed closing a.source.s.now c.in-Some.inner.at (sym c.in_default-mark.is ∙ c.mark-2.ensures) in
+    rw c.from_residual-in_err-group.ensures
+    (factor-no-group (names_at a.source.names.text.now a.source.names.spans.now) a.source.s.now a.c.at a.k a.«open» a.follow.now a.enter.now
+    c.in-Some.inner past none c.in_err-group.ensures)
 
-pub factor-returns-in-To-shut : goal.factor-returns-in-To-shut
-factor-returns-in-To-shut t c =
+pub factor-returns-in_err-after : goal.factor-returns-in_err-after
+factor-returns-in_err-after t c =
     let a = c.args in
-    let group = c.alternative-group in
-    let past = mark-to opening a.s.now a.c.at c.in-To.inner (sym c.in-To.is ∙ c.mark-opened.ensures) in
-    let none = mark-failed closing a.s.now c.in-To.inner.at (sym c.in-Failed-closed.is ∙ c.mark-closed.ensures) in
-    let end = mark-to closing a.s.now group.result.at c.in-To-shut.after (sym c.in-To-shut.is ∙ c.mark-shut.ensures) in
-    factor-group (names_at a.text.now a.names.now) a.s.now a.c.at a.k a.«open» a.follow.now a.enter.now
-    c.in-To.inner past none group.result group.new.follow group.new.enter group.ensures c.if-open-ge-MOST_NESTING.false
-    c.in-To-shut.after c.suffixes-in-To-shut.result c.suffixes-in-To-shut.new.follow end
-    (rw c.ending.ensures at c.suffixes-in-To-shut.ensures)
+    let past = mark-to opening a.source.s.now a.c.at c.in-Some.inner (sym c.in-Some.is ∙ c.mark.ensures) in
+    let none = mark-failed closing a.source.s.now c.in-Some.inner.at (sym c.in_default-mark.is ∙ c.mark-2.ensures) in
+    let end = mark-failed closing a.source.s.now c.in_ok-group.group.at (sym c.in_err-after.was ∙ c.mark-3.ensures) in
+    rw c.from_residual-in_err-after.ensures
+    (factor-open (names_at a.source.names.text.now a.source.names.spans.now) a.source.s.now a.c.at a.k a.«open» a.follow.now a.enter.now
+    c.in-Some.inner past none c.in_ok-group.group c.alternative.new.follow c.alternative.new.enter c.in_ok-group.ensures end)
 
-pub factor-returns-in-Failed-shut : goal.factor-returns-in-Failed-shut
-factor-returns-in-Failed-shut t c =
+pub factor-returns : goal.factor-returns
+factor-returns t c =
     let a = c.args in
-    let group = c.alternative-group in
-    let past = mark-to opening a.s.now a.c.at c.in-To.inner (sym c.in-To.is ∙ c.mark-opened.ensures) in
-    let none = mark-failed closing a.s.now c.in-To.inner.at (sym c.in-Failed-closed.is ∙ c.mark-closed.ensures) in
-    let end = mark-failed closing a.s.now group.result.at (sym c.in-Failed-shut.is ∙ c.mark-shut.ensures) in
-    rw c.fault-in-Failed-shut.ensures
-    (factor-open (names_at a.text.now a.names.now) a.s.now a.c.at a.k a.«open» a.follow.now a.enter.now
-    c.in-To.inner past none group.result group.new.follow group.new.enter group.ensures (omega (arith, c.ranges.k)) end)
-
-pub factor-returns-in-Failed : goal.factor-returns-in-Failed
-factor-returns-in-Failed t c =
-    let a = c.args in
-    let name = c.occurrence-name in
-    let none = mark-failed opening a.s.now a.c.at (sym c.in-Failed.is ∙ c.mark-opened.ensures) in
-    factor-name (names_at a.text.now a.names.now) a.s.now a.c.at a.k a.«open» a.follow.now a.enter.now
-    name.result c.suffixes-in-Failed.result name.new.follow name.new.enter c.suffixes-in-Failed.new.follow none
-    (name.ensures a.«open») c.suffixes-in-Failed.ensures
-
-pub sequence-loop-next-init : goal.sequence-loop-next-init
-sequence-loop-next-init t c =
-    let a = c.args in
-    chaining-start (names_at a.text.now a.names.now) a.s.now a.c.at a.k a.«open» a.follow.now a.enter.now c.unit-part.result
-    c.unit-part.ensures
-
-pub sequence-factor-right-requires : goal.sequence-factor-right-requires
-sequence-factor-right-requires t c = (omega (arith, c.loop-next.invariant.onward), c.requires)
-
-pub sequence-loop-next-smaller : goal.sequence-loop-next-smaller
-sequence-loop-next-smaller t c =
-    let a = c.args in
-    let right = c.factor-right in
-    let behind = c.behind in
-    let past = behind-to dot a.s.now right.result behind.result behind.ensures.0 behind.ensures.1 c.in-To.next (sym c.in-To.is) in
-    omega (arith, past.inside, past.next, right.ensures.onward)
-
-pub sequence-loop-next-preserved : goal.sequence-loop-next-preserved
-sequence-loop-next-preserved t c =
-    let a = c.args in
-    let l = c.loop-next in
-    let right = c.factor-right in
-    let behind = c.behind in
-    let past = behind-to dot a.s.now right.result behind.result behind.ensures.0 behind.ensures.1 c.in-To.next (sym c.in-To.is) in
-    rw (c.both-part.ensures, c.link.ensures)
-    (chaining-on (names_at a.text.now a.names.now) a.s.now a.c.at a.k a.«open» a.follow.now a.enter.now
-    l.part l.from.at l.follow l.enter l.invariant right.result right.new.follow right.new.enter right.ensures c.in-To.next past)
-
-pub sequence-returns-in-Failed : goal.sequence-returns-in-Failed
-sequence-returns-in-Failed t c =
-    let a = c.args in
-    let l = c.loop-next in
-    let right = c.factor-right in
-    let behind = c.behind in
-    rw (c.both-part.ensures, c.link.ensures)
-    (chaining-end (names_at a.text.now a.names.now) a.s.now a.c.at a.k a.«open» a.follow.now a.enter.now
-    l.part l.from.at l.follow l.enter l.invariant right.result right.new.follow right.new.enter right.ensures
-    (behind-failed dot a.s.now right.result behind.result behind.ensures.0 behind.ensures.1 (sym c.in-Failed.is)))
+    let past = mark-to opening a.source.s.now a.c.at c.in-Some.inner (sym c.in-Some.is ∙ c.mark.ensures) in
+    let none = mark-failed closing a.source.s.now c.in-Some.inner.at (sym c.in_default-mark.is ∙ c.mark-2.ensures) in
+    let end = mark-to closing a.source.s.now c.in_ok-group.group.at c.in_ok-after.after (sym c.in_ok-after.was ∙ c.mark-3.ensures) in
+    factor-group (names_at a.source.names.text.now a.source.names.spans.now) a.source.s.now a.c.at a.k a.«open» a.follow.now a.enter.now
+    c.in-Some.inner past none c.in_ok-group.group c.alternative.new.follow c.alternative.new.enter c.in_ok-group.ensures
+    c.if-open-ge-MOST_NESTING.false c.in_ok-after.after c.suffixes-2.result c.suffixes-2.new.follow end
+    (rw c.ending.ensures at c.suffixes-2.ensures)

@@ -7,24 +7,26 @@ use lib.ListN.{length}
 use Rattle.syntax.proofs.build.+alternative_factor_sequence.Given as goal
 
 abbrev pub decreases-alternative : goal.decreases-alternative
-decreases-alternative l = 3 * (length l.s.now - l.c.at) + 3
+decreases-alternative l = 3 * (length l.source.s.now - l.c.at) + 3
 
 abbrev pub decreases-factor : goal.decreases-factor
-decreases-factor l = 3 * (length l.s.now - l.c.at) + 1
+decreases-factor l = 3 * (length l.source.s.now - l.c.at) + 1
 
 abbrev pub decreases-sequence : goal.decreases-sequence
-decreases-sequence l = 3 * (length l.s.now - l.c.at) + 2
+decreases-sequence l = 3 * (length l.source.s.now - l.c.at) + 2
 
-abbrev pub invariant-alternative-loop-next : goal.invariant-alternative-loop-next
-invariant-alternative-loop-next l =
-    Choosing (names_at l.text l.names) l.s l.initial.from.at l.k l.«open» l.initial.follow l.initial.enter l.part l.from.at l.follow l.enter
+abbrev pub invariant-alternative-loop-right : goal.invariant-alternative-loop-right
+invariant-alternative-loop-right l =
+    Choosing (names_at l.source.names.text.now l.source.names.spans.now) l.source.s.now l.initial.from.at l.k l.«open»
+    l.initial.follow l.initial.enter l.part l.from.at l.follow l.enter
 
-abbrev pub decreases-alternative-loop-next : goal.decreases-alternative-loop-next
-decreases-alternative-loop-next l = length l.s - l.from.at
+abbrev pub decreases-alternative-loop-right : goal.decreases-alternative-loop-right
+decreases-alternative-loop-right l = length l.source.s.now - l.from.at
 
-abbrev pub invariant-sequence-loop-next : goal.invariant-sequence-loop-next
-invariant-sequence-loop-next l =
-    Chaining (names_at l.text l.names) l.s l.initial.from.at l.k l.«open» l.initial.follow l.initial.enter l.part l.from.at l.follow l.enter
+abbrev pub invariant-sequence-loop-right : goal.invariant-sequence-loop-right
+invariant-sequence-loop-right l =
+    Chaining (names_at l.source.names.text.now l.source.names.spans.now) l.source.s.now l.initial.from.at l.k l.«open»
+    l.initial.follow l.initial.enter l.part l.from.at l.follow l.enter
 
-abbrev pub decreases-sequence-loop-next : goal.decreases-sequence-loop-next
-decreases-sequence-loop-next l = length l.s - l.from.at
+abbrev pub decreases-sequence-loop-right : goal.decreases-sequence-loop-right
+decreases-sequence-loop-right l = length l.source.s.now - l.from.at

@@ -9,7 +9,7 @@ use lib.Dec.{eqb}
 use lib.ListN.{length, drop, length-drop}
 use borrow.Author.Tests.{eq-eqb, ne_eqb}
 use Rattle.syntax.specs.declared.cursor.Cursor.{Cursor}
-use Rattle.syntax.specs.declared.cursor.Moved.TheVariants.{To, Failed}
+use Rattle.std.specs.Prelude.{Some, None}
 use Rattle.syntax.specs.Byte.{Bytes}
 use Rattle.syntax.specs.Grammar.{Tree}
 use Rattle.syntax.specs.Parser.{alternatives, parsed, calls, parse}
@@ -22,11 +22,11 @@ use Rattle.syntax.specs.Unread.{alternatives-unread}
 use Rattle.syntax.proofs.Reading.{parsed-to, not-parsed}
 use Rattle.syntax.proofs.grammar.in_grammar.Goals as goal
 
-not-read : (s : Bytes) → Follows alternatives 3 s 0 Failed → false ≡ is_some (parse s)
+not-read : (s : Bytes) → Follows alternatives 3 s 0 None → false ≡ is_some (parse s)
 unfolding parse
 not-read s h = rw (not-parsed s 0 (alternatives (calls (length s)) s) (h.same (calls (length s)) (omega arith)), parse)
 
-read : (s : Bytes) (c : Cursor) → Follows alternatives 3 s 0 (To c) → eqb c.at (length s) ≡ is_some (parse s)
+read : (s : Bytes) (c : Cursor) → Follows alternatives 3 s 0 (Some c) → eqb c.at (length s) ≡ is_some (parse s)
 unfolding parse
 read s c h =
     let k = calls (length s) in
@@ -44,10 +44,10 @@ too-deep : (s : Bytes) → length s / 2 < nesting 0 s → false ≡ is_some (par
 too-deep s h = ap is_some (sym ((parse-none s).1 (λ t d. omega (arith, h, nesting-half d))))
 
 pub returns-then-half-deep : goal.returns-then-half-deep
-returns-then-half-deep c = too-deep _ (omega (arith, c.if-half-deep.true, c.requires.0))
+returns-then-half-deep c = too-deep _ (omega (arith, c.if-half-deep.true, c.requires))
 
-pub returns-in-Failed : goal.returns-in-Failed
-returns-in-Failed c = not-read _ (rw c.in-Failed.is at c.alternative.ensures)
+pub returns-in-None : goal.returns-in-None
+returns-in-None c = not-read _ (rw c.in-None.is at c.alternative.ensures)
 
-pub returns-in-To : goal.returns-in-To
-returns-in-To c = read _ _ (rw c.in-To.is at c.alternative.ensures)
+pub returns-in-Some : goal.returns-in-Some
+returns-in-Some c = read _ _ (rw c.in-Some.is at c.alternative.ensures)

@@ -13,7 +13,7 @@ invariant-loop-i l =
     (l.count ≤ l.i)
     × (l.i ≤ length l.s)
     × (l.count + length (runs false (drop l.i l.s)) ≡ length (runs false l.s))
-    × (known (names_at l.text l.names) (runs false (drop l.i l.s)) ≡ known (names_at l.text l.names) (runs false l.s))
+    × (known (names_at l.names.text.now l.names.spans.now) (runs false (drop l.i l.s)) ≡ known (names_at l.names.text.now l.names.spans.now) (runs false l.s))
 
 abbrev pub decreases-loop-i : goal.decreases-loop-i
 decreases-loop-i l = length l.s - l.i

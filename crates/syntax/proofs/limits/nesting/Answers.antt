@@ -11,7 +11,7 @@ use Rattle.syntax.specs.Byte.{Bytes, opening, closing}
 use Rattle.syntax.specs.Limits.{nesting, balance}
 use Rattle.syntax.specs.NestingLaws.{opens, closes, keeps, deeper}
 use Rattle.syntax.proofs.limits.nesting.Goals as goal
-use Rattle.syntax.proofs.limits.nesting.Goals.{in-40, in-41+then-open-gt0, in-41+else-open-gt0, in_default, then-most-here, else-most-here}
+use Rattle.syntax.proofs.limits.nesting.Goals.{in-40, in-41, in_default}
 
 module _ (n b : ℕ) where
   one_more : balance n b ≤ suc n
@@ -27,32 +27,30 @@ next : (s : Bytes) (i n : ℕ) → i < length s → nesting n (drop i s) ≡ max
 unfolding nesting
 next s i n h = rw (add-one, drop-cons s i 0 h)
 
-pub loop-i-init : goal.loop-i-init
-loop-i-init c = omega (arith, deeper 0 c.args.s.now)
+pub loop-b-init : goal.loop-b-init
+loop-b-init c = omega (arith, deeper 0 c.args.s.now)
 
-pub loop-i-preserved : goal.loop-i-preserved
-loop-i-preserved c =
-    let l = c.loop-i in
+pub loop-b-preserved : goal.loop-b-preserved
+loop-b-preserved c =
+    let l = c.loop-b in
     let n : ℕ = l.«open» in
+    let m : ℕ = c.match-b.«open» in
     let s : Bytes = c.args.s.now in
-    let b : ℕ = get_or s l.i 0 in
-    let e : c.match-s-i.«open» ≡ balance n b =
-    elim c.match-s-i.branch [
+    let b : ℕ = get_or s l.b-index 0 in
+    let e : m ≡ balance n b =
+    elim c.match-b.branch [
       | in-40 w ↦ omega (arith, opens n b w.in-40.is, w.open-is)
-      | in-41+then-open-gt0 w ↦ omega (arith, closes n b w.in-41.is, w.open-is)
-      | in-41+else-open-gt0 w ↦ omega (arith, closes n b w.in-41.is, w.open-is)
+      | in-41 w ↦ omega (arith, closes n b w.in-41.is, w.open-is, w.saturating_sub-open.ensures)
       | in_default w ↦ omega (arith, keeps n b (search rules) (search rules), w.open-is)
     ] in
-    let d = deeper c.match-s-i.«open» (drop (l.i + 1) s) in
-    let f : nesting n (drop l.i s) ≡ max n (nesting c.match-s-i.«open» (drop (l.i + 1) s)) = rw e (next s l.i n c.loop-i-test.true) in
-    let most : c.if-most-here.most ≡ max l.most c.match-s-i.«open» =
-    elim c.if-most-here.branch [ then-most-here w ↦ omega (arith, c.depth-here.ensures) | else-most-here w ↦ omega (arith, c.depth-here.ensures) ] in
+    let d = deeper m (drop (l.b-index + 1) s) in
+    let f : nesting n (drop l.b-index s) ≡ max n (nesting m (drop (l.b-index + 1) s)) = rw e (next s l.b-index n c.loop-b-test.true) in
     (omega arith, omega arith, omega (arith, one_more n b))
 
 pub returns : goal.returns
 unfolding nesting
 returns c =
     let s : Bytes = c.args.s.now in
-    let l = c.loop-i in
-    let e : nesting l.«open» (drop l.i s) ≡ l.«open» = rw (drop_of_length-le s c.loop-i-test.false, nesting) in
+    let l = c.loop-b in
+    let e : nesting l.«open» (drop l.b-index s) ≡ l.«open» = rw (drop_of_length-le s c.loop-b-test.false, nesting) in
     omega arith

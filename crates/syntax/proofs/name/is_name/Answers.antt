@@ -1,15 +1,13 @@
-use Prim.Native.Nat.{ℕ, ◌+◌, ◌<◌, ◌≤◌}
-use mathlib.Core.Bool.{Bool, true, false, ◌&&◌, and-true, and-false}
-use mathlib.Core.Path.{◌≡◌, sym, ◌∙◌}
-use native.Mathlib.Numerals.{add-one}
-use native.Mathlib.Omega.{arith}
-use lib.Dec.{eqb}
-use lib.ListN.{length, drop, get_or, drop_of_length-le}
-use lib.Seq.{drop-cons}
-use borrow.Author.Tests.{le-leb, lt-leb}
+-- `is_name` meets its contract: its length, its first byte and the others are told, one after the other.
+use Rattle.std.proofs.Common.{◌-◌, ◌<◌, ◌≤◌, ◌≡◌, true, false, sym, ap, ◌∙◌, eqb, length, get_or, drop, arith, le-leb, length-drop}
+use Rattle.std.proofs.lemmas.Bool.{lt-leb}
+use Rattle.std.proofs.Math.Seq.{take_all}
+use Rattle.std.specs.List.{list_all}
+use Rattle.std.proofs.Math.Bool.{and-true, and-false}
 use Rattle.syntax.specs.Byte.{Bytes, kind, letter, name_byte}
+use Rattle.syntax.specs.KindTable.{kind_letter}
 use Rattle.syntax.specs.Name.{name_bytes, is_name}
-use Rattle.syntax.specs.NameLaws.{no_bytes, name-parts}
+use Rattle.syntax.specs.NameLaws.{no_bytes, name-parts, name-bytes-all}
 use Rattle.syntax.proofs.name.is_name.Goals as goal
 
 module _ (s : Bytes) where
@@ -22,35 +20,20 @@ module _ (s : Bytes) where
   begins : 0 < length s → length s ≤ 16 → eqb (kind (get_or s 0 0)) letter ≡ true → name_bytes (drop 1 s) ≡ is_name s
   begins h m k = rw (name-parts s h, k, le-leb (length s) 16 m, and-true)
 
-  next : (i : ℕ) (t : Bool) → i < length s → name_byte (get_or s i 0) ≡ t → (t && name_bytes (drop (i + 1) s)) ≡ name_bytes (drop i s)
-  unfolding name_bytes
-  next i t h e = rw (add-one, drop-cons s i 0 h, e)
-
-  ended : (i : ℕ) → length s ≤ i → true ≡ name_bytes (drop i s)
-  unfolding name_bytes
-  ended i h = rw (drop_of_length-le s h)
-
-pub returns-then-s-eq0 : goal.returns-then-s-eq0
-returns-then-s-eq0 c = sym (no_bytes _ c.if-s-eq0.true)
-
 pub returns-then-s-gt-LONGEST : goal.returns-then-s-gt-LONGEST
 returns-then-s-gt-LONGEST c = too_long _ c.if-s-gt-LONGEST.true
 
-pub returns-then-not-is_letter : goal.returns-then-not-is_letter
-returns-then-not-is_letter c = no-letter _ (omega arith) (sym c.is_letter.ensures ∙ c.if-not-is_letter.true)
+pub returns-in-empty : goal.returns-in-empty
+returns-in-empty c = sym (no_bytes _ (omega arith))
 
-pub loop-i-init : goal.loop-i-init
-loop-i-init c = begins _ (omega arith) (omega arith) (sym c.is_letter.ensures ∙ c.if-not-is_letter.false)
+pub returns-then-is_letter : goal.returns-then-is_letter
+returns-then-is_letter c =
+    let s : Bytes = c.args.s.now in
+    c.in_name.ensures
+    ∙ ap (list_all name_byte) (take_all (length s - 1) (drop 1 s) (omega (arith, length-drop 1 s)))
+    ∙ name-bytes-all (drop 1 s)
+    ∙ begins s (omega arith) (omega arith) (kind_letter _ _ _ c.of.ensures c.is_letter.ensures ∙ c.if-is_letter.true)
 
-pub returns-then-not-in_name : goal.returns-then-not-in_name
-returns-then-not-in_name c =
-    let l = c.loop-i in
-    next _ l.i false (omega arith) (sym c.in_name.ensures ∙ c.if-not-in_name.true) ∙ l.invariant
-
-pub loop-i-preserved : goal.loop-i-preserved
-loop-i-preserved c =
-    let l = c.loop-i in
-    next _ l.i true (omega arith) (sym c.in_name.ensures ∙ c.if-not-in_name.false) ∙ l.invariant
-
-pub returns : goal.returns
-returns c = ended _ c.loop-i.i c.loop-i-test.false ∙ c.loop-i.invariant
+pub returns-else-is_letter : goal.returns-else-is_letter
+returns-else-is_letter c =
+    c.if-is_letter.false ∙ no-letter c.args.s.now (omega arith) (kind_letter _ _ _ c.of.ensures c.is_letter.ensures ∙ c.if-is_letter.false)

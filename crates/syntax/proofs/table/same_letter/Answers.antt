@@ -2,6 +2,7 @@
 use mathlib.Core.Bool.{and-true}
 use mathlib.Core.List.{[], ◌∷◌}
 use mathlib.Core.Path.{sym, ap, ◌∙◌}
+use borrow.Author.Tests.{ne_eqb}
 use lib.Dec.{eqb}
 use lib.ListN.{get_or}
 use Rattle.syntax.specs.Byte.{Bytes}
@@ -17,4 +18,4 @@ returns-then-name-eq1 c =
     ∙ ap (λ (m : Bytes). same_name m (a.letter ∷ [])) (one_byte a.name.now c.if-name-eq1.true)
 
 pub returns-else-name-eq1 : goal.returns-else-name-eq1
-returns-else-name-eq1 c = lengths_differ _ _ c.if-name-eq1.false
+returns-else-name-eq1 c = ne_eqb _ 1 c.if-name-eq1.false ∙ lengths_differ _ _ c.if-name-eq1.false

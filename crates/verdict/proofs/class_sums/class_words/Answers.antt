@@ -6,7 +6,7 @@ use native.Mathlib.Omega.{arith}
 use Rattle.verdict.proofs.class_sums.class_words.Goals as goal
 
 pub loop-q-init : goal.loop-q-init
-loop-q-init c = (omega arith, refl, words-start _ _)
+loop-q-init c = (refl, words-start _ _)
 
 pub reached_by-requires : goal.reached_by-requires
 reached_by-requires c =
@@ -23,27 +23,23 @@ offset_bounds-ended-q c = omega (arith, c.loop-q-test.true, c.requires.0)
 pub bounds-ended-q : goal.bounds-ended-q
 bounds-ended-q c =
     let s = c in
-    omega (arith, c.loop-q-test.true, s.requires.0, s.requires.2, c.loop-q.invariant.1)
-
-pub loop-q-smaller : goal.loop-q-smaller
-loop-q-smaller c = omega (arith, c.loop-q-test.true)
+    omega (arith, c.loop-q-test.true, s.requires.0, s.requires.2, c.loop-q.invariant.0)
 
 pub loop-q-preserved : goal.loop-q-preserved
 loop-q-preserved c =
     let s = c in
     let l = c.loop-q in
     let test = c.loop-q-test.true in (
-      omega (arith, test),
-      length-set l.ended _ _ ∙ l.invariant.1,
-      words-turn _ s.args.ended.now l.ended l.q _ c.reached_by.ensures (omega (arith, test, s.requires.0, s.requires.2, l.invariant.1)) l.invariant.2,
+      length-set l.ended _ _ ∙ l.invariant.0,
+      words-turn _ s.args.ended.now l.ended l.q _ c.reached_by.ensures (omega (arith, test, s.requires.0, s.requires.2, l.invariant.0)) l.invariant.1,
     )
 
 pub shape_of-ended : goal.shape_of-ended
-shape_of-ended c = c.loop-q.invariant.1
+shape_of-ended c = c.loop-q.invariant.0
 
 pub returns : goal.returns
 returns c =
     let a = c.args in
     let l = c.loop-q in
-    let e : l.q ≡ a.states = omega (arith, l.invariant.0, c.loop-q-test.false) in
-    subst (WordsBefore (reached_by a.passes.now a.table.now a.set) a.ended.now l.ended) e l.invariant.2
+    let e : l.q ≡ a.states = omega (arith, c.loop-q-test.false) in
+    subst (WordsBefore (reached_by a.passes.now a.table.now a.set) a.ended.now l.ended) e l.invariant.1

@@ -13,7 +13,7 @@ use Rattle.verdict.proofs.class_sums.ending_lists.Goals as goal
 
 pub loop-v-init : goal.loop-v-init
 unfolding occupied
-loop-v-init c = (omega arith, refl, lists-none _ _ _ _ c.requires.4)
+loop-v-init c = (refl, lists-none _ _ _ _ c.requires.4)
 
 pub overflow_add-size : goal.overflow_add-size
 overflow_add-size c = omega (arith, c.loop-v-test.true, c.requires.0.few)
@@ -23,9 +23,6 @@ offset_bounds-sizes-v c = omega (arith, c.loop-v-test.true, c.requires.0.few)
 
 pub bounds-sizes-v : goal.bounds-sizes-v
 bounds-sizes-v c = omega (arith, c.loop-v-test.true, c.requires.0.room)
-
-pub overflow_add-v : goal.overflow_add-v
-overflow_add-v c = omega (arith, c.loop-v-test.true, c.requires.0.few)
 
 pub offset_bounds-accepting-v : goal.offset_bounds-accepting-v
 offset_bounds-accepting-v c = omega (arith, c.loop-v-test.true, c.requires.0.few)
@@ -48,7 +45,7 @@ end_list-requires c =
           let size = get_or a.sizes.now (l.v + 1) 0 in
           let low = ((member-cut size i (get_or a.accepting.now (l.v + 1) 0 / 2)).0 (subst (Member i) c.inner.ensures m)).0 in
           let room = occupied-room a.sizes.now l.v a.lists test in
-          let here : l.base + 1 + i ≤ occupied a.sizes.now 0 a.lists = omega (arith, low, room, l.invariant.1) in
+          let here : l.base + 1 + i ≤ occupied a.sizes.now 0 a.lists = omega (arith, low, room, l.invariant.0) in
           (omega (arith, here, s.requires.2), s.requires.3 (l.base + 1 + i) (omega arith) here),
     )
 
@@ -59,18 +56,11 @@ overflow_add-base c =
     let v = l.v in
     omega (
       arith,
-      l.invariant.1,
-      occupied-few s.args.sizes.now s.args.lists 0 v (omega (arith, l.invariant.0)) s.requires.0,
+      l.invariant.0,
+      occupied-few s.args.sizes.now s.args.lists 0 v (omega (arith)) s.requires.0,
       s.requires.0.few,
       s.requires.0.small v c.loop-v-test.true,
-      l.invariant.0,
     )
-
-pub overflow_add-v-in-loop-v : goal.overflow_add-v-in-loop-v
-overflow_add-v-in-loop-v c = omega (arith, c.loop-v-test.true, c.requires.0.few)
-
-pub loop-v-smaller : goal.loop-v-smaller
-loop-v-smaller c = omega (arith, c.loop-v-test.true)
 
 pub loop-v-preserved : goal.loop-v-preserved
 loop-v-preserved c =
@@ -79,17 +69,16 @@ loop-v-preserved c =
     let l = c.loop-v in
     let now = c.end_list.new.ends in
     let test = c.loop-v-test.true in (
-      omega (arith, test),
-      omega (arith, l.invariant.1, occupied-more a.sizes.now l.v),
+      omega (arith, l.invariant.0, occupied-more a.sizes.now l.v),
       lists-more l.v a.sizes.now a.accepting.now a.classes.now l.ends now
           (subst (λ z. ListEnds z (occupied a.sizes.now 0 l.v) l.v a.classes.now l.ends now) c.inner.ensures
-          (subst (λ z. ListEnds c.inner.result z l.v a.classes.now l.ends now) l.invariant.1 c.end_list.ensures))
-          l.invariant.2,
+          (subst (λ z. ListEnds c.inner.result z l.v a.classes.now l.ends now) l.invariant.0 c.end_list.ensures))
+          l.invariant.1,
     )
 
 pub returns : goal.returns
 returns c =
     let a = c.args in
     let l = c.loop-v in
-    let e : l.v ≡ a.lists = omega (arith, l.invariant.0, c.loop-v-test.false) in
-    subst (λ z. EndingLists z a.sizes.now a.accepting.now a.classes.now l.ends) e l.invariant.2
+    let e : l.v ≡ a.lists = omega (arith, c.loop-v-test.false) in
+    subst (λ z. EndingLists z a.sizes.now a.accepting.now a.classes.now l.ends) e l.invariant.1

@@ -1,48 +1,47 @@
 use Rattle.std.specs.Prelude.{◌-◌}
-use lib.Bits.{and_mask, and_le_r}
-use lib.Count.{count_trailing_zeros, trailing_le}
+use lib.Bits.{and_le_r}
 use Rattle.places.specs.NextPlace.{trailing-here}
 use Rattle.verdict.specs.ClassesTurns.{classes-start, classes-turn, classes-end}
 use native.Mathlib.Omega.{arith}
+use Rattle.std.proofs.Common.{rules}
 use Rattle.verdict.proofs.classes.classes_of.Goals as goal
 
-pub overflow_sub-rest : goal.overflow_sub-rest
-overflow_sub-rest c = omega (arith, and_mask c.args.set 1)
-
-pub loop-rest-init : goal.loop-rest-init
-loop-rest-init c = (omega arith, classes-start _ _ _)
-
-pub overflow_cast-p : goal.overflow_cast-p
-overflow_cast-p c = omega (arith, trailing_le 64 c.loop-rest.rest)
+pub loop-p-init : goal.loop-p-init
+loop-p-init c = rw (c.into_iter-p-iterator.ensures.into_iter_gives, c.members-p-items.ensures) (search rules, search rules, omega arith, classes-start _ _ _)
 
 pub overflow_add-base : goal.overflow_add-base
 overflow_add-base c =
+    let (some, is, left) = c.in-Some.ensures.steps in
+    let here = rw (← is) at (trailing-here 64 c.loop-p.p-iterator.rest some c.loop-p.invariant.2) in
     let s = c in
-    let l = c.loop-rest in
+    let l = c.loop-p in
     omega (
       arith,
-      s.requires (count_trailing_zeros 64 l.rest) (l.invariant.1.inside _ (trailing-here 64 l.rest c.loop-rest-test.true l.invariant.0)).1,
+      s.requires c.in-Some.p (l.invariant.3.inside _ here).1,
       s.well_formed.0,
     )
 
 pub class_at-requires : goal.class_at-requires
 class_at-requires c =
-    let l = c.loop-rest in
-    c.requires (count_trailing_zeros 64 l.rest) (l.invariant.1.inside _ (trailing-here 64 l.rest c.loop-rest-test.true l.invariant.0)).1
+    let (some, is, left) = c.in-Some.ensures.steps in
+    let here = rw (← is) at (trailing-here 64 c.loop-p.p-iterator.rest some c.loop-p.invariant.2) in
+    let l = c.loop-p in
+    c.requires c.in-Some.p (l.invariant.3.inside _ here).1
 
-pub loop-rest-smaller : goal.loop-rest-smaller
-loop-rest-smaller c = omega (arith, c.loop-rest-test.true, and_le_r c.loop-rest.rest (c.loop-rest.rest - 1))
-
-pub loop-rest-preserved : goal.loop-rest-preserved
-loop-rest-preserved c =
+pub loop-p-preserved : goal.loop-p-preserved
+loop-p-preserved c =
+    let (some, is, left) = c.in-Some.ensures.steps in
     let s = c in
-    let l = c.loop-rest in (
-      omega (arith, l.invariant.0, and_le_r l.rest (l.rest - 1)),
-      classes-turn s.args.classes.now s.args.base s.args.set l.all l.rest c.class_at.result c.loop-rest-test.true
-          l.invariant.0 c.class_at.ensures l.invariant.1,
+    let l = c.loop-p in
+    rw left (
+      search rules,
+      search rules,
+      omega (arith, l.invariant.2, and_le_r l.p-iterator.rest (l.p-iterator.rest - 1)),
+      classes-turn s.args.classes.now s.args.base s.args.set l.all l.p-iterator.rest c.class_at.result some
+          l.invariant.2 (rw is at c.class_at.ensures) l.invariant.3,
     )
 
 pub returns : goal.returns
 returns c =
-    let l = c.loop-rest in
-    classes-end _ _ _ l.all l.rest c.loop-rest-test.false l.invariant.1
+    let l = c.loop-p in
+    classes-end _ _ _ l.all l.p-iterator.rest c.in-None.ensures.steps.0 l.invariant.3

@@ -5,7 +5,7 @@ use native.Mathlib.Omega.{arith}
 use Rattle.verdict.proofs.classes.next_keys.Goals as goal
 
 pub loop-v-init : goal.loop-v-init
-loop-v-init c = (omega arith, occupied-none _, refl)
+loop-v-init c = (occupied-none _, refl)
 
 pub list_keys-requires : goal.list_keys-requires
 list_keys-requires c =
@@ -16,8 +16,8 @@ list_keys-requires c =
       omega (arith, h, s.requires.0.few),
       s.requires.0.small l.v h,
       omega (arith, h, s.requires.1),
-      omega (arith, l.invariant.1, room, s.requires.3),
-      omega (arith, l.invariant.1, l.invariant.2, room, s.requires.4),
+      omega (arith, l.invariant.0, room, s.requires.3),
+      omega (arith, l.invariant.0, l.invariant.1, room, s.requires.4),
       λ o p k m. s.requires.2 l.v o p h k m,
     )
 
@@ -28,7 +28,7 @@ overflow_add-base c =
     let h = c.loop-v-test.true in
     omega (
       arith,
-      l.invariant.1,
+      l.invariant.0,
       s.requires.0.small l.v h,
       s.requires.0.few,
       h,
@@ -38,7 +38,6 @@ overflow_add-base c =
 pub loop-v-preserved : goal.loop-v-preserved
 loop-v-preserved c =
     let l = c.loop-v in (
-      omega (arith, c.loop-v-test.true),
-      omega (arith, l.invariant.1, occupied-more c.args.sizes.now l.v),
-      c.list_keys.auto.keys ∙ l.invariant.2,
+      omega (arith, l.invariant.0, occupied-more c.args.sizes.now l.v),
+      c.list_keys.auto.keys ∙ l.invariant.1,
     )

@@ -41,8 +41,7 @@ pub returns : goal.returns
 returns c =
     let s = c in
     let l = c.loop-o in (
-      λ h. numbered-end s.args.w l.o l.count _ l.classes l.invariant.2 l.invariant.3 (omega (arith, l.invariant.4, l.invariant.1))
+      numbered-end s.args.w l.o l.count _ l.classes l.invariant.2 l.invariant.3 (omega (arith, l.invariant.4, l.invariant.1))
           (omega (arith, c.loop-o-test.false)) l.invariant.6,
-      l.invariant.3,
       l.invariant.6.alone,
     )

@@ -10,121 +10,130 @@ use Rattle.verdict.specs.ColumnLists.{columns-start, least-inside, columns-turn,
 use Rattle.verdict.specs.TurnedColumns.{column_in, put-column}
 use Rattle.verdict.specs.TurnedTurns.{column-room}
 use native.Mathlib.Omega.{arith}
+use Rattle.std.proofs.Common.{rules}
 use Rattle.verdict.proofs.column_steps.list_columns.Goals as goal
 use Rattle.verdict.proofs.column_steps.list_columns.Goals.{else-states-ne0, then-states-ne0}
 
-pub inner-rest-requires : goal.inner-rest-requires
-inner-rest-requires c = c.requires.1
+pub inner-requires : goal.inner-requires
+inner-requires c = c.requires.1
 
-pub loop-rest-init : goal.loop-rest-init
-loop-rest-init c =
-    let s = c in (
+pub loop-i-init : goal.loop-i-init
+loop-i-init c =
+    let s = c in
+    rw (c.into_iter-i-iterator.ensures.into_iter_gives, c.members-i-items.ensures) (
+      search rules,
+      search rules,
       omega arith,
       s.requires.4,
       columns-start s.args.v s.args.size s.args.base s.args.entered s.args.accepting s.args.before.now
-          s.args.columns.now (column_in s.args.n s.args.words.now) c.inner-rest.result c.inner-rest.ensures,
+          s.args.columns.now (column_in s.args.n s.args.words.now) c.inner.result c.inner.ensures,
     )
 
-pub overflow_cast-p : goal.overflow_cast-p
-overflow_cast-p c = omega (arith, trailing_le 64 c.loop-rest.rest)
-
 pub overflow_add-p : goal.overflow_add-p
-overflow_add-p c = omega (arith, trailing_le 64 c.loop-rest.rest)
+overflow_add-p c =
+    let (some, is, left) = c.in-Some.ensures.steps in
+    omega (arith, trailing_le 64 c.loop-i.i-iterator.rest)
 
 pub overflow_mul-v : goal.overflow_mul-v
 overflow_mul-v c = omega (arith, c.requires.0)
 
 pub overflow_add-v : goal.overflow_add-v
-overflow_add-v c = omega (arith, trailing_le 64 c.loop-rest.rest, c.requires.0)
+overflow_add-v c =
+    let (some, is, left) = c.in-Some.ensures.steps in
+    omega (arith, trailing_le 64 c.loop-i.i-iterator.rest, c.requires.0)
 
 pub offset_bounds-before-v : goal.offset_bounds-before-v
-offset_bounds-before-v c = omega (arith, trailing_le 64 c.loop-rest.rest, c.requires.0)
+offset_bounds-before-v c =
+    let (some, is, left) = c.in-Some.ensures.steps in
+    omega (arith, trailing_le 64 c.loop-i.i-iterator.rest, c.requires.0)
 
 pub bounds-before-v : goal.bounds-before-v
 bounds-before-v c =
+    let (some, is, left) = c.in-Some.ensures.steps in
     let s = c in
-    let l = c.loop-rest in
-    omega (arith, least-inside _ _ _ _ _ _ _ _ _ _ l.rest c.loop-rest-test.true l.invariant.0 l.invariant.2, s.requires.1, s.requires.9)
+    let l = c.loop-i in
+    omega (arith, least-inside _ _ _ _ _ _ _ _ _ _ l.i-iterator.rest some l.invariant.2 l.invariant.4, s.requires.1, s.requires.9)
 
 pub joined-states-requires : goal.joined-states-requires
 joined-states-requires c o m =
+    let (some, is, left) = c.in-Some.ensures.steps in
     let s = c in
-    let l = c.loop-rest in
-    let h = least-inside _ _ _ _ _ _ _ _ _ _ l.rest c.loop-rest-test.true l.invariant.0 l.invariant.2 in
-    omega (arith, s.requires.2, s.requires.3 o (1 + count_trailing_zeros 64 l.rest) (omega (arith, h, s.requires.1)) m)
+    let l = c.loop-i in
+    let h = rw (← is) at (least-inside _ _ _ _ _ _ _ _ _ _ l.i-iterator.rest some l.invariant.2 l.invariant.4) in
+    omega (arith, s.requires.2, s.requires.3 o (1 + c.in-Some.i) (omega (arith, h, s.requires.1)) m)
 
 pub ending-over-requires : goal.ending-over-requires
 ending-over-requires c =
+    let (some, is, left) = c.in-Some.ensures.steps in
     let s = c in
-    let l = c.loop-rest in
-    omega (arith, least-inside _ _ _ _ _ _ _ _ _ _ l.rest c.loop-rest-test.true l.invariant.0 l.invariant.2, s.requires.1)
+    let l = c.loop-i in
+    omega (arith, least-inside _ _ _ _ _ _ _ _ _ _ l.i-iterator.rest some l.invariant.2 l.invariant.4, s.requires.1)
 
 pub overflow_add-base : goal.overflow_add-base
 overflow_add-base c =
+    let (some, is, left) = c.in-Some.ensures.steps in
     let s = c in
-    let l = c.loop-rest in
-    omega (arith, least-inside _ _ _ _ _ _ _ _ _ _ l.rest c.loop-rest-test.true l.invariant.0 l.invariant.2, s.requires.2)
+    let l = c.loop-i in
+    omega (arith, least-inside _ _ _ _ _ _ _ _ _ _ l.i-iterator.rest some l.invariant.2 l.invariant.4, s.requires.2)
 
 pub overflow_mul-n : goal.overflow_mul-n
 overflow_mul-n c =
+    let (some, is, left) = c.in-Some.ensures.steps in
     let s = c in
-    let l = c.loop-rest in
-    let h = least-inside _ _ _ _ _ _ _ _ _ _ l.rest c.loop-rest-test.true l.invariant.0 l.invariant.2 in
+    let l = c.loop-i in
+    let h = rw (← is) at (least-inside _ _ _ _ _ _ _ _ _ _ l.i-iterator.rest some l.invariant.2 l.invariant.4) in
     omega (
       arith,
-      column-room (s.args.base + s.args.size + 1) s.args.n _ (s.args.base + (1 + count_trailing_zeros 64 l.rest))
+      column-room (s.args.base + s.args.size + 1) s.args.n _ (s.args.base + (1 + c.in-Some.i))
           (omega (arith, h)) s.requires.7 refl,
     )
 
 pub put_at-requires : goal.put_at-requires
 put_at-requires c =
+    let (some, is, left) = c.in-Some.ensures.steps in
     let s = c in
-    let l = c.loop-rest in
-    let h = least-inside _ _ _ _ _ _ _ _ _ _ l.rest c.loop-rest-test.true l.invariant.0 l.invariant.2 in (
-      l.invariant.1,
+    let l = c.loop-i in
+    let h = rw (← is) at (least-inside _ _ _ _ _ _ _ _ _ _ l.i-iterator.rest some l.invariant.2 l.invariant.4) in (
+      l.invariant.3,
       column-within s.args.n s.args.v s.args.size s.args.base s.args.before.now s.args.columns.now s.requires.1
           s.requires.3 s.requires.8 _ c.joined-states.result h c.joined-states.ensures,
       s.requires.5,
       s.requires.6,
-      column-room (s.args.base + s.args.size + 1) s.args.n _ (s.args.base + (1 + count_trailing_zeros 64 l.rest)) (omega (arith, h))
+      column-room (s.args.base + s.args.size + 1) s.args.n _ (s.args.base + (1 + c.in-Some.i)) (omega (arith, h))
           s.requires.7 refl,
     )
 
-pub overflow_sub-rest : goal.overflow_sub-rest
-overflow_sub-rest c = omega (arith, c.loop-rest-test.true)
-
-pub loop-rest-smaller : goal.loop-rest-smaller
-loop-rest-smaller c =
-    let l = c.loop-rest in
-    omega (arith, c.loop-rest-test.true, and_le_r l.rest (l.rest - 1))
-
-pub loop-rest-preserved : goal.loop-rest-preserved
-loop-rest-preserved c =
+pub loop-i-preserved : goal.loop-i-preserved
+loop-i-preserved c =
+    let (some, is, left) = c.in-Some.ensures.steps in
     let s = c in
-    let l = c.loop-rest in
-    let d = c.loop-rest-test.true in
+    let l = c.loop-i in
+    let d = some in
     let joined = c.joined-states in
-    let h = least-inside _ _ _ _ _ _ _ _ _ _ l.rest d l.invariant.0 l.invariant.2 in
-    let o = s.args.base + (1 + count_trailing_zeros 64 l.rest) in
+    let h = least-inside _ _ _ _ _ _ _ _ _ _ l.i-iterator.rest d l.invariant.2 l.invariant.4 in
+    let o = s.args.base + (1 + count_trailing_zeros 64 l.i-iterator.rest) in
     let at = s.args.n * o in
     let room = column-room (s.args.base + s.args.size + 1) s.args.n at o (omega (arith, h)) s.requires.7 refl in
     let small =
     column-within s.args.n s.args.v s.args.size s.args.base s.args.before.now s.args.columns.now s.requires.1
-    s.requires.3 s.requires.8 _ joined.result h joined.ensures in
+    s.requires.3 s.requires.8 _ joined.result h (rw is at joined.ensures) in
     let gains : Gains l.words (joined.result * 2 ^ at) c.if-states-ne0.words =
-    (elim c.if-states-ne0.branch [ then-states-ne0 w ↦ ap number_of w.words-is ∙ w.put_at.ensures | else-states-ne0 w ↦ ap number_of w.words-is ∙ gains-none l.words _ (ap (λ z. z * 2 ^ at) w.if-states-ne0.false ∙ zero-mul (2 ^ at)) ]) in (
-      omega (arith, l.invariant.0, and_le_r l.rest (l.rest - 1)),
-      (elim c.if-states-ne0.branch [ then-states-ne0 w ↦ ap length w.words-is ∙ w.put_at.auto.words ∙ l.invariant.1 | else-states-ne0 w ↦ ap length w.words-is ∙ l.invariant.1 ]),
+    (elim c.if-states-ne0.branch [ then-states-ne0 w ↦ ap number_of w.words-is ∙ (rw is at w.put_at.ensures) | else-states-ne0 w ↦ ap number_of w.words-is ∙ gains-none l.words _ (ap (λ z. z * 2 ^ at) w.if-states-ne0.false ∙ zero-mul (2 ^ at)) ]) in
+    rw left (
+      search rules,
+      search rules,
+      omega (arith, l.invariant.2, and_le_r l.i-iterator.rest (l.i-iterator.rest - 1)),
+      (elim c.if-states-ne0.branch [ then-states-ne0 w ↦ ap length w.words-is ∙ w.put_at.auto.words ∙ l.invariant.3 | else-states-ne0 w ↦ ap length w.words-is ∙ l.invariant.3 ]),
       columns-turn s.args.v s.args.size s.args.base s.args.entered s.args.accepting s.args.before.now
-          s.args.columns.now _ (column_in s.args.n l.words) (column_in s.args.n c.if-states-ne0.words) l.ends l.rest
-          joined.result c.ending-over.result d l.invariant.0 joined.ensures c.ending-over.ensures
-          (put-column s.args.n at o joined.result l.words c.if-states-ne0.words refl small room gains) l.invariant.2,
+          s.args.columns.now _ (column_in s.args.n l.words) (column_in s.args.n c.if-states-ne0.words) l.ends l.i-iterator.rest
+          joined.result c.ending-over.result d l.invariant.2 (rw is at joined.ensures) (rw is at c.ending-over.ensures)
+          (put-column s.args.n at o joined.result l.words c.if-states-ne0.words refl small room gains) l.invariant.4,
     )
 
 pub shape_of-words : goal.shape_of-words
-shape_of-words c = c.loop-rest.invariant.1 ∙ sym c.requires.4
+shape_of-words c = c.loop-i.invariant.3 ∙ sym c.requires.4
 
 pub returns : goal.returns
 returns c =
-    let l = c.loop-rest in
-    columns-end _ _ _ _ _ _ _ _ _ l.ends l.rest c.loop-rest-test.false l.invariant.2
+    let l = c.loop-i in
+    columns-end _ _ _ _ _ _ _ _ _ l.ends l.i-iterator.rest c.in-None.ensures.steps.0 l.invariant.4

@@ -1,22 +1,19 @@
 -- The set of the first place, settled.
-use mathlib.Core.Path.{subst}
 use Rattle.std.specs.Prelude.{replicate}
-use Rattle.verdict.specs.CoverTold.{ReadyTold}
 use Rattle.verdict.specs.CoverStepped.{start-unready, start-told, ready-ending}
-use native.Mathlib.Omega.{arith}
 use Rattle.verdict.proofs.cover.cover_start.Goals as goal
 
-pub returns-then-w-eq0 : goal.returns-then-w-eq0
-returns-then-w-eq0 c =
+pub returns-in_default : goal.returns-in_default
+returns-in_default c =
     let s = c in
-    start-unready s.args.states s.args.lists s.args.follow.now s.args.enter.now s.args.sizes.now s.args.accepting.now s.args.table.now (replicate 16 0) (subst (ReadyTold s.args.states s.args.lists s.args.follow.now s.args.enter.now s.args.sizes.now s.args.accepting.now s.args.table.now) c.if-w-eq0.true c.ready-w.ensures)
+    start-unready s.args.tables.states s.args.tables.lists s.args.tables.follow.now s.args.tables.enter.now s.args.tables.sizes.now s.args.tables.accepting.now s.args.tables.table.now (replicate 16 0) c.in_default.ensures.told
 
 pub settled-requires : goal.settled-requires
 settled-requires c =
     let s = c in
-    ready-ending s.args.states s.args.lists s.args.follow.now s.args.enter.now s.args.sizes.now s.args.accepting.now s.args.table.now (c.ready-w.ensures.ready (omega (arith, c.if-w-eq0.false)))
+    ready-ending s.args.tables.states s.args.tables.lists s.args.tables.follow.now s.args.tables.enter.now s.args.tables.sizes.now s.args.tables.accepting.now s.args.tables.table.now (c.in-Some.ensures.told.ready c.in-Some.ensures.some)
 
 pub returns : goal.returns
 returns c =
     let s = c in
-    start-told s.args.states s.args.lists s.args.follow.now s.args.enter.now s.args.sizes.now s.args.accepting.now s.args.table.now c.ready-w.result c.one.result.words c.settled.result.words c.ready-w.ensures c.one.ensures c.settled.ensures
+    start-told s.args.tables.states s.args.tables.lists s.args.tables.follow.now s.args.tables.enter.now s.args.tables.sizes.now s.args.tables.accepting.now s.args.tables.table.now c.in-Some.w c.one.result.words c.settled.result.words c.in-Some.ensures.told c.one.ensures c.settled.ensures

@@ -46,12 +46,6 @@ overflow_sub-rest c = omega (arith, c.if-rest-size.false)
 pub overflow_add-base : goal.overflow_add-base
 overflow_add-base c = omega (arith, c.loop-v-test.true, c.loop-v.invariant.1.low, c.requires.0.counted.few, c.requires.0.counted.small c.loop-v.v c.loop-v-test.true)
 
-pub overflow_add-v : goal.overflow_add-v
-overflow_add-v c = omega (arith, c.loop-v-test.true, c.requires.0.counted.few)
-
-pub loop-v-smaller : goal.loop-v-smaller
-loop-v-smaller c = omega (arith, c.loop-v-test.true)
-
 pub loop-v-preserved : goal.loop-v-preserved
 loop-v-preserved c =
     let l = c.loop-v in

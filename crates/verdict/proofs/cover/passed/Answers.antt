@@ -9,12 +9,6 @@ loop-v-init c = (c.requires.5, passed_start _ _ _ _ _ _)
 pub ended-requires : goal.ended-requires
 ended-requires c = let s = c in omega (arith, c.loop-v-test.true, s.requires.0, s.requires.1, s.requires.2, s.requires.3, s.requires.4, c.loop-v.invariant.0)
 
-pub overflow_add-v : goal.overflow_add-v
-overflow_add-v c = omega (arith, c.loop-v-test.true, c.requires.0)
-
-pub loop-v-smaller : goal.loop-v-smaller
-loop-v-smaller c = omega (arith, c.loop-v-test.true)
-
 pub loop-v-preserved : goal.loop-v-preserved
 loop-v-preserved c =
     let l = c.loop-v in

@@ -16,28 +16,10 @@ count_ending-requires c = omega (arith, c.requires.0.few-classes)
 pub overflow_mul-words-2 : goal.overflow_mul-words-2
 overflow_mul-words-2 c =
     let s = c in
-    omega (arith, s.requires.2, mul-le-mul_left (32 * ((s.args.states + 7) / 8)) c.count_ending.ensures)
+    omega (arith, s.requires.2, mul-le-mul_left (32 * ((s.args.tables.states + 7) / 8)) c.count_ending.ensures)
 
 pub explore_sums-requires : goal.explore_sums-requires
-explore_sums-requires c = let s = c in (s.requires.0, s.requires.1, s.requires.2, omega arith, s.requires.3)
+explore_sums-requires c = record { given = c.requires; room = (omega arith, omega arith) }
 
 pub explore_sums-requires-else-words-le512 : goal.explore_sums-requires-else-words-le512
-explore_sums-requires-else-words-le512 c = let s = c in (s.requires.0, s.requires.1, s.requires.2, omega arith, s.requires.3)
-
-pub shape_of-laid-then-words-le512 : goal.shape_of-laid-then-words-le512
-shape_of-laid-then-words-le512 c = c.explore_sums.auto.laid
-
-pub shape_of-workspace-then-words-le512 : goal.shape_of-workspace-then-words-le512
-shape_of-workspace-then-words-le512 c = c.explore_sums.auto.workspace
-
-pub returns-then-words-le512 : goal.returns-then-words-le512
-returns-then-words-le512 c = c.explore_sums.ensures
-
-pub shape_of-laid-else-words-le512 : goal.shape_of-laid-else-words-le512
-shape_of-laid-else-words-le512 c = c.explore_sums-else-words-le512.auto.laid
-
-pub shape_of-workspace-else-words-le512 : goal.shape_of-workspace-else-words-le512
-shape_of-workspace-else-words-le512 c = c.explore_sums-else-words-le512.auto.workspace
-
-pub returns-else-words-le512 : goal.returns-else-words-le512
-returns-else-words-le512 c = c.explore_sums-else-words-le512.ensures
+explore_sums-requires-else-words-le512 c = record { given = c.requires; room = (omega arith, omega arith) }

@@ -7,37 +7,34 @@ use borrow.Author.Rules.{rules}
 use Rattle.verdict.proofs.explore.explore_sums.Goals as goal
 
 pub prepare_classes-requires : goal.prepare_classes-requires
-prepare_classes-requires c =
+prepare_classes-requires g c =
     let s = c in
-    let m = s.requires.0 in (
-      s.requires.1,
-      s.requires.2,
+    let m = s.requires.given.0 in (
+      s.requires.given.1,
+      s.requires.given.2,
       m.ready.counted.few,
       m.ready.accepting-room,
       m.ready.table-room,
       m.few-classes,
-      s.requires.3,
+      omega arith,
       λ v d h. ((m.ending.exact v d).0 h).0,
     )
 
-pub shape_of-ended-then-not-prepare_classes : goal.shape_of-ended-then-not-prepare_classes
-shape_of-ended-then-not-prepare_classes c = c.prepare_classes.auto.ended
-
 pub returns-then-not-prepare_classes : goal.returns-then-not-prepare_classes
-returns-then-not-prepare_classes c = record { done = λ h. absurd (omega arith); nothing = λ e. refl }
+returns-then-not-prepare_classes g c = refl
 
 pub pairs-found-requires : goal.pairs-found-requires
-pairs-found-requires c =
+pairs-found-requires g c =
     let s = c in
-    let m = s.requires.0 in
+    let m = s.requires.given.0 in
     let p = c.prepare_classes.ensures c.if-not-prepare_classes.false in
     let room : length s.args.merged.now ≡ 128 = search rules in (
       record {
         apart = λ h e. cc;
         classed = λ h e. record {
           ready = m.ready;
-          some = s.requires.1;
-          few = s.requires.2;
+          some = s.requires.given.1;
+          few = s.requires.given.2;
           some-class = m.some-class;
           few-classes = m.few-classes;
           few-places = m.few-places;
@@ -50,23 +47,9 @@ pairs-found-requires c =
         };
       },
       λ h. p.1,
-      s.requires.4,
+      s.requires.given.3,
       λ h. elim h [ ],
     )
 
-pub shape_of-ended : goal.shape_of-ended
-shape_of-ended c = c.prepare_classes.auto.ended
-
-pub shape_of-laid : goal.shape_of-laid
-shape_of-laid c = c.pairs-found.auto.laid
-
-pub shape_of-workspace : goal.shape_of-workspace
-shape_of-workspace c = c.pairs-found.auto.workspace
-
 pub returns : goal.returns
-returns c =
-    let s = c in
-    record {
-      done = λ h. told-search _ true _ c.pairs-found.ensures;
-      nothing = λ e. absurd (omega (arith, s.requires.0.some-class));
-    }
+returns g c = told-search _ true _ c.pairs-found.ensures

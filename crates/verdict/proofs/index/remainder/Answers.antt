@@ -8,22 +8,20 @@ use Rattle.verdict.proofs.index.remainder.Goals as goal
 pub loop-j-init : goal.loop-j-init
 loop-j-init c =
     let s = c in
-    (omega arith, mixed-start s.args.cover.now s.args.count s.requires.1)
+    mixed-start s.args.cover.now s.args.count s.requires.1
 
 pub loop-j-preserved : goal.loop-j-preserved
 loop-j-preserved c =
     let s = c in
     let l = c.loop-j in
-    let entered : 0 < l.j = c.loop-j-test.true in (
-      omega (arith, l.invariant.0),
-      ap (λ z. bit_xor z (get_or s.args.cover.now (l.j - 1) 0)) c.rotate.ensures
-          ∙ mixed-turn s.args.cover.now l.j l.mix entered (omega (arith, l.invariant.0, s.requires.0))
-          (omega arith) l.invariant.1,
-    )
+    let entered : 0 < l.j = c.loop-j-test.true in
+    ap (λ z. bit_xor z (get_or s.args.cover.now (l.j - 1) 0)) c.rotate.ensures
+    ∙ mixed-turn s.args.cover.now l.j l.mix entered (omega (arith, s.requires.0))
+    (omega arith) l.invariant
 
 pub returns : goal.returns
 returns c =
     let s = c in
     let l = c.loop-j in
     ap (λ z. bit_xor z s.args.standing % 4093) c.rotate-2.ensures
-    ∙ mixed-end s.args.cover.now s.args.standing l.j l.mix (omega (arith, c.loop-j-test.false)) l.invariant.1
+    ∙ mixed-end s.args.cover.now s.args.standing l.j l.mix (omega (arith, c.loop-j-test.false)) l.invariant

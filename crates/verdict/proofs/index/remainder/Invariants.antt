@@ -1,11 +1,8 @@
--- The loop's invariant: the words from j on are mixed. The measure is the number of words left.
-use Rattle.std.specs.Prelude.{◌≡◌, ◌-◌, ◌≤◌, drop}
+-- The loop's invariant: the words from j on are mixed.
+use Rattle.std.specs.Prelude.{◌≡◌, ◌-◌, drop}
 use Rattle.places.specs.Words.{number_of}
 use Rattle.verdict.specs.PairIndex.{mix_of}
 use Rattle.verdict.proofs.index.remainder.Given as goal
 
 abbrev pub invariant-loop-j : goal.invariant-loop-j
-invariant-loop-j l = (l.j ≤ l.count) × (l.mix ≡ mix_of (16 - l.j) (number_of (drop l.j l.words)))
-
-abbrev pub decreases-loop-j : goal.decreases-loop-j
-decreases-loop-j l = l.j
+invariant-loop-j l = l.mix ≡ mix_of (16 - l.j) (number_of (drop l.j l.cover))

@@ -1,21 +1,16 @@
-use Rattle.std.specs.Prelude.{◌≡◌, ℕ, List, length, get_or}
-use mathlib.Core.Path.{refl, sym, ◌∙◌, subst}
+use mathlib.Core.Path.{refl, ◌∙◌}
 use Rattle.verdict.specs.TablesLaws.{occupied-none, occupied-more, occupied-few}
 use Rattle.verdict.specs.ColumnOffsets.{occupied-room}
-use Rattle.verdict.specs.WordBits.{cleared-zero}
 use Rattle.verdict.specs.KindsTurns.{lists-start, lists-turn, lists-end}
-use native.Mathlib.Omega.{arith}
+use Rattle.std.proofs.Common.{arith, rules}
 use Rattle.verdict.proofs.kinds.kinds_of.Goals as goal
 
 pub loop-v-init : goal.loop-v-init
 loop-v-init c =
     let s = c in (
-      omega arith,
       occupied-none _,
       refl,
-      lists-start s.args.lists s.args.labels s.args.enter.now s.args.sizes.now c.clear_words.new.words
-          (λ i h. subst (λ (z : List ℕ). get_or z i 0 ≡ 0) (sym (c.clear_words.ensures.enough (omega arith)))
-          (cleared-zero (length s.args.kinds.now) s.args.kinds.now i (omega (arith, s.requires.3)))),
+      lists-start s.args.lists s.args.labels s.args.enter.now s.args.sizes.now _ (λ i h. search rules),
     )
 
 pub list_kinds-requires : goal.list_kinds-requires
@@ -27,7 +22,7 @@ list_kinds-requires c =
       s.requires.0.small l.v h,
       s.requires.1,
       omega (arith, h, s.requires.2),
-      omega (arith, l.invariant.1, l.invariant.2, c.clear_words.auto.words, occupied-room s.args.sizes.now l.v s.args.lists h, s.requires.3),
+      omega (arith, l.invariant.0, l.invariant.1, c.fill.auto.self, occupied-room s.args.sizes.now l.v s.args.lists h, s.requires.3),
     )
 
 pub overflow_add-base : goal.overflow_add-base
@@ -37,7 +32,7 @@ overflow_add-base c =
     let h = c.loop-v-test.true in
     omega (
       arith,
-      l.invariant.1,
+      l.invariant.0,
       s.requires.0.small l.v h,
       s.requires.0.few,
       h,
@@ -50,19 +45,15 @@ loop-v-preserved c =
     let l = c.loop-v in
     let f = c.list_kinds in
     let h = c.loop-v-test.true in (
-      omega (arith, h),
-      omega (arith, l.invariant.1, occupied-more s.args.sizes.now l.v),
-      f.auto.kinds ∙ l.invariant.2,
+      omega (arith, l.invariant.0, occupied-more s.args.sizes.now l.v),
+      f.auto.kinds ∙ l.invariant.1,
       lists-turn s.args.lists s.args.labels l.v l.base s.args.enter.now s.args.sizes.now l.kinds
-          f.new.kinds h l.invariant.1 f.ensures l.invariant.3,
+          f.new.kinds h l.invariant.0 f.ensures l.invariant.2,
     )
-
-pub shape_of-kinds : goal.shape_of-kinds
-shape_of-kinds c = c.loop-v.invariant.2 ∙ c.clear_words.auto.words
 
 pub returns : goal.returns
 returns c =
     let s = c in
     let l = c.loop-v in
     lists-end s.args.lists s.args.labels l.v s.args.enter.now s.args.sizes.now l.kinds
-    (omega (arith, l.invariant.0, c.loop-v-test.false)) l.invariant.3
+    (omega (arith, c.loop-v-test.false)) l.invariant.2

@@ -1,60 +1,40 @@
-use Rattle.std.specs.Prelude.{◌-◌}
-use mathlib.Core.Path.{refl, ◌∙◌}
+use Rattle.std.proofs.Common.{◌-◌, refl, ◌∙◌, length-set, arith, rules}
 use lib.Bits.{and_le_r}
-use lib.Count.{trailing_le}
-use lib.ListN.{length-set}
-use Rattle.verdict.specs.LeadingTurns.{led-start, led-turn, led-end}
 use Rattle.places.specs.Followed.{least-small}
-use native.Mathlib.Omega.{arith}
+use Rattle.verdict.specs.LeadingTurns.{led-start, led-turn, led-end}
 use Rattle.verdict.proofs.leading.lead_from.Goals as goal
 
-pub loop-rest-init : goal.loop-rest-init
-loop-rest-init c = (omega arith, refl, led-start _ _ _ _)
+pub loop-p-init : goal.loop-p-init
+loop-p-init c = rw (c.into_iter-p-iterator.ensures.into_iter_gives, c.members-p-items.ensures) (search rules, search rules, omega arith, refl, led-start _ _ _ _)
 
-pub overflow_cast-at : goal.overflow_cast-at
-overflow_cast-at c = omega (arith, trailing_le 64 c.loop-rest.rest)
+pub bounds-before-base : goal.bounds-before-base
+bounds-before-base c =
+    let (some, is, left) = c.in-Some.ensures.steps in
+    let l = c.loop-p in
+    omega (arith, least-small l.p-iterator.rest some l.invariant.2)
 
-pub overflow_add-at : goal.overflow_add-at
-overflow_add-at c = omega (arith, trailing_le 64 c.loop-rest.rest, c.requires.0, c.well_formed.1.1.1.0)
+pub bounds-before-base-in-loop-p : goal.bounds-before-base-in-loop-p
+bounds-before-base-in-loop-p c =
+    let (some, is, left) = c.in-Some.ensures.steps in
+    let l = c.loop-p in
+    omega (arith, least-small l.p-iterator.rest some l.invariant.2)
 
-pub offset_bounds-before-at : goal.offset_bounds-before-at
-offset_bounds-before-at c = omega (arith, trailing_le 64 c.loop-rest.rest, c.requires.0, c.well_formed.1.1.1.0)
-
-pub bounds-before-at : goal.bounds-before-at
-bounds-before-at c =
-    let l = c.loop-rest in
-    omega (arith, l.invariant.1, c.requires.0, least-small l.rest c.loop-rest-test.true l.invariant.0)
-
-pub offset_bounds-before-at-in-loop-rest : goal.offset_bounds-before-at-in-loop-rest
-offset_bounds-before-at-in-loop-rest c =
-    omega (
-      arith,
-      trailing_le 64 c.loop-rest.rest,
-      c.requires.0,
-      c.well_formed.1.1.1.0,
-    )
-
-pub bounds-before-at-in-loop-rest : goal.bounds-before-at-in-loop-rest
-bounds-before-at-in-loop-rest c =
-    let l = c.loop-rest in
-    omega (arith, l.invariant.1, c.requires.0, least-small l.rest c.loop-rest-test.true l.invariant.0)
-
-pub loop-rest-smaller : goal.loop-rest-smaller
-loop-rest-smaller c = omega (arith, c.loop-rest-test.true, and_le_r c.loop-rest.rest (c.loop-rest.rest - 1))
-
-pub loop-rest-preserved : goal.loop-rest-preserved
-loop-rest-preserved c =
-    let l = c.loop-rest in
-    let s = c in (
-      omega (arith, l.invariant.0, and_le_r l.rest (l.rest - 1)),
-      length-set l.before _ _ ∙ l.invariant.1,
-      led-turn s.args.base s.args.o s.args.set s.args.before.now l.before l.rest c.loop-rest-test.true
-          l.invariant.0 s.requires.1
-          (omega (arith, s.requires.0, l.invariant.1)) l.invariant.2,
+pub loop-p-preserved : goal.loop-p-preserved
+loop-p-preserved c =
+    let (some, is, left) = c.in-Some.ensures.steps in
+    let l = c.loop-p in
+    let a = c.args in
+    rw (is, left) (
+      search rules,
+      search rules,
+      omega (arith, l.invariant.2, and_le_r l.p-iterator.rest (l.p-iterator.rest - 1)),
+      length-set l.before _ _ ∙ l.invariant.3,
+      led-turn a.base a.o a.set a.before.now l.before l.p-iterator.rest some l.invariant.2 c.requires.1
+          (omega (arith, c.requires.0, l.invariant.3)) l.invariant.4,
     )
 
 pub returns : goal.returns
 returns c =
-    let l = c.loop-rest in
-    let s = c in
-    led-end s.args.base s.args.o s.args.set s.args.before.now l.before l.rest c.loop-rest-test.false l.invariant.2
+    let l = c.loop-p in
+    let a = c.args in
+    led-end a.base a.o a.set a.before.now l.before l.p-iterator.rest c.in-None.ensures.steps.0 l.invariant.4

@@ -1,11 +1,7 @@
--- The loop's invariant: the entries of the lists before v are filled, and those of the others are empty (ListsLed). The measure is the
--- number of lists left.
-use Rattle.std.specs.Prelude.{◌≡◌, ◌-◌, ◌≤◌, length}
+-- The loop's invariant: the entries of the lists before v are filled, and those of the others are empty (ListsLed).
+use Rattle.std.specs.Prelude.{◌≡◌, length}
 use Rattle.verdict.specs.LeadingTurns.{ListsLed}
 use Rattle.verdict.proofs.leading.leading.Given as goal
 
 abbrev pub invariant-loop-v : goal.invariant-loop-v
-invariant-loop-v l = (l.v ≤ l.lists) × ListsLed l.lists l.v l.follow l.sizes l.before × (length l.before ≡ length l.initial.before)
-
-abbrev pub decreases-loop-v : goal.decreases-loop-v
-decreases-loop-v l = l.lists - l.v
+invariant-loop-v l = ListsLed l.lists l.v l.follow l.sizes l.before × (length l.before ≡ length l.initial.before)

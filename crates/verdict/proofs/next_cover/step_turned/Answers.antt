@@ -1,7 +1,6 @@
 -- All words are cleared, so the set is empty before the columns are put into it.
-use mathlib.Core.Path.{ap, ◌∙◌}
-use Rattle.places.specs.Words.{number_of}
-use Rattle.verdict.specs.WordBits.{number-cleared}
+use mathlib.Core.Path.{◌∙◌}
+use Rattle.verdict.specs.WordBits.{number-zeros}
 use native.Mathlib.Omega.{arith}
 use Rattle.verdict.proofs.next_cover.step_turned.Goals as goal
 
@@ -15,8 +14,7 @@ step_columns-requires c =
       s.requires.4,
       s.requires.5,
       (omega arith),
-      ap number_of (c.clear_words.ensures.enough (omega arith))
-          ∙ number-cleared 16 s.args.cover.now (omega arith),
+      number-zeros 16,
       s.requires.6,
       s.requires.7,
       s.requires.8,

@@ -1,16 +1,9 @@
--- `answer` meets its contract, in each of the three cases.
-use Rattle.verdict.specs.VerdictOperationLaws.{answered-complete, answered-missed, answered-refused}
+-- `answer` meets its contract, in each of the two cases.
+use Rattle.verdict.specs.VerdictOperationLaws.{answered-told, answered-refused}
 use Rattle.verdict.proofs.operation.answer.Goals as goal
 
-pub returns-in-Complete : goal.returns-in-Complete
-returns-in-Complete c = answered-complete c.in-Complete.is
+pub returns-in-Ok : goal.returns-in-Ok
+returns-in-Ok c = answered-told c.in-Ok.is
 
-pub returns-in-Missed : goal.returns-in-Missed
-returns-in-Missed c = answered-missed c.in-Missed.is
-
-pub returns-in-Refused : goal.returns-in-Refused
-returns-in-Refused c =
-    let at-clear-bytes = c in
-    let at-clear-numbers = at-clear-bytes in
-    let matched = at-clear-numbers in
-    answered-refused matched.in-Refused.is at-clear-numbers.clear_numbers.ensures.enough at-clear-bytes.clear_bytes.ensures.enough
+pub returns-in-Err : goal.returns-in-Err
+returns-in-Err c = rw c.from.ensures (answered-refused c.in-Err.is c.clear.ensures.enough c.clear-in-Err.ensures.enough)

@@ -5,16 +5,13 @@ use Rattle.verdict.specs.VerdictOperationLaws.{found-told}
 use native.Mathlib.Omega.{arith}
 use Rattle.verdict.proofs.operation.found_verdict.Goals as goal
 
-pub slice_bounds-verdict-end : goal.slice_bounds-verdict-end
-slice_bounds-verdict-end c =
+pub slice_bounds-tables-end : goal.slice_bounds-tables-end
+slice_bounds-tables-end c =
     sym (length-take-le _ c.args.table.now (omega arith))
 
-pub slice_bounds-verdict-end-2 : goal.slice_bounds-verdict-end-2
-slice_bounds-verdict-end-2 c =
+pub slice_bounds-verdict_of-end : goal.slice_bounds-verdict_of-end
+slice_bounds-verdict_of-end c =
     sym (length-take-le _ c.args.flags.now (omega arith))
 
 pub returns : goal.returns
-returns c =
-    let at-verdict = c in
-    let start = at-verdict in
-    found-told start.requires.1 (omega (arith, start.well_formed)) (omega (arith, start.well_formed)) start.requires.2 at-verdict.verdict.ensures
+returns c = found-told c.args.job.held.fit (omega (arith, c.well_formed)) (omega (arith, c.well_formed)) c.requires.1 c.verdict_of.ensures

@@ -7,38 +7,50 @@ use Rattle.verdict.proofs.operation.judge.Goals as goal
 pub returns-then-allowance-eq0 : goal.returns-then-allowance-eq0
 returns-then-allowance-eq0 c =
     let a = c.args in
+    rw c.from.ensures (
     none_allowed a.text.now a.allowance a.table.now a.flags.now a.path.now a.workspace.now
     c.if-allowance-eq0.true
+    )
 
 pub returns-then-allowance-gt4096 : goal.returns-then-allowance-gt4096
 returns-then-allowance-gt4096 c =
     let a = c.args in
+    rw c.from-then-allowance-gt4096.ensures (
     many-allowed a.text.now a.allowance a.table.now a.flags.now a.path.now a.workspace.now
     (omega arith) (omega arith)
+    )
 
 pub returns-then-table-lt4096 : goal.returns-then-table-lt4096
 returns-then-table-lt4096 c =
     let a = c.args in
+    rw c.from-then-table-lt4096.ensures (
     table-short a.text.now a.allowance a.table.now a.flags.now a.path.now a.workspace.now
     (omega arith) (omega arith) (omega arith)
+    )
 
 pub returns-then-flags-lt256 : goal.returns-then-flags-lt256
 returns-then-flags-lt256 c =
     let a = c.args in
+    rw c.from-then-flags-lt256.ensures (
     flags-short a.text.now a.allowance a.table.now a.flags.now a.path.now a.workspace.now
     (omega arith) (omega arith) (omega arith) (omega arith)
+    )
 
 pub returns-then-path-allowance : goal.returns-then-path-allowance
 returns-then-path-allowance c =
     let a = c.args in
+    rw c.from-then-path-allowance.ensures (
     path-short a.text.now a.allowance a.table.now a.flags.now a.path.now a.workspace.now
     (omega arith) (omega arith) (omega arith) (omega arith) (omega arith)
+    )
 
 pub returns-then-workspace-allowance : goal.returns-then-workspace-allowance
 returns-then-workspace-allowance c =
     let a = c.args in
+    rw c.from-then-workspace-allowance.ensures (
     workspace-short a.text.now a.allowance a.table.now a.flags.now a.path.now a.workspace.now
     (omega arith) (omega arith) (omega arith) (omega arith) (omega arith) (omega arith)
+    )
 
 pub returns : goal.returns
 returns c =

@@ -1,16 +1,15 @@
-use Rattle.std.specs.Prelude.{suc, ◌+◌, ◌*◌, ◌<◌, get_or}
-use mathlib.Core.Path.{refl, sym, subst, subst₂}
+use Rattle.std.specs.Prelude.{◌+◌, ◌*◌, ◌<◌, get_or}
+use mathlib.Core.Path.{refl, sym, ap, subst, subst₂}
 use Rattle.places.specs.Words.{number_of}
-use Rattle.verdict.specs.Coded.{layout_of}
+use Rattle.verdict.specs.LentTables.{lent_of, layout_in}
 use Rattle.verdict.specs.NextCover.{way-places}
 use Rattle.verdict.specs.PairIndexLaws.{indexed-same, indexed-all, indexed-over, short-more, short-same, short-all, short-over}
 use Rattle.verdict.specs.PairRows.{RowLoop, Stepped, row-start, row-known, row_new, row-exceeds, row_told}
 use Rattle.verdict.specs.PairTable.{words_at}
-use Rattle.verdict.specs.PairsTold.{lent}
 use Rattle.verdict.specs.Prepared.{rows-kept}
-use Rattle.verdict.specs.Tables.{occupied}
 use Rattle.verdict.specs.Turned.{Stacked}
 use Rattle.verdict.specs.WideRows.{RowsLaid}
+use Rattle.verdict.specs.Ways.{columns_of, rows_of}
 use native.Mathlib.Omega.{arith}
 use Rattle.verdict.proofs.pairs.row.Goals as goal
 use Rattle.verdict.proofs.pairs.row.Goals.{else-not-seen, then-not-seen+else-m-limit}
@@ -38,13 +37,13 @@ next_cover-requires c =
     let l = in-loop.loop-a in
     let s = in-loop in (
       record {
-        labels = s.args.labels;
+        labels = s.args.tables.labels;
         label = in-loop.loop-a-test.true;
         ready = s.requires.8;
-        stacked = λ z h few. subst (λ z. Stacked s.args.w s.args.states lay.new.laid (number_of z)) (sym l.invariant.0.words) (lay.ensures.0 z h few);
+        stacked = λ z h few. subst (λ z. Stacked (columns_of s.args.ways.way) s.args.tables.states lay.new.laid (number_of z)) (sym l.invariant.0.words) (lay.ensures.0 z h few);
         room = omega (arith, lay.auto.laid, s.requires.9);
         by_rows = λ h. rows-kept (s.requires.10 h) lay.auto.laid;
-        rows-laid = λ h. subst (λ z. RowsLaid s.args.rows s.args.states s.args.before.now (number_of z) lay.new.laid) (sym l.invariant.0.words) (lay.ensures.1 h);
+        rows-laid = λ h. subst (λ z. RowsLaid (rows_of s.args.ways.way) s.args.tables.states s.args.ways.before.now (number_of z) lay.new.laid) (sym l.invariant.0.words) (lay.ensures.1 h);
       },
       omega (arith, in-loop.loop-a-test.true, s.requires.3),
       omega (arith, l.invariant.0.size, s.requires.0, s.requires.1, s.requires.4),
@@ -126,15 +125,6 @@ overflow_add-m c =
     let s = in-loop in
     omega (arith, in-loop.loop-a.invariant.0.within, s.requires.2)
 
-pub overflow_add-a : goal.overflow_add-a
-overflow_add-a c =
-    let in-loop = c in
-    let s = in-loop in
-    omega (arith, in-loop.loop-a-test.true, s.requires.3)
-
-pub loop-a-smaller : goal.loop-a-smaller
-loop-a-smaller c = omega (arith, c.loop-a-test.true)
-
 pub loop-a-preserved : goal.loop-a-preserved
 loop-a-preserved c =
     let seen = c in
@@ -145,9 +135,8 @@ loop-a-preserved c =
     let l = in-loop.loop-a in
     let s = in-loop in
     let D =
-    lent s.args.states s.args.labels s.args.lists s.args.follow.now s.args.enter.now s.args.sizes.now
-    s.args.accepting.now s.args.table.now in
-    let L = layout_of (suc (occupied s.args.sizes.now 0 s.args.lists)) s.args.w s.args.classed s.args.classes.now in
+    lent_of s.args.tables in
+    let L = layout_in s.args.tables s.args.ways in
     let step : Stepped D L s.args.workspace.now s.args.i l.a q.result cover =
     record {
       from = get_or s.args.workspace.now (18 * s.args.i) 0;
@@ -163,14 +152,14 @@ loop-a-preserved c =
             (row_new D _ _ _ _ _ l.a l.m _ l.invariant.0 in-loop.loop-a-test.true s.requires.0 q.result cover step
             seen.seen.result x.add.new.workspace seen.seen.ensures x.if-not-seen.true
             (omega (arith, l.invariant.0.within, x.if-m-limit.false)) s.requires.2 next.ensures.2 x.add.ensures.0),
-        indexed-same x.workspace-is x.heads-is x.nexts-is x.m-is x.add.ensures.1,
+        indexed-same x.workspace-is (ap (λ i. i.heads) x.index-is) (ap (λ i. i.nexts) x.index-is) x.m-is x.add.ensures.1,
         short-same x.workspace-is x.m-is (short-more x.add.ensures.0 next.ensures.2 (next.ensures.1 s.args.used s.requires.6) l.invariant.2),
       )
       | else-not-seen x ↦ (
         subst₂ (RowLoop D L s.args.limit s.args.i s.args.n s.args.workspace.now (l.a + 1)) (sym x.m-is) (sym x.workspace-is)
             (row-known D _ _ _ _ _ l.a l.m _ l.invariant.0 in-loop.loop-a-test.true s.requires.0 q.result cover step
             seen.seen.result seen.seen.ensures x.if-not-seen.false),
-        indexed-same x.workspace-is x.heads-is x.nexts-is x.m-is l.invariant.1,
+        indexed-same x.workspace-is (ap (λ i. i.heads) x.index-is) (ap (λ i. i.nexts) x.index-is) x.m-is l.invariant.1,
         short-same x.workspace-is x.m-is l.invariant.2,
       )
     ])

@@ -10,7 +10,7 @@ use native.Mathlib.Omega.{arith}
 use Rattle.verdict.proofs.pairs.sweep.Goals as goal
 
 pub used_words-used-requires : goal.used_words-used-requires
-used_words-used-requires c = λ h. (way-places c.requires.4 h).1
+used_words-used-requires c = rw c.columns-w.ensures (λ h. (way-places c.requires.4 h).1)
 
 pub first_cover-start-requires : goal.first_cover-start-requires
 first_cover-start-requires c = c.used_words-used.ensures
@@ -34,10 +34,11 @@ loop-i-init c =
     let first = c in
     let cover = c.first_cover-start in
     let s = c in
-    let used = c.used_words-used.ensures in
+    let used = rw c.columns-w.ensures at c.used_words-used.ensures in
+    let told = rw c.columns-w.ensures at cover.ensures in
     let started =
-    start-stands s.requires.4 s.args.first.now cover.result.words s.requires.5 cover.ensures.0
-    (λ h fits. cover.ensures.1 h (omega (arith, fits, pow_mono (used.turned h)))) in (
+    start-stands s.requires.4 s.args.first.now cover.result.words s.requires.5 told.0
+    (λ h fits. told.1 h (omega (arith, fits, pow_mono (used.turned h)))) in (
       sweep-start _ _ _ s.args.workspace.now first.add.new.workspace cover.result.words s.requires.0
           (array_count 16 cover.result.words _ cover.type_inv.1.1.0) started first.add.ensures.0,
       first.add.ensures.1,
@@ -55,28 +56,24 @@ row-found-requires c =
       s.requires.2,
       omega (arith, l.invariant.0.size, c.add.ensures.0.size, s.requires.3),
       l.invariant.1,
-      c.used_words-used.ensures,
+      rw c.columns-w.ensures at c.used_words-used.ensures,
       l.invariant.2,
       s.requires.4,
       omega (arith, l.invariant.3, s.requires.6),
       λ h. rows-kept (s.requires.7 h) l.invariant.3,
     )
 
-pub shape_of-laid-in_default : goal.shape_of-laid-in_default
-shape_of-laid-in_default c = c.row-found.auto.laid ∙ c.loop-i.invariant.3
-
-pub shape_of-workspace-in_default : goal.shape_of-workspace-in_default
-shape_of-workspace-in_default c = c.row-found.auto.workspace ∙ c.loop-i.invariant.0.size ∙ c.add.ensures.0.size
-
-pub returns-in_default : goal.returns-in_default
-returns-in_default c =
+pub returns-in_err-n : goal.returns-in_err-n
+returns-in_err-n c =
     let l = c.loop-i in
     let first = c in
     let s = c in
     let r = c.row-found in
+    rw c.from_residual.ensures (
     told-before _ _ _ _ first.add.new.workspace _ _ r.new.workspace s.requires.0 first.add.ensures.0
     (sweep-exceeds _ _ _ first.add.new.workspace l.i l.n l.workspace l.invariant.0 c.loop-i-test.true
-    r.result r.new.workspace r.ensures.row_told c.in_default.is)
+    r.result r.new.workspace r.ensures.row_told c.in_err-n.was)
+    )
 
 pub overflow_add-i : goal.overflow_add-i
 overflow_add-i c = omega (arith, c.loop-i-test.true, c.loop-i.invariant.0.within, c.requires.1)
@@ -90,9 +87,9 @@ loop-i-preserved c =
     let first = c in
     let r = c.row-found in (
       sweep-turn _ _ _ first.add.new.workspace l.i l.n l.workspace l.invariant.0 c.loop-i-test.true r.result
-          r.new.workspace r.ensures.row_told _ c.in-All.is r.auto.workspace,
-      r.ensures.indexed.0 _ c.in-All.is,
-      r.ensures.indexed.1 _ c.in-All.is,
+          r.new.workspace r.ensures.row_told _ c.in_ok-n.was r.auto.workspace,
+      r.ensures.indexed.0 _ c.in_ok-n.was,
+      r.ensures.indexed.1 _ c.in_ok-n.was,
       r.auto.laid ∙ l.invariant.3,
     )
 

@@ -1,9 +1,9 @@
-use Rattle.std.specs.Prelude.{◌≡◌, ℕ, ◌+◌, ◌*◌, ◌/◌, List, get_or}
-use mathlib.Core.Path.{refl, sym, ◌∙◌, subst}
+use Rattle.std.specs.Prelude.{◌+◌, ◌*◌, ◌/◌}
+use mathlib.Core.Path.{refl, ◌∙◌}
 use lib.ListN.{length-set}
 use Rattle.verdict.specs.PassingTurns.{alone-start, alone-turn, alone-end, word-inside, words-few}
-use Rattle.verdict.specs.WordBits.{cleared-zero}
-use native.Mathlib.Omega.{arith}
+use Rattle.std.proofs.Common.{arith}
+use Rattle.std.proofs.lemmas.Grind.{common_steps}
 use Rattle.verdict.proofs.passing.alone.Goals as goal
 
 pub overflow_mul-k : goal.overflow_mul-k
@@ -15,13 +15,7 @@ pub loop-t-init : goal.loop-t-init
 loop-t-init c =
     let s = c in
     let a = s.args in
-    let clear-words = c.clear_words in (
-      omega arith,
-      refl,
-      alone-start a.k a.states clear-words.new.words
-          (λ i h. subst (λ (z : List ℕ). get_or z i 0 ≡ 0) (sym (clear-words.ensures.enough s.requires.2))
-          (cleared-zero (a.k * a.states) a.passes.now i h)),
-    )
+    (refl, alone-start a.k a.states _ (λ i h. grind (arith, common_steps)))
 
 pub overflow_mul-passes : goal.overflow_mul-passes
 overflow_mul-passes c =
@@ -44,10 +38,7 @@ bounds-passes-k c =
     let l = c.loop-t in
     let test = c.loop-t-test.true in
     let inside = word-inside s.args.k s.args.states l.t (l.t / 64) (omega (arith, test, s.requires.1)) test in
-    omega (arith, inside, s.requires.2, l.invariant.1, c.clear_words.auto.words)
-
-pub loop-t-smaller : goal.loop-t-smaller
-loop-t-smaller c = omega (arith, c.loop-t-test.true)
+    omega (arith, inside, s.requires.2, l.invariant.0, c.fill.auto.self)
 
 pub loop-t-preserved : goal.loop-t-preserved
 loop-t-preserved c =
@@ -55,17 +46,13 @@ loop-t-preserved c =
     let l = c.loop-t in
     let test = c.loop-t-test.true in
     let inside = word-inside s.args.k s.args.states l.t (l.t / 64) (omega (arith, test, s.requires.1)) test in (
-      omega (arith, test),
-      length-set l.passes (s.args.k * l.t + l.t / 64) _ ∙ l.invariant.1,
+      length-set l.passes (s.args.k * l.t + l.t / 64) _ ∙ l.invariant.0,
       alone-turn s.args.k s.args.states l.passes l.t s.requires.1 test
-          (omega (arith, inside, s.requires.2, l.invariant.1, c.clear_words.auto.words)) l.invariant.2,
+          (omega (arith, inside, s.requires.2, l.invariant.0, c.fill.auto.self)) l.invariant.1,
     )
-
-pub shape_of-passes : goal.shape_of-passes
-shape_of-passes c = c.loop-t.invariant.1 ∙ c.clear_words.auto.words
 
 pub returns : goal.returns
 returns c =
     let s = c in
     let l = c.loop-t in
-    alone-end s.args.k s.args.states l.passes l.t s.requires.1 (omega (arith, c.loop-t-test.false)) l.invariant.2
+    alone-end s.args.k s.args.states l.passes l.t s.requires.1 (omega (arith, c.loop-t-test.false)) l.invariant.1

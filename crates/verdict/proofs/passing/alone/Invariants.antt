@@ -1,11 +1,7 @@
--- The loop's invariant: the states before t have themselves, and every other word is empty (AloneBefore). The measure is the number of
--- states left.
-use Rattle.std.specs.Prelude.{◌≡◌, ◌-◌, ◌≤◌, length}
+-- The loop's invariant: the states before t have themselves, and every other word is empty (AloneBefore).
+use Rattle.std.specs.Prelude.{◌≡◌, length}
 use Rattle.verdict.specs.PassingTurns.{AloneBefore}
 use Rattle.verdict.proofs.passing.alone.Given as goal
 
 abbrev pub invariant-loop-t : goal.invariant-loop-t
-invariant-loop-t l = (l.t ≤ l.states) × (length l.passes ≡ length l.initial.passes) × AloneBefore l.k l.states l.passes l.t
-
-abbrev pub decreases-loop-t : goal.decreases-loop-t
-decreases-loop-t l = l.states - l.t
+invariant-loop-t l = (length l.passes ≡ length l.initial.passes) × AloneBefore l.k l.states l.passes l.t

@@ -1,13 +1,9 @@
--- The loop's invariant: the entries of the lists before v are those of the next states, and every entry is a word. The measure is the number
--- of lists left.
-use Rattle.std.specs.Prelude.{◌≡◌, ◌-◌, ◌≤◌, length}
+-- The loop's invariant: the entries of the lists before v are those of the next states, and every entry is a word.
+use Rattle.std.specs.Prelude.{◌≡◌, length}
 use Rattle.places.specs.Words.{Words}
 use Rattle.verdict.specs.FinishingTurns.{EndedBefore}
 use Rattle.verdict.proofs.passing.finishing.Given as goal
 
 abbrev pub invariant-loop-v : goal.invariant-loop-v
 invariant-loop-v l =
-    (l.v ≤ l.lists) × (length l.ended ≡ length l.initial.ended) × EndedBefore l.states l.table l.passes l.ended l.v × Words l.ended
-
-abbrev pub decreases-loop-v : goal.decreases-loop-v
-decreases-loop-v l = l.lists - l.v
+    (length l.ended ≡ length l.initial.ended) × EndedBefore l.states l.table l.passes l.ended l.v × Words l.ended

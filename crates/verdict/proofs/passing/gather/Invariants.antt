@@ -1,11 +1,8 @@
--- The loop's invariant: the lists from v on have been gone through (Gathered). The measure is the number of lists left.
-use Rattle.std.specs.Prelude.{◌≡◌, ◌≤◌, length}
+-- The loop's invariant: the lists from v on have been gone through (Gathered).
+use Rattle.std.specs.Prelude.{◌≡◌, length}
 use Rattle.verdict.specs.PassingTurns.{Gathered}
 use Rattle.verdict.proofs.passing.gather.Given as goal
 
 abbrev pub invariant-loop-v : goal.invariant-loop-v
 invariant-loop-v l =
-    (l.v ≤ l.lists) × (length l.passes ≡ length l.initial.passes) × Gathered l.k l.states l.lists l.v l.accepting l.table l.t l.initial.passes l.passes l.changed
-
-abbrev pub decreases-loop-v : goal.decreases-loop-v
-decreases-loop-v l = l.v
+    (length l.passes ≡ length l.initial.passes) × Gathered l.k l.states l.lists l.v l.accepting l.table l.t l.initial.passes l.passes l.changed

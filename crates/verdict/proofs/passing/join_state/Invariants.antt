@@ -1,11 +1,8 @@
--- The loop's invariant: the words from j on have gained (Joining). The measure is the number of words left.
-use Rattle.std.specs.Prelude.{◌≡◌, ◌≤◌, length}
+-- The loop's invariant: the words from j on have gained (Joining).
+use Rattle.std.specs.Prelude.{◌≡◌, length}
 use Rattle.verdict.specs.PassingTurns.{Joining}
 use Rattle.verdict.proofs.passing.join_state.Given as goal
 
 abbrev pub invariant-loop-j : goal.invariant-loop-j
 invariant-loop-j l =
-    (l.j ≤ l.k) × (length l.passes ≡ length l.initial.passes) × Joining l.k l.t l.s l.j l.initial.passes l.passes l.changed
-
-abbrev pub decreases-loop-j : goal.decreases-loop-j
-decreases-loop-j l = l.j
+    (length l.passes ≡ length l.initial.passes) × Joining l.k l.t l.s l.j l.initial.passes l.passes l.changed

@@ -42,18 +42,18 @@ returns-then-onward c =
       next,
     )
 
-pub loop-rounds-init : goal.loop-rounds-init
-loop-rounds-init c =
+pub loop-round-init : goal.loop-round-init
+loop-round-init c =
     let a = c.args in
     let alone = c.alone in
     (refl, sound-start a.k a.states a.lists a.accepting.now a.table.now alone.new.passes alone.ensures)
 
-pub pass_round-requires-in-loop-rounds : goal.pass_round-requires-in-loop-rounds
-pass_round-requires-in-loop-rounds c =
+pub pass_round-requires-in-loop-round : goal.pass_round-requires-in-loop-round
+pass_round-requires-in-loop-round c =
     let first = c in
     let s = first in
     let a = s.args in
-    let l = c.loop-rounds in (
+    let l = c.loop-round in (
       passable a.k a.states a.lists (length a.passes.now) a.accepting.now a.table.now s.requires
           (first.next_below.ensures first.if-not-next_below.false),
       omega (arith, s.requires.5, first.alone.auto.passes, l.invariant.0),
@@ -63,7 +63,7 @@ pass_round-requires-in-loop-rounds c =
 pub shape_of-passes-then-not-pass_round : goal.shape_of-passes-then-not-pass_round
 shape_of-passes-then-not-pass_round c =
     let last = c in
-    last.pass_round-in-loop-rounds.auto.passes ∙ last.loop-rounds.invariant.0
+    last.pass_round-in-loop-round.auto.passes ∙ last.loop-round.invariant.0
     ∙ last.alone.auto.passes
 
 pub returns-then-not-pass_round : goal.returns-then-not-pass_round
@@ -71,29 +71,14 @@ returns-then-not-pass_round c =
     let first = c in
     let a = first.args in
     let next = first.next_below.ensures first.if-not-next_below.false in
-    let pass-round = c.pass_round-in-loop-rounds in
+    let pass-round = c.pass_round-in-loop-round in
     λ e. (
       closed-passing a.k a.states a.lists a.accepting.now a.table.now pass-round.new.passes next
           pass-round.ensures.sound (pass-round.ensures.closed c.if-not-pass_round.true),
       next,
     )
 
-pub overflow_add-rounds : goal.overflow_add-rounds
-overflow_add-rounds c =
-    let test = c in
-    let s = test in
-    omega (arith, test.loop-rounds-test.true, s.requires.0, s.requires.1)
-
-pub loop-rounds-smaller : goal.loop-rounds-smaller
-loop-rounds-smaller c = omega (arith, c.loop-rounds-test.true)
-
-pub loop-rounds-preserved : goal.loop-rounds-preserved
-loop-rounds-preserved c =
+pub loop-round-preserved : goal.loop-round-preserved
+loop-round-preserved c =
     let last = c in
-    (last.pass_round-in-loop-rounds.auto.passes ∙ last.loop-rounds.invariant.0, last.pass_round-in-loop-rounds.ensures.sound)
-
-pub shape_of-passes : goal.shape_of-passes
-shape_of-passes c = c.loop-rounds.invariant.0 ∙ c.alone.auto.passes
-
-pub returns : goal.returns
-returns c = λ e. absurd (false≢true e)
+    (last.pass_round-in-loop-round.auto.passes ∙ last.loop-round.invariant.0, last.pass_round-in-loop-round.ensures.sound)

@@ -4,6 +4,3 @@ use Rattle.verdict.proofs.path.write_path.Given as goal
 
 abbrev pub invariant-loop-k : goal.invariant-loop-k
 invariant-loop-k l = WriteLoop l.workspace l.i l.labels l.initial.path l.j l.k l.path
-
-abbrev pub decreases-loop-k : goal.decreases-loop-k
-decreases-loop-k l = l.k

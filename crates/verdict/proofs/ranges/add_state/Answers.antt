@@ -14,16 +14,13 @@ returns-then-words-t-eq1 c =
     state-there a.reached.now a.t a.words.now (λ i. search rules) (tested (a.t % 64) (get_or a.words.now (a.t / 64) 0) c.if-words-t-eq1.true) s.requires.3
 
 pub loop-j-init : goal.loop-j-init
-loop-j-init c = (omega arith, c.requires.0, state-start c.args.reached.now c.args.t _)
+loop-j-init c = (c.requires.0, state-start c.args.reached.now c.args.t _)
 
 pub bounds-words-j : goal.bounds-words-j
-bounds-words-j c = omega (arith, c.loop-j.invariant.1, c.loop-j-test.true)
+bounds-words-j c = omega (arith, c.loop-j.invariant.0, c.loop-j-test.true)
 
 pub bounds-words-j-in-loop-j : goal.bounds-words-j-in-loop-j
-bounds-words-j-in-loop-j c = omega (arith, c.loop-j.invariant.1, c.loop-j-test.true)
-
-pub loop-j-smaller : goal.loop-j-smaller
-loop-j-smaller c = omega (arith, c.loop-j-test.true)
+bounds-words-j-in-loop-j c = omega (arith, c.loop-j.invariant.0, c.loop-j-test.true)
 
 pub loop-j-preserved : goal.loop-j-preserved
 loop-j-preserved c =
@@ -31,17 +28,16 @@ loop-j-preserved c =
     let a = s.args in
     let l = c.loop-j in
     let test = c.loop-j-test in (
-      omega (arith, test.true),
-      length-set l.words l.j _ ∙ l.invariant.1,
+      length-set l.words l.j _ ∙ l.invariant.0,
       state-turn a.reached.now a.t l.j _ l.words (λ i. search rules)
-          (omega (arith, test.true, l.invariant.1)) (omega arith) l.invariant.2,
+          (omega (arith, test.true, l.invariant.0)) (omega arith) l.invariant.1,
     )
 
 pub shape_of-words : goal.shape_of-words
-shape_of-words c = c.loop-j.invariant.1 ∙ sym c.requires.0
+shape_of-words c = c.loop-j.invariant.0 ∙ sym c.requires.0
 
 pub returns : goal.returns
 returns c =
     let a = c.args in
     let l = c.loop-j in
-    state-end a.reached.now a.t l.j _ _ (omega (arith, c.loop-j-test.false, l.invariant.0)) l.invariant.2
+    state-end a.reached.now a.t l.j _ _ (omega (arith, c.loop-j-test.false)) l.invariant.1

@@ -9,64 +9,65 @@ use Rattle.verdict.specs.Ranges.{PlaceNew}
 use Rattle.verdict.specs.RangesTurns.{AddsLeft, left-start, left-turn, left_end}
 use Rattle.verdict.specs.RangesLists.{place-closed, place-ready, list-end}
 use native.Mathlib.Omega.{arith}
+use Rattle.std.proofs.Common.{rules}
 use Rattle.verdict.proofs.ranges.list_ranges.Goals as goal
 
-pub loop-rest-init : goal.loop-rest-init
-loop-rest-init c =
+pub loop-i-init : goal.loop-i-init
+loop-i-init c =
     let s = c in
-    let a = s.args in (
+    let a = s.args in
+    rw (c.into_iter-i-iterator.ensures.into_iter_gives, c.members-i-items.ensures) (
+      search rules,
+      search rules,
       omega arith,
       s.requires.1,
       s.requires.2.closed,
-      subst (λ z. AddsLeft (λ x. PlaceNew a.n (number_of a.set.now) a.before.now a.reached.now a.table.now a.accepting a.v a.base (1 + x)) (inner_of a.entered a.size) a.words.now a.words.now z)
-          (sym c.inner-rest.ensures) (left-start (inner_of a.entered a.size) a.words.now),
+      subst (λ z. AddsLeft (λ x. PlaceNew a.tables.states (number_of a.set.now) a.ways.before.now a.ways.ended.now a.tables.table.now a.accepting a.v a.base (1 + x)) (inner_of a.entered a.size) a.words.now a.words.now z)
+          (sym c.inner.ensures) (left-start (inner_of a.entered a.size) a.words.now),
     )
 
-pub overflow_cast-p : goal.overflow_cast-p
-overflow_cast-p c = omega (arith, trailing_le 64 c.loop-rest.rest)
-
 pub overflow_add-p : goal.overflow_add-p
-overflow_add-p c = omega (arith, trailing_le 64 c.loop-rest.rest)
+overflow_add-p c =
+    let (some, is, left) = c.in-Some.ensures.steps in
+    omega (arith, trailing_le 64 c.loop-i.i-iterator.rest)
 
 pub place_range-requires : goal.place_range-requires
 place_range-requires c =
+    let (some, is, left) = c.in-Some.ensures.steps in
+    let here = rw (← is) at (trailing-here 64 c.loop-i.i-iterator.rest some c.loop-i.invariant.2) in
     let s = c in
     let a = s.args in
-    let l = c.loop-rest in (
+    let l = c.loop-i in (
       s.requires.0,
-      l.invariant.1,
-      place-ready a.n (number_of a.set.now) a.accepting a.entered a.size a.v a.base a.before.now a.reached.now a.table.now a.words.now s.requires.2 (count_trailing_zeros 64 l.rest) l.rest l.words
-          (trailing-here 64 l.rest c.loop-rest-test.true l.invariant.0) l.invariant.3 l.invariant.2,
+      l.invariant.3,
+      place-ready a.tables.states (number_of a.set.now) a.accepting a.entered a.size a.v a.base a.ways.before.now a.ways.ended.now a.tables.table.now a.words.now s.requires.2 c.in-Some.i l.i-iterator.rest l.words
+          here l.invariant.5 l.invariant.4,
     )
 
-pub overflow_sub-rest : goal.overflow_sub-rest
-overflow_sub-rest c = omega (arith, c.loop-rest-test.true)
-
-pub loop-rest-smaller : goal.loop-rest-smaller
-loop-rest-smaller c =
-    let l = c.loop-rest in
-    omega (arith, c.loop-rest-test.true, and_le_r l.rest (l.rest - 1))
-
-pub loop-rest-preserved : goal.loop-rest-preserved
-loop-rest-preserved c =
+pub loop-i-preserved : goal.loop-i-preserved
+loop-i-preserved c =
+    let (some, is, left) = c.in-Some.ensures.steps in
     let s = c in
     let a = s.args in
-    let l = c.loop-rest in
-    let place-range = c.place_range in (
-      omega (arith, l.invariant.0, and_le_r l.rest (l.rest - 1)),
-      place-range.auto.words ∙ l.invariant.1,
-      place-closed a.n (number_of a.set.now) a.accepting a.entered a.size a.v a.base a.before.now a.reached.now a.table.now a.words.now s.requires.2 (count_trailing_zeros 64 l.rest) l.words place-range.new.words place-range.ensures l.invariant.2,
-      left-turn {New = λ x. PlaceNew a.n (number_of a.set.now) a.before.now a.reached.now a.table.now a.accepting a.v a.base (1 + x)} (inner_of a.entered a.size) _ l.words _ l.rest c.loop-rest-test.true l.invariant.0 place-range.ensures
-          l.invariant.3,
+    let l = c.loop-i in
+    let place-range = c.place_range in
+    rw left (
+      search rules,
+      search rules,
+      omega (arith, l.invariant.2, and_le_r l.i-iterator.rest (l.i-iterator.rest - 1)),
+      place-range.auto.words ∙ l.invariant.3,
+      place-closed a.tables.states (number_of a.set.now) a.accepting a.entered a.size a.v a.base a.ways.before.now a.ways.ended.now a.tables.table.now a.words.now s.requires.2 (count_trailing_zeros 64 l.i-iterator.rest) l.words place-range.new.words (rw is at place-range.ensures) l.invariant.4,
+      left-turn {New = λ x. PlaceNew a.tables.states (number_of a.set.now) a.ways.before.now a.ways.ended.now a.tables.table.now a.accepting a.v a.base (1 + x)} (inner_of a.entered a.size) _ l.words _ l.i-iterator.rest some l.invariant.2 (rw is at place-range.ensures)
+          l.invariant.5,
     )
 
 pub shape_of-words : goal.shape_of-words
-shape_of-words c = c.loop-rest.invariant.1 ∙ sym c.requires.1
+shape_of-words c = c.loop-i.invariant.3 ∙ sym c.requires.1
 
 pub returns : goal.returns
 returns c =
     let s = c in
     let a = s.args in
-    let l = c.loop-rest in
-    list-end a.n (number_of a.set.now) a.accepting a.entered a.size a.v a.base a.before.now a.reached.now a.table.now a.words.now s.requires.2 l.words
-    (left_end {New = λ x. PlaceNew a.n (number_of a.set.now) a.before.now a.reached.now a.table.now a.accepting a.v a.base (1 + x)} (inner_of a.entered a.size) _ l.words l.rest c.loop-rest-test.false l.invariant.3)
+    let l = c.loop-i in
+    list-end a.tables.states (number_of a.set.now) a.accepting a.entered a.size a.v a.base a.ways.before.now a.ways.ended.now a.tables.table.now a.words.now s.requires.2 l.words
+    (left_end {New = λ x. PlaceNew a.tables.states (number_of a.set.now) a.ways.before.now a.ways.ended.now a.tables.table.now a.accepting a.v a.base (1 + x)} (inner_of a.entered a.size) _ l.words l.i-iterator.rest c.in-None.ensures.steps.0 l.invariant.5)

@@ -17,7 +17,7 @@ end_range-requires c =
       r.beyond,
       r.few-places,
       r.closing,
-      joined-closed a.n (number_of a.set.now) a.accepting a.v a.base a.p a.before.now a.reached.now a.table.now a.words.now r joined join-ranges.ensures,
+      joined-closed a.tables.states (number_of a.set.now) a.accepting a.v a.base a.p a.ways.before.now a.ways.ended.now a.tables.table.now a.words.now r joined join-ranges.ensures,
       r.table-room,
       r.next,
     )
@@ -29,7 +29,7 @@ returns-then-accepting-p-eq1 c =
     let r = s.requires.2 in
     let join-ranges = c.join_ranges in
     let joined = join-ranges.new.words in
-    place-ends a.n (number_of a.set.now) a.accepting a.v a.base a.p a.before.now a.reached.now a.table.now a.words.now r joined join-ranges.ensures _ (tested a.p a.accepting c.if-accepting-p-eq1.true) c.end_range.ensures
+    place-ends a.tables.states (number_of a.set.now) a.accepting a.v a.base a.p a.ways.before.now a.ways.ended.now a.tables.table.now a.words.now r joined join-ranges.ensures _ (tested a.p a.accepting c.if-accepting-p-eq1.true) c.end_range.ensures
 
 pub returns-else-accepting-p-eq1 : goal.returns-else-accepting-p-eq1
 returns-else-accepting-p-eq1 c =
@@ -38,4 +38,4 @@ returns-else-accepting-p-eq1 c =
     let r = s.requires.2 in
     let join-ranges = c.join_ranges in
     let joined = join-ranges.new.words in
-    place-alone a.n (number_of a.set.now) a.accepting a.v a.base a.p a.before.now a.reached.now a.table.now a.words.now r joined join-ranges.ensures (not_tested a.p a.accepting c.if-accepting-p-eq1.false)
+    place-alone a.tables.states (number_of a.set.now) a.accepting a.v a.base a.p a.ways.before.now a.ways.ended.now a.tables.table.now a.words.now r joined join-ranges.ensures (not_tested a.p a.accepting c.if-accepting-p-eq1.false)

@@ -8,24 +8,21 @@ pub loop-v-init : goal.loop-v-init
 loop-v-init c =
     let s = c in
     let a = s.args in
-    (omega arith, s.requires.3, stepping-start a.n a.lists a.a a.enter.now a.sizes.now a.accepting.now a.before.now a.reached.now a.table.now (number_of a.set.now) s.requires.0 a.words.now s.requires.4)
+    (s.requires.3, stepping-start a.tables.states a.tables.lists a.a a.tables.enter.now a.tables.sizes.now a.tables.accepting.now a.ways.before.now a.ways.ended.now a.tables.table.now (number_of a.set.now) s.requires.0 a.words.now s.requires.4)
 
 pub list_ranges-requires : goal.list_ranges-requires
 list_ranges-requires c =
     let s = c in
     let a = s.args in
     let l = c.loop-v in
-    (s.requires.2, l.invariant.1, stepping-ready a.n a.lists a.a a.enter.now a.sizes.now a.accepting.now a.before.now a.reached.now a.table.now (number_of a.set.now) s.requires.0 l.v l.base l.words c.loop-v-test.true l.invariant.2)
+    (s.requires.2, l.invariant.0, stepping-ready a.tables.states a.tables.lists a.a a.tables.enter.now a.tables.sizes.now a.tables.accepting.now a.ways.before.now a.ways.ended.now a.tables.table.now (number_of a.set.now) s.requires.0 l.v l.base l.words c.loop-v-test.true l.invariant.1)
 
 pub overflow_add-base : goal.overflow_add-base
 overflow_add-base c =
     let s = c in
     let a = s.args in
     let l = c.loop-v in
-    omega (arith, (stepping-ready a.n a.lists a.a a.enter.now a.sizes.now a.accepting.now a.before.now a.reached.now a.table.now (number_of a.set.now) s.requires.0 l.v l.base l.words c.loop-v-test.true l.invariant.2).few)
-
-pub loop-v-smaller : goal.loop-v-smaller
-loop-v-smaller c = omega (arith, c.loop-v-test.true)
+    omega (arith, (stepping-ready a.tables.states a.tables.lists a.a a.tables.enter.now a.tables.sizes.now a.tables.accepting.now a.ways.before.now a.ways.ended.now a.tables.table.now (number_of a.set.now) s.requires.0 l.v l.base l.words c.loop-v-test.true l.invariant.1).few)
 
 pub loop-v-preserved : goal.loop-v-preserved
 loop-v-preserved c =
@@ -34,17 +31,16 @@ loop-v-preserved c =
     let l = c.loop-v in
     let list-ranges = c.list_ranges in
     let test = c.loop-v-test.true in (
-      omega (arith, test),
-      list-ranges.auto.words ∙ l.invariant.1,
-      stepping-turn a.n a.lists a.a a.enter.now a.sizes.now a.accepting.now a.before.now a.reached.now a.table.now (number_of a.set.now) s.requires.0 l.v l.base l.words test l.invariant.2 _ list-ranges.ensures,
+      list-ranges.auto.words ∙ l.invariant.0,
+      stepping-turn a.tables.states a.tables.lists a.a a.tables.enter.now a.tables.sizes.now a.tables.accepting.now a.ways.before.now a.ways.ended.now a.tables.table.now (number_of a.set.now) s.requires.0 l.v l.base l.words test l.invariant.1 _ list-ranges.ensures,
     )
 
 pub shape_of-words : goal.shape_of-words
-shape_of-words c = c.loop-v.invariant.1 ∙ sym c.requires.3
+shape_of-words c = c.loop-v.invariant.0 ∙ sym c.requires.3
 
 pub returns : goal.returns
 returns c =
     let s = c in
     let a = s.args in
     let l = c.loop-v in
-    stepping-end a.n a.lists a.a a.enter.now a.sizes.now a.accepting.now a.before.now a.reached.now a.table.now (number_of a.set.now) s.requires.0 l.v l.base l.words (omega (arith, c.loop-v-test.false, l.invariant.0)) l.invariant.2
+    stepping-end a.tables.states a.tables.lists a.a a.tables.enter.now a.tables.sizes.now a.tables.accepting.now a.ways.before.now a.ways.ended.now a.tables.table.now (number_of a.set.now) s.requires.0 l.v l.base l.words (omega (arith, c.loop-v-test.false)) l.invariant.1

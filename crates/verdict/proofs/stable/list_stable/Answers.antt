@@ -5,7 +5,7 @@ use native.Mathlib.Omega.{arith}
 use Rattle.verdict.proofs.stable.list_stable.Goals as goal
 
 pub loop-p-init : goal.loop-p-init
-loop-p-init c = (omega arith, omega arith, refl, list-start _ _ _ _ _ _ _ _)
+loop-p-init c = (refl, list-start _ _ _ _ _ _ _ _)
 
 pub classes_of-set-requires : goal.classes_of-set-requires
 classes_of-set-requires c =
@@ -17,16 +17,13 @@ pub is_like-requires : goal.is_like-requires
 is_like-requires c =
     let s = c in
     let l = c.loop-p in (
-      omega (arith, c.class_at-c.ensures, s.requires.6 l.p l.invariant.0 c.loop-p-test.true),
-      omega (arith, l.invariant.2, s.requires.7),
-      omega (arith, l.invariant.3.size, s.requires.8),
+      omega (arith, c.class_at-c.ensures, s.requires.6 l.p (omega arith) (omega arith)),
+      omega (arith, l.invariant.0, s.requires.7),
+      omega (arith, l.invariant.1.size, s.requires.8),
     )
 
-pub returns-then-not-is_like : goal.returns-then-not-is_like
-returns-then-not-is_like c = λ h. absurd (omega arith)
-
 pub overflow_shl-known : goal.overflow_shl-known
-overflow_shl-known c = omega (arith, c.class_at-c.ensures, c.requires.6 c.loop-p.p c.loop-p.invariant.0 c.loop-p-test.true)
+overflow_shl-known c = omega (arith, c.class_at-c.ensures, c.requires.6 c.loop-p.p (omega arith) (omega arith))
 
 pub loop-p-preserved : goal.loop-p-preserved
 loop-p-preserved c =
@@ -34,21 +31,19 @@ loop-p-preserved c =
     let l = c.loop-p in
     let f = c.is_like in
     let class = c.class_at-c in (
-      omega arith,
-      omega (arith, c.loop-p-test.true),
-      f.auto.merged ∙ l.invariant.2,
+      f.auto.merged ∙ l.invariant.0,
       list-turn s.args.v s.args.base l.p s.args.before.now s.args.kinds.now s.args.classes.now s.args.already
           s.args.merged.now s.args.entering.now l.known l.merged l.entering f.new.merged
-          f.new.entering class.result c.classes_of-set.result _ l.invariant.0
-          (omega (arith, class.ensures, s.requires.6 l.p l.invariant.0 c.loop-p-test.true)) class.ensures c.classes_of-set.ensures refl
-          (f.ensures c.if-not-is_like.false) l.invariant.3,
+          f.new.entering class.result c.classes_of-set.result _ (omega arith)
+          (omega (arith, class.ensures, s.requires.6 l.p (omega arith) (omega arith))) class.ensures c.classes_of-set.ensures refl
+          (f.ensures c.if-not-is_like.false) l.invariant.1,
     )
 
 pub returns : goal.returns
 returns c =
     let s = c in
     let l = c.loop-p in
-    let e : l.p - 1 ≡ s.args.size = omega (arith, l.invariant.0, l.invariant.1, c.loop-p-test.false) in
-    λ h. subst
+    let e : l.p - 1 ≡ s.args.size = omega (arith, c.loop-p-test.false) in
+    subst
     (λ (z : ℕ). ListLike s.args.v s.args.base z s.args.before.now s.args.kinds.now s.args.classes.now s.args.already
-    s.args.merged.now s.args.entering.now l.known l.merged l.entering) e l.invariant.3
+    s.args.merged.now s.args.entering.now l.known l.merged l.entering) e l.invariant.1

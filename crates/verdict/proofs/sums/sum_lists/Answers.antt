@@ -7,7 +7,7 @@ use native.Mathlib.Omega.{arith}
 use Rattle.verdict.proofs.sums.sum_lists.Goals as goal
 
 pub loop-v-init : goal.loop-v-init
-loop-v-init c = (omega arith, refl, sums-start _ _ _)
+loop-v-init c = (refl, sums-start _ _ _)
 
 pub overflow_mul-count-in-loop-v-2 : goal.overflow_mul-count-in-loop-v-2
 overflow_mul-count-in-loop-v-2 c =
@@ -27,7 +27,7 @@ sum_list-requires c =
     let l = c.loop-v in (
       omega (arith, s.requires.1),
       omega (arith, c.loop-v-test.true),
-      omega (arith, s.requires.2, l.invariant.1, next-list (16 * quarters s.args.n) l.v s.args.lists c.loop-v-test.true),
+      omega (arith, s.requires.2, l.invariant.0, next-list (16 * quarters s.args.n) l.v s.args.lists c.loop-v-test.true),
     )
 
 pub loop-v-preserved : goal.loop-v-preserved
@@ -36,20 +36,19 @@ loop-v-preserved c =
     let l = c.loop-v in
     let call = c.sum_list in
     let h = c.loop-v-test.true in (
-      omega (arith, h),
-      call.auto.ended ∙ l.invariant.1,
-      sums-turn s.args.lists s.args.n l.v _ l.ended _ h s.requires.1 l.invariant.2 call.ensures,
+      call.auto.ended ∙ l.invariant.0,
+      sums-turn s.args.lists s.args.n l.v _ l.ended _ h s.requires.1 l.invariant.1 call.ensures,
     )
 
 pub shape_of-ended : goal.shape_of-ended
-shape_of-ended c = c.loop-v.invariant.1
+shape_of-ended c = c.loop-v.invariant.0
 
 pub returns : goal.returns
 returns c =
     let s = c in
     let l = c.loop-v in
-    let e : l.v ≡ s.args.lists = omega (arith, l.invariant.0, c.loop-v-test.false) in (
-      sums-end s.args.lists s.args.n s.args.ended.now l.ended s.requires.1 (omega (arith, s.requires.2, l.invariant.1))
-          (subst (SumsBefore s.args.lists s.args.n s.args.ended.now l.ended) e l.invariant.2),
-      l.invariant.2.below,
+    let e : l.v ≡ s.args.lists = omega (arith, c.loop-v-test.false) in (
+      sums-end s.args.lists s.args.n s.args.ended.now l.ended s.requires.1 (omega (arith, s.requires.2, l.invariant.0))
+          (subst (SumsBefore s.args.lists s.args.n s.args.ended.now l.ended) e l.invariant.1),
+      l.invariant.1.below,
     )

@@ -1,10 +1,6 @@
 -- The loop's invariant: the set holds the accepting states below q.
-use Rattle.std.specs.Prelude.{◌-◌, ◌≤◌}
 use Rattle.verdict.specs.Missing.{Yields}
 use Rattle.verdict.proofs.verdict.yielding.Given as goal
 
 abbrev pub invariant-loop-q : goal.invariant-loop-q
-invariant-loop-q l = (l.q ≤ l.states) × Yields l.flags l.w l.q l.set.words
-
-abbrev pub decreases-loop-q : goal.decreases-loop-q
-decreases-loop-q l = l.states - l.q
+invariant-loop-q l = Yields l.flags l.w l.q l.set.words

@@ -9,7 +9,7 @@ use native.Mathlib.Omega.{arith}
 use Rattle.verdict.proofs.wide_rows.lay_rows.Goals as goal
 
 pub loop-q-init : goal.loop-q-init
-loop-q-init c = (omega arith, omega arith, refl, record { exact = λ x y h. absurd (omega arith) })
+loop-q-init c = (omega arith, refl, record { exact = λ x y h. absurd (omega arith) })
 
 pub overflow_mul-at : goal.overflow_mul-at
 overflow_mul-at c =
@@ -45,7 +45,7 @@ bounds-laid-at-in-loop-q c =
     let p = s.requires in
     let l = c.loop-q in
     let room : 2 * l.q + 1 < length (set l.laid (2 * l.q) 0) =
-    omega (arith, length-set l.laid (2 * l.q) 0, l.invariant.2, p.5, c.loop-q-test.true) in
+    omega (arith, length-set l.laid (2 * l.q) 0, l.invariant.1, p.5, c.loop-q-test.true) in
     room
 
 pub row_at-requires : goal.row_at-requires
@@ -57,7 +57,7 @@ row_at-requires c =
       p.4,
       omega arith,
       omega arith,
-      omega (arith, p.1, p.3, l.invariant.1, state-places a.w a.states l.q c.loop-q-test.true),
+      omega (arith, p.1, p.3, l.invariant.0, state-places a.w a.states l.q c.loop-q-test.true),
     )
 
 pub follow_part-requires : goal.follow_part-requires
@@ -70,7 +70,7 @@ follow_part-requires c =
         arith,
         length-set l.laid (2 * l.q) 0,
         length-set (set l.laid (2 * l.q) 0) (2 * l.q + 1) 0,
-        l.invariant.2,
+        l.invariant.1,
         p.5,
         c.loop-q-test.true,
       ),
@@ -83,7 +83,7 @@ overflow_add-from c =
     let test = c.loop-q-test in
     let a = s.args in
     let p = s.requires in
-    omega (arith, p.1, p.3, l.invariant.1, state-places a.w a.states l.q test.true)
+    omega (arith, p.1, p.3, l.invariant.0, state-places a.w a.states l.q test.true)
 
 pub row_at-requires-in-loop-q : goal.row_at-requires-in-loop-q
 row_at-requires-in-loop-q c =
@@ -95,7 +95,7 @@ row_at-requires-in-loop-q c =
       p.4,
       omega (arith, p.1),
       omega (arith, p.2),
-      omega (arith, p.1, p.3, l.invariant.1, state-places a.w a.states l.q test.true),
+      omega (arith, p.1, p.3, l.invariant.0, state-places a.w a.states l.q test.true),
     )
 
 pub follow_part-requires-in-loop-q : goal.follow_part-requires-in-loop-q
@@ -111,7 +111,7 @@ follow_part-requires-in-loop-q c =
         follow-part.auto.laid,
         length-set l.laid (2 * l.q) 0,
         length-set (set l.laid (2 * l.q) 0) (2 * l.q + 1) 0,
-        l.invariant.2,
+        l.invariant.1,
         p.5,
         test.true,
       ),
@@ -124,15 +124,7 @@ overflow_add-from-in-loop-q c =
     let l = c.loop-q in
     let test = c.loop-q-test in
     let a = s.args in
-    omega (arith, p.3, l.invariant.1, state-places a.w a.states l.q test.true)
-
-pub overflow_add-q : goal.overflow_add-q
-overflow_add-q c =
-    let s = c in
-    let test = c.loop-q-test in
-    let a = s.args in
-    let p = s.requires in
-    omega (arith, test.true, few-states a.states a.w (omega (arith, p.1)) p.3)
+    omega (arith, p.3, l.invariant.0, state-places a.w a.states l.q test.true)
 
 pub loop-q-preserved : goal.loop-q-preserved
 loop-q-preserved c =
@@ -146,21 +138,20 @@ loop-q-preserved c =
     let a = s.args in
     let l = c.loop-q in
     let h = test.true in (
-      omega (arith, h),
-      next-column a.w l.from l.q l.invariant.1,
+      next-column a.w l.from l.q l.invariant.0,
       follow-part2.auto.laid ∙ follow-part.auto.laid ∙ length-set (set l.laid (2 * l.q) 0) (2 * l.q + 1) 0
-          ∙ length-set l.laid (2 * l.q) 0 ∙ l.invariant.2,
+          ∙ length-set l.laid (2 * l.q) 0 ∙ l.invariant.1,
       lay-turn a.rows.now l.laid follow-part.new.laid follow-part2.new.laid a.w l.q l.from
-          (number_of a.words.now) row_at.result row-at2.result p.1 p.2 l.invariant.1 (omega (arith, l.invariant.2, p.5, h))
-          row_at.ensures row-at2.ensures follow-part.ensures follow-part2.ensures l.invariant.3,
+          (number_of a.words.now) row_at.result row-at2.result p.1 p.2 l.invariant.0 (omega (arith, l.invariant.1, p.5, h))
+          row_at.ensures row-at2.ensures follow-part.ensures follow-part2.ensures l.invariant.2,
     )
 
 pub shape_of-laid : goal.shape_of-laid
-shape_of-laid c = c.loop-q.invariant.2
+shape_of-laid c = c.loop-q.invariant.1
 
 pub returns : goal.returns
 returns c =
     let s = c in
     let a = s.args in
     let l = c.loop-q in
-    lay-end a.rows.now l.laid a.w l.q a.states (number_of a.words.now) (omega (arith, c.loop-q-test.false)) l.invariant.3
+    lay-end a.rows.now l.laid a.w l.q a.states (number_of a.words.now) (omega (arith, c.loop-q-test.false)) l.invariant.2

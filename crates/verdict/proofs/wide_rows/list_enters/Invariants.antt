@@ -1,12 +1,8 @@
--- The loop's invariant: the rows of the labels before a have the occurrences that they enter (ListEnters). The measure is the number of
--- labels left.
-use Rattle.std.specs.Prelude.{◌≡◌, ◌-◌, ◌≤◌, length}
+-- The loop's invariant: the rows of the labels before a have the occurrences that they enter (ListEnters).
+use Rattle.std.specs.Prelude.{◌≡◌, length}
 use Rattle.verdict.specs.WideRowsPrepared.{ListEnters}
 use Rattle.verdict.proofs.wide_rows.list_enters.Given as goal
 
 abbrev pub invariant-loop-a : goal.invariant-loop-a
 invariant-loop-a l =
-    (l.a ≤ 32) × (length l.rows ≡ length l.initial.rows) × ListEnters l.v l.a l.size l.base l.enter l.initial.rows l.rows
-
-abbrev pub decreases-loop-a : goal.decreases-loop-a
-decreases-loop-a l = 32 - l.a
+    (length l.rows ≡ length l.initial.rows) × ListEnters l.v l.a l.size l.base l.enter l.initial.rows l.rows

@@ -1,12 +1,9 @@
--- The loop's invariant: the lists before v are prepared (Preparing). The measure is the number of lists left.
-use Rattle.std.specs.Prelude.{◌≡◌, ◌-◌, ◌≤◌, length}
+-- The loop's invariant: the lists before v are prepared (Preparing).
+use Rattle.std.specs.Prelude.{◌≡◌, length}
 use Rattle.verdict.specs.Tables.{occupied}
 use Rattle.verdict.specs.WideRowsPrepared.{Preparing}
 use Rattle.verdict.proofs.wide_rows.prepare_rows.Given as goal
 
 abbrev pub invariant-loop-v : goal.invariant-loop-v
 invariant-loop-v l =
-    (l.v ≤ l.lists) × (l.base ≡ occupied l.sizes 0 l.v) × (length l.rows ≡ length l.initial.rows) × Preparing l.v l.follow l.enter l.sizes l.accepting l.rows
-
-abbrev pub decreases-loop-v : goal.decreases-loop-v
-decreases-loop-v l = l.lists - l.v
+    (l.base ≡ occupied l.sizes 0 l.v) × (length l.rows ≡ length l.initial.rows) × Preparing l.v l.follow l.enter l.sizes l.accepting l.rows

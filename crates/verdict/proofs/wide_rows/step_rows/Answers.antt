@@ -13,7 +13,7 @@ loop-q-init c =
     let s = c in
     let p = s.requires in
     let a = s.args in
-    (omega arith, omega arith, p.11, walked_start _ _ _ _ _ _ a.words.now p.12)
+    (omega arith, p.11, walked_start _ _ _ _ _ _ a.words.now p.12)
 
 pub put_row-requires : goal.put_row-requires
 put_row-requires c =
@@ -22,10 +22,10 @@ put_row-requires c =
     let a = s.args in
     let p = s.requires in
     let l = c.loop-q in (
-      l.invariant.2,
+      l.invariant.1,
       p.5,
       p.6,
-      omega (arith, p.8, l.invariant.1, state-places a.w a.states l.q test.true),
+      omega (arith, p.8, l.invariant.0, state-places a.w a.states l.q test.true),
       high-below a.w a.lists a.a a.rows.now a.ended.now a.laid.now a.states l.q p.10 test.true p.5
           (omega (
             arith,
@@ -48,7 +48,7 @@ overflow_add-from c =
     let l = c.loop-q in
     let a = s.args in
     let test = c.loop-q-test in
-    omega (arith, p.8, l.invariant.1, state-places a.w a.states l.q test.true)
+    omega (arith, p.8, l.invariant.0, state-places a.w a.states l.q test.true)
 
 pub loop-q-preserved : goal.loop-q-preserved
 loop-q-preserved c =
@@ -57,18 +57,17 @@ loop-q-preserved c =
     let a = s.args in
     let l = c.loop-q in
     let Walked = RowsWalked a.w a.lists a.a a.rows.now a.ended.now a.laid.now in (
-      omega (arith, test.true),
-      next-column a.w l.from l.q l.invariant.1,
-      (elim c.if-low-high-ne0.branch [ then-low-high-ne0 w ↦ ap length w.words-is ∙ w.put_row.auto.words ∙ l.invariant.2 | else-low-high-ne0 w ↦ ap length w.words-is ∙ l.invariant.2 ]),
+      next-column a.w l.from l.q l.invariant.0,
+      (elim c.if-low-high-ne0.branch [ then-low-high-ne0 w ↦ ap length w.words-is ∙ w.put_row.auto.words ∙ l.invariant.1 | else-low-high-ne0 w ↦ ap length w.words-is ∙ l.invariant.1 ]),
       (elim c.if-low-high-ne0.branch [
         | then-low-high-ne0 w ↦
             subst (λ z. Walked z c.if-low-high-ne0.alone (l.q + 1)) (sym w.words-is) (subst (λ z. Walked w.put_row.new.words z (l.q + 1)) (sym w.alone-is)
             (walked-some a.w a.lists a.a a.rows.now a.ended.now a.laid.now l.words w.put_row.new.words l.alone l.q
-            w.ended_row-alone.result l.from l.invariant.1 w.put_row.ensures w.ended_row-alone.ensures l.invariant.3))
+            w.ended_row-alone.result l.from l.invariant.0 w.put_row.ensures w.ended_row-alone.ensures l.invariant.2))
         | else-low-high-ne0 w ↦
             subst (λ z. Walked z c.if-low-high-ne0.alone (l.q + 1)) (sym w.words-is) (subst (λ z. Walked l.words z (l.q + 1)) (sym w.alone-is)
             (walked_none a.w a.lists a.a a.rows.now a.ended.now a.laid.now l.words l.alone l.q w.if-low-high-ne0.false
-            l.invariant.3))
+            l.invariant.2))
       ]),
     )
 
@@ -78,9 +77,9 @@ put_alone-requires c =
     let a = s.args in
     let p = s.requires in
     let l = c.loop-q in (
-      l.invariant.2,
+      l.invariant.1,
       alone-room a.w a.lists a.a a.rows.now a.ended.now a.laid.now a.states l.q l.alone
-          l.words p.3 l.invariant.0 p.8 (omega (arith, p.5)) l.invariant.3,
+          l.words p.3 (omega arith) p.8 (omega (arith, p.5)) l.invariant.2,
     )
 
 pub shape_of-words : goal.shape_of-words
@@ -88,7 +87,7 @@ shape_of-words c =
     let s = c in
     let l = c.loop-q in
     let p = s.requires in
-    c.put_alone.auto.words ∙ l.invariant.2 ∙ sym p.11
+    c.put_alone.auto.words ∙ l.invariant.1 ∙ sym p.11
 
 pub returns : goal.returns
 returns c =
@@ -99,7 +98,7 @@ returns c =
     let p = s.requires in
     let l = c.loop-q in
     let stepped = walked_end a.w a.lists a.a a.rows.now a.ended.now a.laid.now a.states l.q l.alone l.words
-    put_alone.new.words (omega (arith, l.invariant.0, test.false)) l.invariant.3 put_alone.ensures in (
+    put_alone.new.words (omega (arith, test.false)) l.invariant.2 put_alone.ensures in (
       stepped,
       stepped-below a.w a.lists a.a a.rows.now a.ended.now a.laid.now a.states _ p.10 p.3 (omega (arith, p.5))
           stepped,

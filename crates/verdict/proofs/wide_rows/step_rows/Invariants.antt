@@ -1,11 +1,8 @@
--- The loop's invariant: the rows of the states before q are stepped (RowsWalked). The measure is the number of states left.
-use Rattle.std.specs.Prelude.{◌≡◌, ◌-◌, ◌*◌, ◌≤◌, length}
+-- The loop's invariant: the rows of the states before q are stepped (RowsWalked).
+use Rattle.std.specs.Prelude.{◌≡◌, ◌*◌, length}
 use Rattle.verdict.specs.WideRowsTurns.{RowsWalked}
 use Rattle.verdict.proofs.wide_rows.step_rows.Given as goal
 
 abbrev pub invariant-loop-q : goal.invariant-loop-q
 invariant-loop-q l =
-    (l.q ≤ l.states) × (l.from ≡ l.w * l.q) × (length l.words ≡ 16) × RowsWalked l.w l.lists l.a l.rows l.ended l.laid l.words l.alone l.q
-
-abbrev pub decreases-loop-q : goal.decreases-loop-q
-decreases-loop-q l = l.states - l.q
+    (l.from ≡ l.w * l.q) × (length l.words ≡ 16) × RowsWalked l.w l.lists l.a l.rows l.ended l.laid l.words l.alone l.q

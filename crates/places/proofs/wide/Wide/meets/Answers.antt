@@ -8,7 +8,7 @@ use native.Mathlib.Omega.{arith}
 use Rattle.places.proofs.wide.Wide.meets.Goals as goal
 
 pub loop-i-init : goal.loop-i-init
-loop-i-init c = (omega arith, λ k h. absurd (omega arith))
+loop-i-init c = λ k h. absurd (omega arith)
 
 pub returns-then-words-i-ne0 : goal.returns-then-words-i-ne0
 returns-then-words-i-ne0 c =
@@ -19,7 +19,7 @@ returns-then-words-i-ne0 c =
     l.i c.if-words-i-ne0.true)))
 
 pub loop-i-preserved : goal.loop-i-preserved
-loop-i-preserved c = (omega arith, below_more _ _ c.loop-i.invariant.1 c.if-words-i-ne0.false)
+loop-i-preserved c = below_more _ _ c.loop-i.invariant c.if-words-i-ne0.false
 
 pub returns : goal.returns
 returns c =
@@ -29,4 +29,4 @@ returns c =
     let y = array_count 16 s.args.other.words _ s.well_formed.1.0.1.1.0 in
     sym (ap not (eq-eqb _ 0 (number-apart s.args.self.words s.args.other.words
     (array-words 16 s.args.self.words _ s.well_formed.0.1.1.0) (array-words 16 s.args.other.words _ s.well_formed.1.0.1.1.0)
-    (λ k. words-apart s.args.self.words s.args.other.words l.i (omega arith) (omega arith) l.invariant.1 k))))
+    (λ k. words-apart s.args.self.words s.args.other.words l.i (omega arith) (omega arith) l.invariant k))))

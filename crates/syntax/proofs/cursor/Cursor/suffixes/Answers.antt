@@ -1,25 +1,16 @@
 use Prim.Native.Nat.{ℕ}
 use mathlib.Core.Bool.{true, false, ◌||◌, or-true}
-use mathlib.Core.Logic.{◌⊎◌, inl, inr}
 use mathlib.Core.Path.{◌≡◌, refl, ap, ap₂, ◌∙◌}
 use lib.Dec.{eqb}
 use lib.ListN.{get_or}
-use borrow.Author.Rules.{rules}
 use borrow.Author.Tests.{eq-eqb, ne_eqb}
-use Rattle.syntax.specs.declared.cursor.Moved.{Moved}
-use Rattle.syntax.specs.declared.cursor.Moved.TheVariants.{To}
+use Rattle.std.specs.Prelude.{Some}
 use Rattle.syntax.specs.Byte.{asterisk, question}
-use Rattle.syntax.specs.Place.{cursor_at}
+use Rattle.syntax.specs.Place.{Moved, cursor_at}
 use Rattle.syntax.proofs.Front.{suffix, past-suffixes, passed, stopped, ended}
+use native.Mathlib.Omega.{arith}
 use Rattle.syntax.proofs.cursor.Cursor.suffixes.Goals as goal
-
--- The arms of the match are the test.
-marked : (b : ℕ) → (b ≡ asterisk) ⊎ (b ≡ question) → suffix b ≡ true
-marked b (inl e) = ap (λ t. t || eqb b question) (eq-eqb b asterisk e)
-marked b (inr e) = ap (λ t. eqb b asterisk || t) (eq-eqb b question e) ∙ or-true (eqb b asterisk)
-
-unmarked : (b : ℕ) → (((b ≡ asterisk) ⊎ (b ≡ question)) → ⊥) → suffix b ≡ false
-unmarked b f = ap₂ ◌||◌ (ne_eqb b asterisk (λ e. f (inl e))) (ne_eqb b question (λ e. f (inr e)))
+use Rattle.syntax.proofs.cursor.Cursor.suffixes.Goals.{else-s-i-ne42-via-then-s-i-ne42+else-s-i-ne63, else-s-i-ne42-via-else-s-i-ne42}
 
 pub loop-i-init : goal.loop-i-init
 loop-i-init c = refl
@@ -28,17 +19,24 @@ pub loop-i-preserved : goal.loop-i-preserved
 loop-i-preserved c =
     let s = c.args.s.now in
     let l = c.loop-i in
-    passed suffix s l.i c.loop-i-test.true (marked _ c.in-42.is) ∙ l.invariant
+    let b : ℕ = get_or s l.i 0 in
+    let mark : suffix b ≡ true =
+    elim c.else-s-i-ne42.branch [
+      | else-s-i-ne42-via-then-s-i-ne42+else-s-i-ne63 w ↦
+          ap (λ t. eqb b asterisk || t) (eq-eqb b question w.if-s-i-ne63.false) ∙ or-true (eqb b asterisk)
+      | else-s-i-ne42-via-else-s-i-ne42 w ↦ ap (λ t. t || eqb b question) (eq-eqb b asterisk w.if-s-i-ne42.false)
+    ] in
+    passed suffix s l.i c.loop-i-test.true mark ∙ l.invariant
 
-pub returns-in_default : goal.returns-in_default
-returns-in_default c t =
+pub returns-then-s-i-ne63 : goal.returns-then-s-i-ne63
+returns-then-s-i-ne63 c t =
     let s = c.args.s.now in
     let l = c.loop-i in
-    let other : ((get_or s l.i 0 ≡ asterisk) ⊎ (get_or s l.i 0 ≡ question)) → ⊥ = search rules in
-    ap {B = Moved} To (stopped suffix s l.i c.loop-i-test.true (unmarked _ other) ∙ ap (cursor_at s) l.invariant) ∙ past-suffixes s t _
+    let other : suffix (get_or s l.i 0) ≡ false = ap₂ ◌||◌ (ne_eqb _ asterisk c.if-s-i-ne42.true) (ne_eqb _ question c.if-s-i-ne63.true) in
+    ap {B = Moved} Some (stopped suffix s l.i (omega arith) other ∙ ap (cursor_at s) l.invariant) ∙ past-suffixes s t _
 
 pub returns : goal.returns
 returns c t =
     let s = c.args.s.now in
     let l = c.loop-i in
-    ap {B = Moved} To (ended suffix s l.i c.loop-i-test.false ∙ ap (cursor_at s) l.invariant) ∙ past-suffixes s t _
+    ap {B = Moved} Some (ended suffix s l.i (omega arith) ∙ ap (cursor_at s) l.invariant) ∙ past-suffixes s t _

@@ -1,9 +1,0 @@
--- `follow_pairs` is safe and ends: there are 64 places.
-use Prim.Native.Nat.{◌-◌, ◌≤◌}
-use Rattle.cases.proofs.images.follow_pairs.Given as goal
-
-abbrev pub invariant-loop-p : goal.invariant-loop-p
-invariant-loop-p l = l.p ≤ 64
-
-abbrev pub decreases-loop-p : goal.decreases-loop-p
-decreases-loop-p l = 64 - l.p

@@ -1,9 +1,0 @@
--- `put_images` is safe and ends: the standings are at most 64.
-use Prim.Native.Nat.{◌-◌, ◌≤◌}
-use Rattle.cases.proofs.images.put_images.Given as goal
-
-abbrev pub invariant-loop-s : goal.invariant-loop-s
-invariant-loop-s l = l.s ≤ l.n
-
-abbrev pub decreases-loop-s : goal.decreases-loop-s
-decreases-loop-s l = l.n - l.s
