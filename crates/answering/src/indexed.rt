@@ -1,6 +1,5 @@
-// A table of links that has been tested.
-ghost use Rattle.std.specs.Prelude.{◌≡◌, true};
-ghost use Rattle.answering.specs.Table.{is_table};
+// A table of links in range, and where the links of each recording begin.
+ghost use Rattle.answering.specs.Links.{InRange};
 ghost use Rattle.answering.specs.LinkBegins.{LinkBegins};
 
 // The triples, over so many symbols, which are labels or lists, and recordings, and where the triples that leave each recording begin.
@@ -10,6 +9,6 @@ pub(super) struct Indexed<'a> {
     pub(super) recordings: u64,
     pub(super) table: &'a [u16],
     pub(super) begins: &'a [u16],
-    ghost tested: { is_table recordings symbols table.now ≡ true },
+    ghost in_range: { InRange symbols recordings table.now },
     ghost begun: { LinkBegins table.now recordings begins.now },
 }

@@ -1,12 +1,13 @@
 // Answer from links: the chosen expression of a job, over a table of links.
-ghost use Rattle.std.specs.Prelude.{◌≡◌, ◌≤◌, replicate};
+ghost use Rattle.std.specs.Prelude.{◌≡◌, ◌≤◌, true, replicate};
 ghost use Rattle.theory.specs.Job.{Job};
 ghost use Rattle.reading.specs.Answering.{value_reply};
 ghost use Rattle.reading.specs.Read.{read};
 ghost use Rattle.reading.specs.RowRoom.{asked_rows, HasRows};
+ghost use Rattle.answering.specs.Table.{is_table};
 ghost use Rattle.answering.specs.AnswerJob.{links_job};
 ghost use Rattle.answering.specs.LinksCore.{Lent};
-ghost use Rattle.answering.specs.LinksOperation.{outcome, left, read_links, links_answer, Sized, ExpressionTold};
+ghost use Rattle.answering.specs.LinksOperation.{outcome, links_reply, left, read_links, links_answer, Sized, ExpressionTold};
 ghost use Rattle.answering.specs.JobTables.{JobIn};
 
 use super::indexed::Indexed;
@@ -25,7 +26,8 @@ fn expression_links(
     marks: &mut [u8],
     workspace: &mut [u64],
 ) -> Result<u64, Refused>
-    requires { (x ≤ rows.lists) × (links.symbols ≤ 32) × Lent links.recordings start marks.old workspace.old }
+    requires { (x ≤ rows.lists) × (links.symbols ≤ 32) × (is_table links.recordings links.symbols links.table.now ≡ true)
+        × Lent links.recordings start marks.old workspace.old }
     ensures { ExpressionTold rows.entry.follow.now rows.entry.enter.now rows.entry.sizes.now rows.entry.accepting.now x
         links.entry.symbols links.entry.table.now links.entry.recordings start marks.old workspace.old
         (outcome (value_reply result) marks.new workspace.new) }
@@ -152,7 +154,7 @@ pub fn answer_from_links(
     marks: &mut [u8],
     workspace: &mut [u64],
 ) -> Result<u64, Refused>
-    ensures { outcome (value_reply result) marks.new workspace.new
+    ensures { outcome (links_reply result) marks.new workspace.new
         ≡ links_answer text.now recordings chosen table.now start marks.old workspace.old }
 {
     if recordings == 0 {

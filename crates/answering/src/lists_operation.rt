@@ -1,15 +1,16 @@
 // Answer from lists: the rewriting that Find gives for a job, over a table of links over its lists.
-ghost use Rattle.std.specs.Prelude.{◌≡◌, ◌≤◌, replicate};
+ghost use Rattle.std.specs.Prelude.{◌≡◌, ◌≤◌, true, replicate};
 ghost use Rattle.theory.specs.Job.{Job, WellFormed};
 ghost use Rattle.reading.specs.Answering.{value_reply};
 ghost use Rattle.reading.specs.Read.{read};
 ghost use Rattle.reading.specs.RowRoom.{asked_rows, HasRows};
 ghost use Rattle.finding.specs.Find.{Found as Finds, find};
+ghost use Rattle.answering.specs.Table.{is_table};
 ghost use Rattle.answering.specs.AnswerJob.{marked_lists, lists_job};
 ghost use Rattle.answering.specs.LinksOperation.{outcome};
 ghost use Rattle.answering.specs.JobTables.{JobIn};
 ghost use Rattle.answering.specs.ListsCore.{ListsLent};
-ghost use Rattle.answering.specs.ListsOperation.{lists_left, read_lists, lists_answer, ListsSized, FoundGiven};
+ghost use Rattle.answering.specs.ListsOperation.{lists_reply, lists_left, read_lists, lists_answer, ListsSized, FoundGiven};
 
 use super::indexed::Indexed;
 use super::lists_core::mark_lists;
@@ -55,7 +56,8 @@ fn rewriting_lists(
     marks: &mut [u8],
     workspace: &mut [u64],
 ) -> Result<u64, Refused>
-    requires { ListsLent links.recordings start marks.old workspace.old × (links.symbols ≡ rows.lists) }
+    requires { ListsLent links.recordings start marks.old workspace.old × (links.symbols ≡ rows.lists)
+        × (is_table links.recordings links.symbols links.table.now ≡ true) }
     ensures { (J : Job) → WellFormed J → JobIn J rows.entry
         → outcome (value_reply result) marks.new workspace.new
         ≡ lists_left links.entry.recordings marks.old workspace.old
@@ -166,7 +168,7 @@ pub fn answer_from_lists(
     marks: &mut [u8],
     workspace: &mut [u64],
 ) -> Result<u64, Refused>
-    ensures { outcome (value_reply result) marks.new workspace.new
+    ensures { outcome (lists_reply result) marks.new workspace.new
         ≡ lists_answer text.now recordings table.now start marks.old workspace.old }
 {
     if recordings == 0 {

@@ -8,4 +8,4 @@ returns c =
     let a = c.args in
     λ J w g.
     c.finding_lists.ensures (find J)
-    (rw c.requires.1 (found-given J w g a.rows.held.few-lists c.find_rows-told.ensures (rw c.requires.1 at a.links.tested)))
+    (rw c.requires.1 (found-given J w g a.rows.held.few-lists c.find_rows-told.ensures (rw c.requires.1 at c.requires.2)))

@@ -7,7 +7,6 @@ use lib.ListN.{length-replicate}
 use Rattle.answering.specs.PlaceSteps.{places-starting, places-unsearched}
 use Rattle.answering.specs.PlaceRows.{few-count, rows-searched}
 use native.Mathlib.Omega.{arith}
-use Rattle.answering.specs.LinkReading.{table-in-range}
 use Rattle.answering.proofs.place_search.search_merged.Goals as goal
 
 pub returns-then-not-fitting : goal.returns-then-not-fitting
@@ -33,7 +32,7 @@ pub search_words-requires : goal.search_words-requires
 search_words-requires c =
     let f = c.fitting.ensures.0 c.if-not-fitting.false in
     let d = c.clear in
-    (places-starting (few-count c.requires.0) f d.ensures d.auto.items, omega (arith, f.few-labels), table-in-range _ _ _ c.args.links.tested, c.args.links.begun)
+    (places-starting (few-count c.requires.0) f d.ensures d.auto.items, omega (arith, f.few-labels), c.args.links.in_range, c.args.links.begun)
 
 pub returns : goal.returns
 returns c =

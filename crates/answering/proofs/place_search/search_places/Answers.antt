@@ -3,7 +3,6 @@ use mathlib.Core.Path.{◌∙◌, sym}
 use mathlib.Core.Bool.{false≢true}
 use Rattle.answering.specs.PlaceSteps.{places-starting, places-searched, places-unsearched}
 use native.Mathlib.Omega.{arith}
-use Rattle.answering.specs.LinkReading.{table-in-range}
 use Rattle.answering.proofs.place_search.search_places.Goals as goal
 
 pub returns-then-not-fitting : goal.returns-then-not-fitting
@@ -23,7 +22,7 @@ search_words-requires c =
     let f = c.fitting.ensures.0 c.if-not-fitting.false in
     let d = c.clear in
     let n = c.place_count.ensures in
-    (places-starting n f d.ensures d.auto.items, omega (arith, f.few-labels), table-in-range _ _ _ c.args.links.tested, c.args.links.begun)
+    (places-starting n f d.ensures d.auto.items, omega (arith, f.few-labels), c.args.links.in_range, c.args.links.begun)
 
 pub returns : goal.returns
 returns c =

@@ -3,7 +3,6 @@ use mathlib.Core.Path.{◌∙◌}
 use Rattle.answering.specs.Cleared.{cleared-beyond}
 use Rattle.answering.specs.SetSearchRun.{sizes-of, few-pairs, recordings-below, set-starting, set-searched, set-unsearched}
 use native.Mathlib.Omega.{arith}
-use Rattle.answering.specs.LinkReading.{table-in-range}
 use Rattle.answering.proofs.set_search.search_sets.Goals as goal
 
 pub returns-then-not-fitting : goal.returns-then-not-fitting
@@ -24,27 +23,27 @@ search_turned-requires c =
     let f = c.fitting.ensures.fits c.if-not-fitting.false in
     let d = c.clear in
     let (t, few, few-ends) = c.turnable.ensures c.if-turnable.true in
-    (t, table-in-range _ _ _ c.args.links.tested, few, few-ends, rw c.if-words-eq1.true at (set-starting (sizes-of f) d.ensures d.auto.items))
+    (t, c.args.links.in_range, few, few-ends, rw c.if-words-eq1.true at (set-starting (sizes-of f) d.ensures d.auto.items))
 
 pub search_in-requires : goal.search_in-requires
 search_in-requires c =
     let f = c.fitting.ensures.fits c.if-not-fitting.false in
     let d = c.clear in
     let l = recordings-below (sizes-of f) 256 c.if-all-le256.true in
-    (set-starting (sizes-of f) d.ensures d.auto.items, f.rows, c.if-all-le256.true, omega arith, omega arith, omega arith, table-in-range _ _ _ c.args.links.tested, c.args.links.begun)
+    (set-starting (sizes-of f) d.ensures d.auto.items, f.rows, c.if-all-le256.true, omega arith, omega arith, omega arith, c.args.links.in_range, c.args.links.begun)
 
 pub search_in-requires-then-all-le4096 : goal.search_in-requires-then-all-le4096
 search_in-requires-then-all-le4096 c =
     let f = c.fitting.ensures.fits c.if-not-fitting.false in
     let d = c.clear in
     let l = recordings-below (sizes-of f) 4096 c.if-all-le4096.true in
-    (set-starting (sizes-of f) d.ensures d.auto.items, f.rows, c.if-all-le4096.true, omega arith, omega arith, omega arith, table-in-range _ _ _ c.args.links.tested, c.args.links.begun)
+    (set-starting (sizes-of f) d.ensures d.auto.items, f.rows, c.if-all-le4096.true, omega arith, omega arith, omega arith, c.args.links.in_range, c.args.links.begun)
 
 pub search_in-requires-else-all-le4096 : goal.search_in-requires-else-all-le4096
 search_in-requires-else-all-le4096 c =
     let f = c.fitting.ensures.fits c.if-not-fitting.false in
     let d = c.clear in
-    (set-starting (sizes-of f) d.ensures d.auto.items, f.rows, few-pairs (sizes-of f), omega arith, omega (arith, (sizes-of f).few), omega arith, table-in-range _ _ _ c.args.links.tested, c.args.links.begun)
+    (set-starting (sizes-of f) d.ensures d.auto.items, f.rows, few-pairs (sizes-of f), omega arith, omega (arith, (sizes-of f).few), omega arith, c.args.links.in_range, c.args.links.begun)
 
 pub returns-then-turnable : goal.returns-then-turnable
 returns-then-turnable c =
