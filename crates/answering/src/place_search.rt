@@ -31,7 +31,9 @@ fn load_enter(enter: &[u64], labels: usize, images: &mut [u64])
     images[..labels].copy_from_slice(&enter[..labels]);
 }
 
-// The search with ROOM words for what is pending, and STACK numbers for the recordings that wait.
+// The search with ROOM words for what is pending, and STACK numbers for the recordings that wait. Each size stands
+// apart, so that its room is on the stack only while it runs.
+#[inline(never)]
 fn search_in<const ROOM: usize, const STACK: usize>(
     steps: StepRows<'_>,
     table: &[u16],

@@ -193,7 +193,9 @@ fn search_from(
     }
 }
 
-// The search with ROOM words for what is pending, and STACK numbers for the recordings that wait.
+// The search with ROOM words for what is pending, and STACK numbers for the recordings that wait. Each size stands
+// apart, so that its room is on the stack only while it runs.
+#[inline(never)]
 fn search_in<const ROOM: usize, const STACK: usize>(
     sets: &[u64],
     sizes: Sizes,

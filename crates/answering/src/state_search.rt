@@ -7,7 +7,8 @@ use super::ranked::Ranked;
 use super::set_search::search_sets;
 use super::state_sets::put_rows;
 
-// The search, with ROOM words for the next states.
+// The search, with ROOM words for the next states. Each size stands apart, so that its room is on the stack only while it runs.
+#[inline(never)]
 fn search_in<const ROOM: usize>(
     ranked: Ranked<'_>,
     links: Indexed<'_>,

@@ -78,7 +78,8 @@ fn find_sets(turned: EndRows<'_>, start: usize, sets: &mut [u64], done: &mut [u6
     while take_words(turned, sets, done) {}
 }
 
-// The search, with ROOM words for the ends.
+// The search, with ROOM words for the ends. Each size stands apart, so that its room is on the stack only while it runs.
+#[inline(never)]
 fn search_in<const ROOM: usize>(
     rows: &[u64],
     sizes: Sizes,
