@@ -1,8 +1,15 @@
 // The limits of an expression (document 01): how deep its parentheses nest.
-ghost use Rattle.std.specs.Prelude.{◌≡◌};
+ghost use Rattle.std.specs.Prelude.{max, ◌≡◌};
 ghost use Rattle.syntax.specs.Limits.{nesting};
 
-// A parenthesis stands in what it opens or closes, so that `()` counts: a byte is as deep as the parentheses open before it or behind it.
+// How deep a byte stands, by the parentheses open before it and behind it: a parenthesis stands in what it opens or closes, so that
+// `()` counts.
+fn depth(before: u64, behind: u64) -> u64
+    ensures { result ≡ max before behind }
+{
+    before.max(behind)
+}
+
 // A `)` that closes nothing is passed over.
 pub fn nesting(s: &[u8]) -> u64
     ensures { result ≡ nesting 0 s.now }
@@ -16,7 +23,7 @@ pub fn nesting(s: &[u8]) -> u64
             b')' => open = open.saturating_sub(1),
             _ => {}
         }
-        most = most.max(before.max(open));
+        most = most.max(depth(before, open));
     }
     most
 }
