@@ -1,6 +1,9 @@
--- The verdict on a text by what its bytes show, check by check: the labels' names are read off as the longest runs of name bytes.
-use Rattle.std.specs.Prelude.{◌≤◌, ◌<◌, true, false, List, ◌≡◌, refl, Ok, Err, length}
-use Rattle.std.proofs.Common.{true≢false, sym, ap, ◌∙◌, arith}
+-- The verdict on a text by what its bytes show: the answers of the checks in their order, the labels' names read off as the longest runs of
+-- name bytes.
+use Rattle.std.specs.Prelude.{◌≤◌, ◌<◌, Bool, true, false, cond, List, Some, None, ◌≡◌, refl, Ok, Err, leb, length}
+use Rattle.std.specs.Option as option
+use Rattle.std.specs.Result.{result_and}
+use Rattle.std.proofs.Common.{true≢false, sym, ap, ◌∙◌, arith, leb-true, leb-false}
 use Rattle.std.proofs.lemmas.Bool.{false≢true}
 use Rattle.std.proofs.Math.Option.{Option, some, none}
 use Rattle.syntax.specs.declared.refusal.Refusal.TheVariants.{NotInGrammar, UnknownLabel, ExpressionTooLong, TooDeep, TooManyOccurrences}
@@ -17,7 +20,22 @@ use Rattle.syntax.specs.Resolve.{Resolves, known, numbered}
 use Rattle.syntax.specs.Check.{long, ungrammatical, deep, unknown, many, Checked, fine, faulty, check}
 use Rattle.syntax.specs.CheckLaws.{check-faulty}
 use Rattle.syntax.specs.FineLaws.{parse-fine}
-use Rattle.syntax.specs.Verdict.{verdict, is_fine}
+use Rattle.syntax.specs.Told.{told}
+use Rattle.syntax.specs.Verdict.{verdict, is_fine, unless}
+
+-- How many occurrences are told of matters only where each is a known name.
+pub labels-told : (labels : List Bytes) (s : Bytes)
+    → result_and (unless (option.is_some (told labels s)) UnknownLabel)
+    (unless (leb (option.unwrap_or (told labels s) 0) most_occurrences) TooManyOccurrences)
+    ≡ result_and (unless (known labels (runs false s)) UnknownLabel)
+    (unless (leb (length (runs false s)) most_occurrences) TooManyOccurrences)
+labels-told labels s = go (known labels (runs false s))
+  where
+    go : (k : Bool) → let t = cond k (Some (length (runs false s))) None in
+        result_and (unless (option.is_some t) UnknownLabel) (unless (leb (option.unwrap_or t 0) most_occurrences) TooManyOccurrences)
+        ≡ result_and (unless k UnknownLabel) (unless (leb (length (runs false s)) most_occurrences) TooManyOccurrences)
+    go true = refl
+    go false = refl
 
 pub fine-verdict : (c : Checked) → is_fine c ≡ true → Ok tt ≡ verdict c
 fine-verdict (fine e) h = refl
@@ -75,3 +93,24 @@ module _ (labels : List Bytes) (s : Bytes) (h : length s ≤ most_bytes) (g : is
 
       pub all-fine : length (runs false s) ≤ most_occurrences → Ok tt ≡ verdict (check labels s)
       all-fine m = sym (ap verdict (parse-fine labels s tree h n (rw names at k) (omega (arith, ap length names)) parses))
+
+-- The outcome is the first fault of the checks' answers.
+module _ (labels : List Bytes) (s : Bytes) (h : length s ≤ most_bytes) where
+  in-order-of : (g d k m : Bool) → is_some (parse s) ≡ g → leb (nesting 0 s) most_nesting ≡ d → known labels (runs false s) ≡ k
+      → leb (length (runs false s)) most_occurrences ≡ m
+      → result_and (unless g NotInGrammar) (result_and (unless d TooDeep) (result_and (unless k UnknownLabel) (unless m TooManyOccurrences)))
+      ≡ verdict (check labels s)
+  in-order-of false d k m p q r t = not-in-grammar labels s h p
+  in-order-of true false k m p q r t = too-deep labels s h p (leb-false (nesting 0 s) most_nesting q)
+  in-order-of true true false m p q r t = unknown-label labels s h p (leb-true (nesting 0 s) most_nesting q) r
+  in-order-of true true true false p q r t =
+      too-many-occurrences labels s h p (leb-true (nesting 0 s) most_nesting q) r (leb-false (length (runs false s)) most_occurrences t)
+  in-order-of true true true true p q r t =
+      all-fine labels s h p (leb-true (nesting 0 s) most_nesting q) r (leb-true (length (runs false s)) most_occurrences t)
+
+  pub in_order : let grammar = unless (is_some (parse s)) NotInGrammar in
+      let depth = unless (leb (nesting 0 s) most_nesting) TooDeep in
+      let names = unless (known labels (runs false s)) UnknownLabel in
+      let number = unless (leb (length (runs false s)) most_occurrences) TooManyOccurrences in
+      result_and grammar (result_and depth (result_and names number)) ≡ verdict (check labels s)
+  in_order = in-order-of _ _ _ _ refl refl refl refl

@@ -23,14 +23,19 @@ fn unless(met: bool, refusal: Refusal) -> Result<(), Refusal>
     if met { Ok(()) } else { Err(refusal) }
 }
 
-// The first fault in document 01's order is told.
+// The other checks are made only of a text that is not too long. Each is made, and the first fault in document 01's order is told.
 pub fn check_expression(s: &[u8], names: Names<'_>) -> Result<(), Refusal>
     ensures { result ≡ verdict (check (names_at names.entry.text.now names.entry.spans.now) s.now) }
 {
     unless(s.len() <= MOST_BYTES, Refusal::ExpressionTooLong)?;
     let deep = nesting(s);
-    unless(in_grammar(s, deep), Refusal::NotInGrammar)?;
-    unless(deep <= MOST_NESTING, Refusal::TooDeep)?;
-    let count = occurrences(s, names).ok_or(Refusal::UnknownLabel)?;
-    unless(count <= MOST_OCCURRENCES, Refusal::TooManyOccurrences)
+    let grammar = unless(in_grammar(s, deep), Refusal::NotInGrammar);
+    let depth = unless(deep <= MOST_NESTING, Refusal::TooDeep);
+    let told = occurrences(s, names);
+    let labels = unless(told.is_some(), Refusal::UnknownLabel);
+    let number = unless(
+        told.unwrap_or(0) <= MOST_OCCURRENCES,
+        Refusal::TooManyOccurrences,
+    );
+    grammar.and(depth).and(labels).and(number)
 }
