@@ -1,4 +1,5 @@
 pub mod Byte
+pub mod ByteLaws
 pub mod Values
 pub mod KindTable
 pub mod Name
