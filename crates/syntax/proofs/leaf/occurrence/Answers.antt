@@ -1,6 +1,6 @@
 -- `occurrence` meets its contract: it reads the name where that is of a known label and a place is left.
-use mathlib.Core.Path.{sym, ◌∙◌}
-use native.Mathlib.Omega.{arith}
+use Rattle.std.proofs.Common.{◌≡◌, Some, None, take, drop, ◌-◌, sym, ◌∙◌, arith, rules}
+use Rattle.syntax.specs.Name.{place_of}
 use Rattle.syntax.specs.Resolve.{names_at}
 use Rattle.syntax.proofs.Occurrence.{NameAt, name-at, occurrence-read, no_name, no_place, unknown}
 use Rattle.syntax.proofs.leaf.occurrence.Goals as goal
@@ -29,14 +29,16 @@ returns-then-k-ge64 c = let a = c.args in no_place _ a.source.s.now a.c.at a.k a
 pub returns-in_err-label : goal.returns-in_err-label
 returns-in_err-label c d =
     let a = c.args in
+    let labels = names_at a.source.names.text.now a.source.names.spans.now in
+    let missing : None ≡ place_of (take (c.in_ok-end.end.at - a.c.at) (drop a.c.at a.source.s.now)) labels = search rules in
     rw c.from_residual-in_err-label.ensures
-    (unknown _ a.source.s.now a.c.at a.k a.follow.now c.in_ok-end.end.at (name (goal.at.returns-in_err-label c).In_ok-end)
-    (sym c.in_err-label.was ∙ c.find.ensures) d)
+    (unknown labels a.source.s.now a.c.at a.k a.follow.now c.in_ok-end.end.at (name (goal.at.returns-in_err-label c).In_ok-end) missing d)
 
 pub returns : goal.returns
 returns c =
     let a = c.args in
-    occurrence-read (names_at a.source.names.text.now a.source.names.spans.now) a.source.s.now a.c.at a.k a.follow.now c.in_ok-end.end.at
-    (name (goal.at.returns c).In_ok-end) a.enter.now c.in_ok-label.label c.one-place.result c.single.result
-    c.put.new.table c.add.new.table c.if-k-ge64.false (sym c.in_ok-label.was ∙ c.find.ensures) c.one-place.ensures c.put.ensures
-    c.add.ensures c.single.ensures
+    let labels = names_at a.source.names.text.now a.source.names.spans.now in
+    let found : Some c.in_ok-label.label ≡ place_of (take (c.in_ok-end.end.at - a.c.at) (drop a.c.at a.source.s.now)) labels = search rules in
+    occurrence-read labels a.source.s.now a.c.at a.k a.follow.now c.in_ok-end.end.at (name (goal.at.returns c).In_ok-end) a.enter.now
+    c.in_ok-label.label c.one-place.result c.single.result c.put.new.table c.add.new.table c.if-k-ge64.false found c.one-place.ensures
+    c.put.ensures c.add.ensures c.single.ensures
