@@ -32,5 +32,14 @@ SameMemory t t' =
     × (length t'.follow.now ≡ length t.follow.now) × (length t'.enter.now ≡ length t.enter.now)
     × (length t'.sizes.now ≡ length t.sizes.now) × (length t'.accepting.now ≡ length t.accepting.now)
 
+-- The rows are as they were: all that the tables hold beside the names.
+abbrev pub SameRows : Lent → Lent → Type 0
+SameRows t t' =
+    (t'.follow.now ≡ t.follow.now) × (t'.enter.now ≡ t.enter.now) × (t'.sizes.now ≡ t.sizes.now) × (t'.accepting.now ≡ t.accepting.now)
+
+-- The names are as they were.
+abbrev pub SameNames : Lent → Lent → Type 0
+SameNames t t' = t'.names.now ≡ t.names.now
+
 pub same-whole : {t : Lent} (u : Lent) → SameMemory t u → Whole t → Whole u
 same-whole u s w = record { names = s.5 ∙ w.names; sizes = s.8 ∙ w.sizes; accepting = s.9 ∙ w.accepting }

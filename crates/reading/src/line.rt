@@ -3,7 +3,7 @@ ghost use Rattle.std.specs.Prelude.{◌+◌, ◌≤◌, ◌≡◌, length};
 ghost use Rattle.syntax.specs.Byte.{Bytes};
 ghost use Rattle.reading.specs.Text.{space};
 ghost use Rattle.reading.specs.Read.{cut, cut_at, given_query, given_list, early, late, given};
-ghost use Rattle.reading.specs.Lent.{held, Ready, SameMemory};
+ghost use Rattle.reading.specs.Lent.{held, Ready, SameMemory, SameNames};
 ghost use Rattle.reading.specs.Loading.{Gives};
 ghost use Rattle.reading.specs.PartLaws.{part, IsBehind};
 
@@ -33,6 +33,7 @@ impl Tables<'_> {
     fn query(&mut self, p: Progress, text: &[u8], s: Span) -> Result<Progress, Refusal>
         requires { Ready p self.old }
         ensures same { SameMemory self.old self.new }
+        ensures names { SameNames self.old self.new }
         ensures gives { Gives text.now (λ P. given_query P (part text.now s)) p (held self.old) result (held self.new) }
     {
         if p.labels < 1 {
