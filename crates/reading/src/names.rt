@@ -2,7 +2,7 @@
 ghost use Rattle.std.specs.Prelude.{◌≡◌};
 ghost use Rattle.syntax.specs.Resolve.{names_at};
 ghost use Rattle.reading.specs.Read.{fresh, given_label};
-ghost use Rattle.reading.specs.Lent.{held, Ready, SameMemory, SameRows};
+ghost use Rattle.reading.specs.Lent.{held, Whole, SameMemory, SameRows};
 ghost use Rattle.reading.specs.Loading.{Gives};
 ghost use Rattle.reading.specs.PartLaws.{part};
 
@@ -20,7 +20,7 @@ pub fn fresh(names: Names<'_>, name: &[u8]) -> bool
 impl Tables<'_> {
     // A label line, whose name stands at `name`.
     pub fn label(&mut self, p: Progress, text: &[u8], name: Span) -> Result<Progress, Refusal>
-        requires { Ready p self.old }
+        requires { Whole self.old }
         ensures same { SameMemory self.old self.new }
         ensures rows { SameRows self.old self.new }
         ensures gives { Gives text.now (λ P. given_label P (part text.now name)) p

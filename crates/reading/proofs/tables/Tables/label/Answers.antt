@@ -19,5 +19,5 @@ returns-then-not-fresh-clause-gives c =
 pub returns-clause-gives : goal.returns-clause-gives
 returns-clause-gives c =
     let a = c.args in
-    label-told a.text.now a.p a.name (held a.self.now) c.requires.whole.names c.if-labels-ge32.false
+    label-told a.text.now a.p a.name (held a.self.now) c.requires.names c.if-labels-ge32.false
     (told a.text.now c.of.ensures refl c.fresh.ensures c.if-not-fresh.false)
