@@ -4,6 +4,7 @@ pub mod RunName
 pub mod Named
 pub mod Reading
 pub mod Runs
+pub mod TablesKept
 pub mod Ways
 pub mod Turns
 pub mod FactorWays

@@ -2,9 +2,9 @@
 -- far, is what is to be built from the beginning.
 use Prim.Native.Nat.{ℕ, ◌+◌, ◌≤◌, ◌<◌}
 use mathlib.Core.List.{List, ◌++◌}
-use mathlib.Core.Logic.{⊎_elim}
+use mathlib.Core.Logic.{◌⊎◌, inl, inr, ⊎_elim}
 use mathlib.Core.Option.{none}
-use mathlib.Core.Path.{◌≡◌, refl, sym, ap, ◌∙◌, subst}
+use mathlib.Core.Path.{◌≡◌, sym, ap, ◌∙◌, subst}
 use native.Mathlib.Omega.{arith}
 use lib.ListN.{length, take, drop}
 use lib.Seq.{length-take-le, drop-drop, drop_at}
@@ -19,11 +19,12 @@ use Rattle.syntax.specs.Parser.{Parsed, past_mark, alternatives, sequences, fact
 use Rattle.syntax.specs.Resolve.{numbered}
 use Rattle.syntax.specs.PlaceLaws.{Past}
 use Rattle.syntax.specs.Part.{unit, nothing, either, both}
-use Rattle.syntax.specs.Link.{link-over, drop-link}
+use Rattle.syntax.specs.Link.{link-over, take_link, drop-link}
 use Rattle.syntax.specs.Splice.{splice}
 use Rattle.syntax.specs.Joining.{either-nothing, either-either, both-unit, both-both, link-link}
 use Rattle.syntax.specs.Joining.{up_to, length-up_to, take-up_to, link-up_to}
-use Rattle.syntax.specs.Build.{Reads, Unbuilt, Builds}
+use Rattle.syntax.specs.Build.{Reads, Unbuilt, Builds, TablesKept}
+use Rattle.syntax.proofs.TablesKept.{tables-same, tables-built, tables-on}
 use Rattle.syntax.proofs.Ways.{alternative-none, alternative-none-after, alternative-alone, alternative-more}
 use Rattle.syntax.proofs.Ways.{sequence-none, sequence-none-after, sequence-alone, sequence-more}
 
@@ -31,8 +32,8 @@ use Rattle.syntax.proofs.Ways.{sequence-none, sequence-none-after, sequence-alon
 pub record Choosing (labels : List Bytes) (s : Bytes) (at₀ k₀ d : ℕ) (follow₀ enter₀ : List ℕ) (p : Part) (at : ℕ) (follow enter : List ℕ)
     : Type 0 where
   pub onward : at₀ ≤ at
-  pub same-follow : length follow ≡ length follow₀
-  pub same-enter : length enter ≡ length enter₀
+  pub counts : k₀ ≤ p.next
+  pub tables : TablesKept k₀ follow₀ enter₀ follow enter
   pub whole : (r : Part) (f' e' : List ℕ) → Builds alternatives 3 labels s at p.next d follow enter r f' e'
       → Builds alternatives 3 labels s at₀ k₀ d follow₀ enter₀ (either p r) f' e'
   pub none : Unbuilt alternatives 3 labels s at p.next d follow → Unbuilt alternatives 3 labels s at₀ k₀ d follow₀
@@ -43,8 +44,8 @@ module _ (labels : List Bytes) (s : Bytes) (at₀ k₀ d : ℕ) (follow₀ enter
       subst (λ x. Choosing labels s at₀ k₀ d follow₀ enter₀ x at₀ follow₀ enter₀) (sym e)
       record {
         onward = omega arith;
-        same-follow = refl;
-        same-enter = refl;
+        counts = omega arith;
+        tables = tables-same k₀ follow₀ enter₀;
         whole = λ r f' e' b.
             subst (λ x. Builds alternatives 3 labels s at₀ k₀ d follow₀ enter₀ x f' e') (sym (either-nothing at₀ k₀ r)) b;
         none = λ u. u;
@@ -54,14 +55,19 @@ module _ (labels : List Bytes) (s : Bytes) (at₀ k₀ d : ℕ) (follow₀ enter
       → Unbuilt sequences 2 labels s at p.next d follow → Unbuilt alternatives 3 labels s at₀ k₀ d follow₀
   choosing-none p at follow enter so_far right = so_far.none (alternative-none labels s at p.next d follow right)
 
+  pub choosing-tables : (p : Part) (at : ℕ) (follow enter f₁ e₁ : List ℕ) → Choosing labels s at₀ k₀ d follow₀ enter₀ p at follow enter
+      → TablesKept p.next follow enter f₁ e₁ → TablesKept k₀ follow₀ enter₀ f₁ e₁
+  choosing-tables p at follow enter f₁ e₁ so_far right =
+      tables-on k₀ p.next follow₀ enter₀ follow enter f₁ e₁ so_far.counts so_far.tables right
+
   module _ (p : Part) (at : ℕ) (follow enter : List ℕ) (so_far : Choosing labels s at₀ k₀ d follow₀ enter₀ p at follow enter)
       (q : Part) (f₁ e₁ : List ℕ) (right : Builds sequences 2 labels s at p.next d follow enter q f₁ e₁) where
     pub choosing-on : (c : Cursor) → Past bar s q.at c → Choosing labels s at₀ k₀ d follow₀ enter₀ (either p q) c.at f₁ e₁
     choosing-on c mark =
         record {
           onward = omega (arith, so_far.onward, right.onward, mark.next);
-          same-follow = right.same-follow ∙ so_far.same-follow;
-          same-enter = right.same-enter ∙ so_far.same-enter;
+          counts = omega (arith, so_far.counts, right.counts);
+          tables = choosing-tables p at follow enter f₁ e₁ so_far (tables-built right);
           whole = λ r f' e' b.
               subst (λ x. Builds alternatives 3 labels s at₀ k₀ d follow₀ enter₀ x f' e') (sym (either-either p q r))
               (so_far.whole (either q r) f' e'
@@ -128,9 +134,9 @@ module _ (f : ℕ → Bytes → Parsed) (rank : ℕ) (labels : List Bytes) (s : 
 pub record Chaining (labels : List Bytes) (s : Bytes) (at₀ k₀ d : ℕ) (follow₀ enter₀ : List ℕ) (p : Part) (at : ℕ) (follow enter : List ℕ)
     : Type 0 where
   pub onward : at₀ ≤ at
-  pub same-follow : length follow ≡ length follow₀
-  pub same-enter : length enter ≡ length enter₀
-  pub lasts : (x : ℕ) → Member x p.last.0 → x < p.next
+  pub counts : k₀ ≤ p.next
+  pub tables : TablesKept k₀ follow₀ enter₀ follow enter
+  pub lasts : (x : ℕ) → Member x p.last.0 → (k₀ ≤ x) × (x < p.next)
   pub whole : (r : Part) (f' e' : List ℕ) → Builds sequences 2 labels s at p.next d follow enter r f' e'
       → Builds sequences 2 labels s at₀ k₀ d follow₀ enter₀ (both p r) (link p.last.0 r.first.0 0 f') e'
   pub none : Unbuilt sequences 2 labels s at p.next d follow → Unbuilt sequences 2 labels s at₀ k₀ d follow₀
@@ -147,8 +153,8 @@ module _ (labels : List Bytes) (s : Bytes) (at₀ k₀ d : ℕ) (follow₀ enter
       subst (λ x. Chaining labels s at₀ k₀ d follow₀ enter₀ x at₀ follow₀ enter₀) (sym e)
       record {
         onward = omega arith;
-        same-follow = refl;
-        same-enter = refl;
+        counts = omega arith;
+        tables = tables-same k₀ follow₀ enter₀;
         lasts = λ x m. absurd (member-none x m);
         whole = λ r f' e' b.
             same-builds (both (unit at₀ k₀) r) r (link 0 r.first.0 0 f') f' e' (both-unit at₀ k₀ r) (link-over r.first.0 f') b;
@@ -159,13 +165,18 @@ module _ (labels : List Bytes) (s : Bytes) (at₀ k₀ d : ℕ) (follow₀ enter
       → Unbuilt factors 1 labels s at p.next d follow → Unbuilt sequences 2 labels s at₀ k₀ d follow₀
   chaining-none p at follow enter so_far right = so_far.none (sequence-none labels s at p.next d follow right)
 
+  pub chaining-tables : (p : Part) (at : ℕ) (follow enter f₁ e₁ : List ℕ) → Chaining labels s at₀ k₀ d follow₀ enter₀ p at follow enter
+      → TablesKept p.next follow enter f₁ e₁ → TablesKept k₀ follow₀ enter₀ f₁ e₁
+  chaining-tables p at follow enter f₁ e₁ so_far right =
+      tables-on k₀ p.next follow₀ enter₀ follow enter f₁ e₁ so_far.counts so_far.tables right
+
   module _ (p : Part) (at : ℕ) (follow enter : List ℕ) (so_far : Chaining labels s at₀ k₀ d follow₀ enter₀ p at follow enter)
       (q : Part) (f₁ e₁ : List ℕ) (right : Builds factors 1 labels s at p.next d follow enter q f₁ e₁) where
     abbrev linked : List ℕ
     linked = link p.last.0 q.first.0 0 f₁
 
     before : (x : ℕ) → Member x p.last.0 → x < q.next
-    before x m = omega (arith, so_far.lasts x m, right.counts)
+    before x m = omega (arith, (so_far.lasts x m).1, right.counts)
 
     whole-on : (c : Cursor) → Past dot s q.at c → (r : Part) (f' e' : List ℕ)
         → Builds sequences 2 labels s c.at q.next d linked e₁ r f' e'
@@ -184,14 +195,28 @@ module _ (labels : List Bytes) (s : Bytes) (at₀ k₀ d : ℕ) (follow₀ enter
         ∙ link-link q.nullable p.last.0 q.last.0 q.first.0 r.first.0 0 f'')
         (so_far.whole (both q r) (link q.last.0 r.first.0 0 f'') e' more)
 
+    own : (x : ℕ) → Member x p.last.0 ⊎ Member x q.last.0 → (k₀ ≤ x) × (x < q.next)
+    own x (inl m) = ((so_far.lasts x m).0, before x m)
+    own x (inr m) = (omega (arith, so_far.counts, (right.lasts x m).0), (right.lasts x m).1)
+
+    -- The links from p are in entries of its own places.
+    tables_linked : TablesKept k₀ follow₀ enter₀ linked e₁
+    tables_linked =
+        let all = chaining-tables p at follow enter f₁ e₁ so_far (tables-built right) in
+        record {
+          same-follow = length-link p.last.0 q.first.0 0 f₁ ∙ all.same-follow;
+          same-enter = all.same-enter;
+          kept = take_link p.last.0 q.first.0 k₀ f₁ (λ x m. (so_far.lasts x m).0) ∙ all.kept;
+        }
+
     pub chaining-on : (c : Cursor) → Past dot s q.at c → Chaining labels s at₀ k₀ d follow₀ enter₀ (both p q) c.at linked e₁
     chaining-on c mark =
         record {
           onward = omega (arith, so_far.onward, right.onward, mark.next);
-          same-follow = length-link p.last.0 q.first.0 0 f₁ ∙ right.same-follow ∙ so_far.same-follow;
-          same-enter = right.same-enter ∙ so_far.same-enter;
-          lasts = λ x m. ⊎_elim (λ n. before x ((member-when q.nullable x p.last.0).0 n).1) (λ n. (right.lasts x n).1)
-              ((member_union x (when q.nullable p.last.0) q.last.0).0 m);
+          counts = omega (arith, so_far.counts, right.counts);
+          tables = tables_linked;
+          lasts = λ x m. own x (⊎_elim (λ n. inl ((member-when q.nullable x p.last.0).0 n).1) inr
+              ((member_union x (when q.nullable p.last.0) q.last.0).0 m));
           whole = whole-on c mark;
           none = λ u. so_far.none (sequence-none-after labels s at p.next d follow enter q f₁ e₁ right c mark linked
               (length-link p.last.0 q.first.0 0 f₁) u);

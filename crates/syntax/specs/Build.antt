@@ -76,11 +76,19 @@ pub record Builds (f : ℕ → Bytes → Parsed) (rank : ℕ) (labels : List Byt
   pub within : k ≤ 64 → r.next ≤ 64
   pub sure : Sure f rank labels s at k d r
 
--- What each of them promises: a part, or that there is none.
+-- The lent tables `follow` and `enter` have become `follow'` and `enter'`: each is as long as it was, and the entries of the places
+-- before k stay as they were.
+pub record TablesKept (k : ℕ) (follow enter follow' enter' : List ℕ) : Type 0 where
+  pub same-follow : length follow' ≡ length follow
+  pub same-enter : length enter' ≡ length enter
+  pub kept : take k follow' ≡ take k follow
+
+-- What each of them promises: a part, or that there is none, and then what it left of the lent tables.
 abbrev pub Answers : (f : ℕ → Bytes → Parsed) (rank : ℕ) (labels : List Bytes) (s : Bytes) (at k d : ℕ) (follow enter : List ℕ) (r : Option Part)
     (follow' enter' : List ℕ) → Type 0
 Answers f rank labels s at k d follow enter r follow' enter' =
-    MatchOption r (Unbuilt f rank labels s at k d follow) (λ p. Builds f rank labels s at k d follow enter p follow' enter')
+    MatchOption r (TablesKept k follow enter follow' enter' × Unbuilt f rank labels s at k d follow)
+    (λ p. Builds f rank labels s at k d follow enter p follow' enter')
 
 -- The marks after a part with the given last and first places: whether the part has the empty path, the follow table, and what is left
 -- of the text.

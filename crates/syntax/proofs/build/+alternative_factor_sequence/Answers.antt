@@ -3,7 +3,9 @@ use mathlib.Core.Path.{sym, ◌∙◌}
 use Rattle.syntax.specs.Byte.{dot, bar, opening, closing}
 use Rattle.syntax.specs.Resolve.{names_at}
 use Rattle.syntax.specs.PlaceLaws.{mark-to, mark-failed}
-use Rattle.syntax.proofs.Turns.{choosing-start, choosing-none, choosing-on, choosing-end, chaining-start, chaining-none, chaining-on, chaining-end}
+use Rattle.syntax.proofs.TablesKept.{tables-same, tables-built}
+use Rattle.syntax.proofs.Turns.{choosing-start, choosing-none, choosing-tables, choosing-on, choosing-end}
+use Rattle.syntax.proofs.Turns.{chaining-start, chaining-none, chaining-tables, chaining-on, chaining-end}
 use Rattle.syntax.proofs.FactorWays.{factor-no-name, factor-name, factor-deep, factor-unit, factor-no-group, factor-group, factor-open}
 use Rattle.syntax.proofs.build.+alternative_factor_sequence.Goals as goal
 
@@ -20,9 +22,13 @@ pub alternative-returns-in_err-right : goal.alternative-returns-in_err-right
 alternative-returns-in_err-right t c =
     let a = c.args in
     let l = c.loop-right in
-    rw c.from_residual.ensures
-    (choosing-none (names_at a.source.names.text.now a.source.names.spans.now) a.source.s.now a.c.at a.k a.«open» a.follow.now a.enter.now
-    l.part l.from.at l.follow l.enter l.invariant c.in_err-right.ensures)
+    let right = c.in_err-right.ensures in
+    rw c.from_residual.ensures (
+      choosing-tables (names_at a.source.names.text.now a.source.names.spans.now) a.source.s.now a.c.at a.k a.«open» a.follow.now a.enter.now
+          l.part l.from.at l.follow l.enter c.sequence.new.follow c.sequence.new.enter l.invariant right.0,
+      choosing-none (names_at a.source.names.text.now a.source.names.spans.now) a.source.s.now a.c.at a.k a.«open» a.follow.now a.enter.now
+          l.part l.from.at l.follow l.enter l.invariant right.1,
+    )
 
 pub alternative-loop-right-smaller : goal.alternative-loop-right-smaller
 alternative-loop-right-smaller t c =
@@ -62,9 +68,13 @@ pub sequence-returns-in_err-right : goal.sequence-returns-in_err-right
 sequence-returns-in_err-right t c =
     let a = c.args in
     let l = c.loop-right in
-    rw c.from_residual.ensures
-    (chaining-none (names_at a.source.names.text.now a.source.names.spans.now) a.source.s.now a.c.at a.k a.«open» a.follow.now a.enter.now
-    l.part l.from.at l.follow l.enter l.invariant c.in_err-right.ensures)
+    let right = c.in_err-right.ensures in
+    rw c.from_residual.ensures (
+      chaining-tables (names_at a.source.names.text.now a.source.names.spans.now) a.source.s.now a.c.at a.k a.«open» a.follow.now a.enter.now
+          l.part l.from.at l.follow l.enter c.factor.new.follow c.factor.new.enter l.invariant right.0,
+      chaining-none (names_at a.source.names.text.now a.source.names.spans.now) a.source.s.now a.c.at a.k a.«open» a.follow.now a.enter.now
+          l.part l.from.at l.follow l.enter l.invariant right.1,
+    )
 
 pub sequence-loop-right-smaller : goal.sequence-loop-right-smaller
 sequence-loop-right-smaller t c =
@@ -95,9 +105,12 @@ pub factor-returns-in_err-name : goal.factor-returns-in_err-name
 factor-returns-in_err-name t c =
     let a = c.args in
     let none = mark-failed opening a.source.s.now a.c.at (sym c.in_default.is ∙ c.mark.ensures) in
-    rw c.from_residual.ensures
-    (factor-no-name (names_at a.source.names.text.now a.source.names.spans.now) a.source.s.now a.c.at a.k a.«open» a.follow.now a.enter.now
-    none (c.in_err-name.ensures a.«open»))
+    let name = c.in_err-name.ensures a.«open» in
+    rw c.from_residual.ensures (
+      name.0,
+      factor-no-name (names_at a.source.names.text.now a.source.names.spans.now) a.source.s.now a.c.at a.k a.«open» a.follow.now a.enter.now
+          none name.1,
+    )
 
 pub factor-returns-in_default : goal.factor-returns-in_default
 factor-returns-in_default t c =
@@ -111,9 +124,11 @@ factor-returns-in_default t c =
 pub factor-returns-then-open-ge-MOST_NESTING : goal.factor-returns-then-open-ge-MOST_NESTING
 factor-returns-then-open-ge-MOST_NESTING t c =
     let a = c.args in
-    let past = mark-to opening a.source.s.now a.c.at c.in-Some.inner (sym c.in-Some.is ∙ c.mark.ensures) in
-    factor-deep (names_at a.source.names.text.now a.source.names.spans.now) a.source.s.now a.c.at a.k a.«open» a.follow.now a.enter.now
-    c.in-Some.inner past c.if-open-ge-MOST_NESTING.true
+    let past = mark-to opening a.source.s.now a.c.at c.in-Some.inner (sym c.in-Some.is ∙ c.mark.ensures) in (
+      tables-same a.k a.follow.now a.enter.now,
+      factor-deep (names_at a.source.names.text.now a.source.names.spans.now) a.source.s.now a.c.at a.k a.«open» a.follow.now a.enter.now
+          c.in-Some.inner past c.if-open-ge-MOST_NESTING.true,
+    )
 
 pub factor-returns-in-Some-mark : goal.factor-returns-in-Some-mark
 factor-returns-in-Some-mark t c =
@@ -134,9 +149,12 @@ factor-returns-in_err-group t c =
     let a = c.args in
     let past = mark-to opening a.source.s.now a.c.at c.in-Some.inner (sym c.in-Some.is ∙ c.mark.ensures) in
     let none = mark-failed closing a.source.s.now c.in-Some.inner.at (sym c.in_default-mark.is ∙ c.mark-2.ensures) in
-    rw c.from_residual-in_err-group.ensures
-    (factor-no-group (names_at a.source.names.text.now a.source.names.spans.now) a.source.s.now a.c.at a.k a.«open» a.follow.now a.enter.now
-    c.in-Some.inner past none c.in_err-group.ensures)
+    let group = c.in_err-group.ensures in
+    rw c.from_residual-in_err-group.ensures (
+      group.0,
+      factor-no-group (names_at a.source.names.text.now a.source.names.spans.now) a.source.s.now a.c.at a.k a.«open» a.follow.now a.enter.now
+          c.in-Some.inner past none group.1,
+    )
 
 pub factor-returns-in_err-after : goal.factor-returns-in_err-after
 factor-returns-in_err-after t c =
@@ -144,9 +162,11 @@ factor-returns-in_err-after t c =
     let past = mark-to opening a.source.s.now a.c.at c.in-Some.inner (sym c.in-Some.is ∙ c.mark.ensures) in
     let none = mark-failed closing a.source.s.now c.in-Some.inner.at (sym c.in_default-mark.is ∙ c.mark-2.ensures) in
     let end = mark-failed closing a.source.s.now c.in_ok-group.group.at (sym c.in_err-after.was ∙ c.mark-3.ensures) in
-    rw c.from_residual-in_err-after.ensures
-    (factor-open (names_at a.source.names.text.now a.source.names.spans.now) a.source.s.now a.c.at a.k a.«open» a.follow.now a.enter.now
-    c.in-Some.inner past none c.in_ok-group.group c.alternative.new.follow c.alternative.new.enter c.in_ok-group.ensures end)
+    rw c.from_residual-in_err-after.ensures (
+      tables-built c.in_ok-group.ensures,
+      factor-open (names_at a.source.names.text.now a.source.names.spans.now) a.source.s.now a.c.at a.k a.«open» a.follow.now a.enter.now
+          c.in-Some.inner past none c.in_ok-group.group c.alternative.new.follow c.alternative.new.enter c.in_ok-group.ensures end,
+    )
 
 pub factor-returns : goal.factor-returns
 factor-returns t c =

@@ -114,7 +114,7 @@ returns c =
             fine-read labels a.s.now a.follow.now a.enter.now w.in-Some.whole
                 w.alternative.new.follow w.alternative.new.enter c.requires w.in-Some.ensures x checked,
           )
-      | then-s-le-MOST_BYTES+in_default w ↦ unbuilt labels a.s.now a.follow.now c.requires w.in_default.ensures
+      | then-s-le-MOST_BYTES+in_default w ↦ unbuilt labels a.s.now a.follow.now c.requires w.in_default.ensures.1
       | else-s-le-MOST_BYTES w ↦ too_long labels a.s.now w.if-s-le-MOST_BYTES.false
     ] in
     ap₂ (λ x y. outcome None x y) e f

@@ -3,6 +3,7 @@ use Rattle.std.proofs.Common.{◌≡◌, Some, None, take, drop, ◌-◌, sym, �
 use Rattle.syntax.specs.Name.{place_of}
 use Rattle.syntax.specs.Resolve.{names_at}
 use Rattle.syntax.proofs.Occurrence.{NameAt, name-at, occurrence-read, no_name, no_place, unknown}
+use Rattle.syntax.proofs.TablesKept.{tables-same}
 use Rattle.syntax.proofs.leaf.occurrence.Goals as goal
 use Rattle.syntax.proofs.leaf.occurrence.Goals.{In_ok-end}
 
@@ -21,18 +22,23 @@ slice_bounds-find-end c = let n = name (goal.at.slice_bounds-find-end c).In_ok-e
 pub returns-in_err-end : goal.returns-in_err-end
 returns-in_err-end c d =
     let a = c.args in
-    rw c.from_residual.ensures (no_name _ a.source.s.now a.c.at a.k a.follow.now (sym c.in_err-end.was ∙ c.name.ensures) d)
+    rw c.from_residual.ensures
+    (tables-same a.k a.follow.now a.enter.now, no_name _ a.source.s.now a.c.at a.k a.follow.now (sym c.in_err-end.was ∙ c.name.ensures) d)
 
 pub returns-then-k-ge64 : goal.returns-then-k-ge64
-returns-then-k-ge64 c = let a = c.args in no_place _ a.source.s.now a.c.at a.k a.follow.now c.if-k-ge64.true
+returns-then-k-ge64 c d =
+    let a = c.args in
+    (tables-same a.k a.follow.now a.enter.now, no_place _ a.source.s.now a.c.at a.k a.follow.now c.if-k-ge64.true d)
 
 pub returns-in_err-label : goal.returns-in_err-label
 returns-in_err-label c d =
     let a = c.args in
     let labels = names_at a.source.names.text.now a.source.names.spans.now in
     let missing : None ≡ place_of (take (c.in_ok-end.end.at - a.c.at) (drop a.c.at a.source.s.now)) labels = search rules in
-    rw c.from_residual-in_err-label.ensures
-    (unknown labels a.source.s.now a.c.at a.k a.follow.now c.in_ok-end.end.at (name (goal.at.returns-in_err-label c).In_ok-end) missing d)
+    rw c.from_residual-in_err-label.ensures (
+      tables-same a.k a.follow.now a.enter.now,
+      unknown labels a.source.s.now a.c.at a.k a.follow.now c.in_ok-end.end.at (name (goal.at.returns-in_err-label c).In_ok-end) missing d,
+    )
 
 pub returns : goal.returns
 returns c =
