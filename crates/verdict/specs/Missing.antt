@@ -161,3 +161,16 @@ module _ (A : Automaton) (R : Rewritten) (lists : List Automaton) where
         let b : r < length l = omega (arith, count) in
         first_some l (record { value = S.start; trail = [] }) r b (λ k c. misses-at k (omega arith) ∙ told.before k c)
         (misses-at r b ∙ told.here h)
+
+-- The three ways through the test.
+
+pub misses-dead : (ends yields : ℕ) (x : Pair) → intersection x.standing ends ≡ 0 → misses_with ends yields x ≡ false
+misses-dead ends yields x e = ap (λ b. not b && intersection x.cover yields == 0) (eq-eqb (intersection x.standing ends) 0 e)
+
+pub misses-alive : (ends yields : ℕ) (x : Pair) → (intersection x.standing ends ≢ 0)
+    → misses_with ends yields x ≡ (intersection x.cover yields == 0)
+misses-alive ends yields x d = ap (λ b. not b && intersection x.cover yields == 0) (ne_eqb (intersection x.standing ends) 0 d)
+
+pub not-not : (a b : Bool) → a ≡ not b → b ≡ not a
+not-not a true e = sym (ap not e)
+not-not a false e = sym (ap not e)
